@@ -19,7 +19,7 @@ use Rattle.tbtree.specs.declared.tree.TbTree.{TbTree}
 use Rattle.chains.specs.declared.spans.LeafSpan.{LeafSpan}
 use Rattle.boxsearch.specs.Beside.{with_cache}
 use Rattle.boxsearch.specs.Telling.{Tells, Denies}
-use Rattle.boxsearch.proofs.OtherLemmas.{others_kept}
+use Rattle.boxsearch.proofs.OtherLemmas.{fields_kept, others_kept}
 use Rattle.boxsearch.proofs.StillLemmas.{ways_still}
 use Rattle.boxsearch.specs.Index.{IndexView, words, content, finds, found_by, legs_by, written, IsSound, IsMarked}
 
@@ -102,7 +102,7 @@ module _ (old : IndexView) (c : Cache) (known : List (List LeafSpan)) (r : OnlyR
     sound = still_sound;
     spent = refl;
     found_by = ap (λ n. record (found_by old) { pages = n }) r.count;
-    later = record { plan = refl; most_pages = r.store.most; capacity = r.capacity; others = others_kept old new (λ fa. r.store.faithful ∙ fa) (λ fa p above payload is none. r.payloads fa p ∙ is); faults = r.store.faults; asked = (let a = r.asked in omega (arith, clamps, a)); faithful = λ fa. r.store.faithful ∙ fa };
+    later = record { plan = refl; most_pages = r.store.most; capacity = r.capacity; others = others_kept old new (λ fa. r.store.faithful ∙ fa) (λ fa p above payload is none. r.payloads fa p ∙ is); fields = fields_kept old new (λ fa. r.store.faithful ∙ fa) (let n = r.count in omega (arith, n)) (λ fa there p at. (p, r.payloads fa 0 ∙ at, refl)); faults = r.store.faults; asked = (let a = r.asked in omega (arith, clamps, a)); faithful = λ fa. r.store.faithful ∙ fa };
     clean = λ h n. r.changed n (h n);
     marked = still_marked;
     written = same_written;

@@ -1,15 +1,19 @@
 -- Page 0, marked.
-use Rattle.std.proofs.Common.{ℕ, ◌≡◌, ◌<◌, ◌==◌, cond, sym, ap, ◌∙◌, arith, subst, false, drop, IsTrue, Some, option_and_then}
+use Rattle.std.proofs.Common.{ℕ, ◌≡◌, ◌<◌, ◌==◌, cond, sym, ap, refl, ◌∙◌, arith, subst, false, drop, IsTrue, Some, option_and_then}
 use Rattle.std.proofs.lemmas.Bool.Decides.{nat_tests}
 use Rattle.std.proofs.lemmas.Int.{clamps}
 use Rattle.pages.specs.Unsealed.{unsealed}
 use Rattle.pages.specs.declared.payload.Payload.{Payload}
 use Rattle.pagecache.specs.Cache.{Cache, payload_of, sealed_payload, is_changed, IsClean, IsWritten, Lends, Rests, KeepsPayloads, SameLength, pages_as_written}
 use Rattle.boxsearch.specs.Index.{IsMarked, MarksFirst}
-use Rattle.header.specs.Front.{marked, IsUnfinished}
+use Rattle.header.specs.Front.{front_bytes, marked, IsUnfinished}
 use Rattle.header.proofs.FrontLemmas.{marked_same}
 use Rattle.boxsearch.specs.Marking.{Marks}
 use Rattle.boxsearch.proofs.PlaceLemmas.{some_none, some_same}
+
+marked_fields : (p : Payload) → drop 12 (marked p).bytes ≡ drop 12 p.bytes
+unfolding front_bytes
+marked_fields p = refl
 
 pub first_rests : (a b : Cache) (p : Payload) → Rests a b → (IsTrue a.store.is_faithful → payload_of a 0 ≡ Some p) → IsUnfinished p → MarksFirst a b
 first_rests a b p r read u f q at =
@@ -25,6 +29,7 @@ rests_marks a b r = record {
   asked = (let h = r.asks in omega (arith, clamps, h));
   rest = λ f n l. r.stays.payloads f n;
   held = λ f u e. u (sym (r.stays.payloads f 0) ∙ e);
+  fields = λ f p at. (p, r.stays.payloads f 0 ∙ at, refl);
   stays = λ m. record {
     faithful = r.stays.keeps.store.faithful ∙ m.faithful;
     there = (let t = m.there in let c = r.stays.count in omega (arith, t, c));
@@ -44,6 +49,7 @@ marks_trans a b c p q = record {
   asked = (let h = p.asked in let k = q.asked in omega (arith, clamps, h, k));
   rest = λ f n l. q.rest (p.store.faithful ∙ f) n l ∙ p.rest f n l;
   held = λ f u. q.held (p.store.faithful ∙ f) (p.held f u);
+  fields = λ f v at. let x = p.fields f v at in let y = q.fields (p.store.faithful ∙ f) x.0 x.1 in (y.0, y.1, y.2 ∙ x.2);
   stays = λ m. q.stays (p.stays m);
 }
 
@@ -78,8 +84,8 @@ module _ (a b c d : Cache) (p w : Payload) (r : Rests a b) (read : IsTrue a.stor
   first_marked v value e f q at =
       now f ∙ ap Some e ∙ ap (λ x. Some (marked x)) (some_same v q (sym (value (fb f)) ∙ r.stays.payloads f 0 ∙ at))
 
-  pub flushed_marks : Marks a d
-  flushed_marks = record {
+  pub flushed_marks : (v : Payload) → (IsTrue b.store.is_faithful → payload_of b 0 ≡ Some v) → w ≡ marked v → Marks a d
+  flushed_marks v value made = record {
     store = record { most = s.keeps.store.most ∙ l.writes.keeps.store.most ∙ r.stays.keeps.store.most; faithful = s.keeps.store.faithful ∙ l.writes.keeps.store.faithful ∙ r.stays.keeps.store.faithful; faults = (let x = r.stays.keeps.store.faults in let y = l.writes.keeps.store.faults in let z = s.keeps.store.faults in omega (arith, x, y, z)) };
     capacity = s.keeps.capacity ∙ l.writes.keeps.capacity ∙ r.stays.keeps.capacity;
     count = s.count ∙ l.writes.count ∙ r.stays.count;
@@ -87,6 +93,7 @@ module _ (a b c d : Cache) (p w : Payload) (r : Rests a b) (read : IsTrue a.stor
     asked = (let x = r.asks in let y = l.asks in omega (arith, clamps, x, y, asked));
     rest = rest;
     held = λ f u e. some_none w (sym (now f) ∙ e);
+    fields = λ f q at. (w, now f, ap (λ x. drop 12 x.bytes) made ∙ marked_fields v ∙ ap (λ x. drop 12 x.bytes) (some_same v q (sym (value (fb f)) ∙ r.stays.payloads f 0 ∙ at)));
     stays = λ m. absurd (was_not m);
   }
 

@@ -24,7 +24,7 @@ use Rattle.boxsearch.specs.Marking.{Marks, IsNotMarked}
 use Rattle.pages.specs.declared.payload.Payload.{Payload}
 use Rattle.tbtree.proofs.Still.{still}
 use Rattle.boxsearch.proofs.BesideTells.{denies_beside, tells_beside}
-use Rattle.boxsearch.proofs.OtherLemmas.{others_kept}
+use Rattle.boxsearch.proofs.OtherLemmas.{fields_kept, others_kept}
 use Rattle.boxsearch.proofs.StillLemmas.{ways_still}
 use Rattle.boxsearch.proofs.PlaceLemmas.{some_none}
 use Rattle.boxsearch.proofs.AnswerLemmas.{each_fault, each_value, of_each_cache, the_fault, Said}
@@ -160,7 +160,7 @@ module _ (laws : FirstLaws) (old : IndexView) (c : Cache) (known : List (List Le
     found_by = ap (λ n. record (found_by old) { pages = n }) m.count;
     sound = still_sound;
     spent = refl;
-    later = record { plan = refl; most_pages = m.store.most; capacity = m.capacity; others = others_kept old new (λ fa. m.store.faithful ∙ fa) (λ fa p above payload is none. m.rest fa p above ∙ is); faults = m.store.faults; asked = (let a = m.asked in omega (arith, clamps, a)); faithful = λ fa. m.store.faithful ∙ fa };
+    later = record { plan = refl; most_pages = m.store.most; capacity = m.capacity; others = others_kept old new (λ fa. m.store.faithful ∙ fa) (λ fa p above payload is none. m.rest fa p above ∙ is); fields = fields_kept old new (λ fa. m.store.faithful ∙ fa) (let n = m.count in omega (arith, n)) (λ fa there. m.fields fa); faults = m.store.faults; asked = (let a = m.asked in omega (arith, clamps, a)); faithful = λ fa. m.store.faithful ∙ fa };
     asks = omega (arith, clamps, most);
     marks = each_value (λ fault. of_cache fault) (λ _. IsTrue old.cache.store.is_faithful → IsMarked c) r marked;
     marked = m.stays;

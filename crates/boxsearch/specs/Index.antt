@@ -1,5 +1,5 @@
 -- What contracts see of an index over pages.
-use Rattle.std.specs.Prelude.{Bool, true, None, suc, ◌+◌, ℕ, ◌≡◌, ◌<◌, ◌-◌, ◌^◌, ◌==◌, min, false, if◌then◌else◌, IsTrue, List, [], ◌∷◌, ◌++◌, map, length, slice_get, slice_index_or, Option, Some, All}
+use Rattle.std.specs.Prelude.{Bool, true, None, zero, suc, drop, ◌+◌, ℕ, ◌≡◌, ◌<◌, ◌-◌, ◌^◌, ◌==◌, min, false, if◌then◌else◌, IsTrue, List, [], ◌∷◌, ◌++◌, map, length, slice_get, slice_index_or, Option, Some, All}
 use Rattle.std.specs.List.{Contains}
 use Rattle.legs.specs.Boxes.{BoxView}
 use Rattle.legs.specs.Costs.{ShapeView, leg_feature}
@@ -118,6 +118,17 @@ other_in page None = None
 abbrev pub other : IndexView → ℕ → Option (List ℕ)
 other i page = if i.cache.store.is_faithful then other_in page (payload_of i.cache page) else None
 
+-- what the payload of page 0 of so many pages says behind the letters, the version and the state, its first 12 bytes
+abbrev pub fields_in : (pages : ℕ) → Option Payload → Option (List ℕ)
+fields_in zero first = None
+fields_in (suc pages) None = None
+fields_in (suc pages) (Some payload) = Some (drop 12 payload.bytes)
+
+-- what page 0 says there; nothing where its store is not faithful
+abbrev pub fields : IndexView → Option (List ℕ)
+fields i =
+    if i.cache.store.is_faithful then fields_in i.cache.count (payload_of i.cache 0) else None
+
 -- the page has no payload; anything where its store is not faithful
 abbrev pub is_unreadable : IndexView → ℕ → Type 0
 is_unreadable i page = IsTrue i.cache.store.is_faithful → payload_of i.cache page ≡ None
@@ -197,6 +208,7 @@ words = record {
   most_pages = λ index. index.cache.store.most;
   capacity = λ index. index.cache.capacity;
   other = λ index page. other index page;
+  fields = λ index. fields index;
   asked = λ index. min index.cache.asked (2 ^ 64 - 1);
   plan = λ index. Some index.tree.shape;
   found_by = λ index. found_by index;

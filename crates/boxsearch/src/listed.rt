@@ -14,7 +14,7 @@ impl<S: PageStore> Listed for TreeIndex<S> {
     ghost use Rattle.std.specs.Prelude.{IsTrue, Some, length, min, ◌≡◌, ◌-◌, ◌^◌};
     ghost use Rattle.pagecache.specs.Cache.{IsClean};
     ghost use Rattle.boxsearch.specs.Known.{KnowsBackTo};
-    ghost use Rattle.boxsearch.specs.Index.{node, other, comes_to, content, denies, ends_with, finds, found_by, is_astray, is_bare, is_unreadable, is_unfit, leads_to, tells, written, IsSound, IsMarked};
+    ghost use Rattle.boxsearch.specs.Index.{node, other, comes_to, content, denies, ends_with, fields, finds, found_by, is_astray, is_bare, is_unreadable, is_unfit, leads_to, tells, written, IsSound, IsMarked};
     ghost use Rattle.pages.specs.Store.{IsSynced};
 
     ghost content = { λ index. content index };
@@ -58,6 +58,8 @@ impl<S: PageStore> Listed for TreeIndex<S> {
     ghost capacity = { λ index. index.cache.capacity };
 
     ghost other = { λ index page. other index page };
+
+    ghost fields = { λ index. fields index };
 
     ghost asked = { λ index. min index.cache.asked (2 ^ 64 - 1) };
 

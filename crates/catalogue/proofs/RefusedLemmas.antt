@@ -14,10 +14,11 @@ use Rattle.tbtree.specs.Descent.{IsSameTree}
 use Rattle.tbtree.specs.Nodes.{pages_of_cache}
 use Rattle.boxsearch.specs.Index.{content, IndexView, IsSound}
 use Rattle.header.specs.Front.{finished}
+use Rattle.catalogue.specs.Closing.{LeavesUnreadable}
 use Rattle.catalogue.specs.Finishing.{Finishes, IsLaterCache, StoresFinished}
 use Rattle.catalogue.specs.Holding.{HoldsButFirst, HoldsIndexButFirst, IsOfBook}
 use Rattle.register.specs.Lasting.{IsLawful as IsLawfulCatalogue, IsWithin, Says}
-use Rattle.register.specs.Saved.{CatalogueView, IsWrittenButFirst}
+use Rattle.register.specs.Saved.{CatalogueView, IsWrittenButFirst, UnreadableStay}
 use Rattle.register.specs.Saving.{contents_of, IsCatalogue}
 use Rattle.register.specs.Text.{IsWhole}
 use Rattle.catalogue.proofs.AgainLemmas.{MayFinish}
@@ -59,6 +60,14 @@ map_err (Err e) f p = f p
 behind_first : {X : Type 0} (xs : List X) (n : ℕ) → slice_get xs (suc n) ≡ slice_get (drop 1 xs) n
 behind_first [] n = refl
 behind_first (x ∷ xs) n = refl
+
+-- a page that cannot be read is in the store as it was written, where saving left it, and then no page but page 0 is written
+pub left_unreadable : (a b new : Cache) → UnreadableStay a b → a.count ≤ b.count → new.count ≡ b.count → SameOthers b new → LeavesUnreadable a new.store
+unfolding page_of pages_as_written
+left_unreadable a b new stay more count others zero h l e = absurd (omega (arith, h))
+left_unreadable a b new stay more count others (suc n) h l e =
+    sym (slice_get-take new.count (suc n) new.store.pages (omega (arith, more, count, l)))
+    ∙ behind_first (pages_as_written new) n ∙ ap (λ (pages : List (List ℕ)). slice_get pages n) others ∙ sym (behind_first (pages_as_written b) n) ∙ (stay (suc n) h l e).1
 
 -- page 0 made that of a finished store
 abbrev pub finished_store : Store → Payload → Store

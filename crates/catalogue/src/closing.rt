@@ -7,7 +7,7 @@ ghost use Rattle.pagecache.specs.Cache.{payload_of, stored_payload, IsSettled};
 ghost use Rattle.timebase.specs.Instant.{IsMoment};
 ghost use Rattle.boxsearch.specs.Beside.{with_cache};
 ghost use Rattle.boxsearch.specs.Index.{content, IsMarked, IsSound};
-ghost use Rattle.catalogue.specs.Closing.{IsClosingFault, IsNoStoreFault};
+ghost use Rattle.catalogue.specs.Closing.{IsClosingFault, IsNoStoreFault, LeavesUnreadable};
 ghost use Rattle.catalogue.specs.Holding.{HoldsBook, HoldsButFirst, HoldsIndex, HoldsIndexButFirst, IsOfBook, IsUnfinishedStore};
 ghost use Rattle.header.specs.Front.{SaysState};
 ghost use Rattle.register.specs.Earlier.{AddsFew, AreEarlier, HasNoRoom};
@@ -86,6 +86,8 @@ fn save_and_finish<S: PageStore>(
         → HasFew catalogue.now → IsSavingFault index.old.cache fault) }
     ensures others { OnOk result (IsTrue index.old.cache.store.is_faithful
         → OthersStay (payload_of index.old.cache) (stored_payload index.new.cache.store)) }
+    ensures unreadable { OnOk result (IsTrue index.old.cache.store.is_faithful
+        → LeavesUnreadable index.old.cache index.new.cache.store) }
     ensures unfinished { IfErr result (λ fault. IsNoStoreFault fault → IsMarked index.old.cache
         → IsUnfinishedStore index.new.cache.store) }
     ensures refused { OnErr result (IsLawful index.new.cache.store → IsSound index.old
@@ -165,9 +167,11 @@ pub fn close<S: PageStore>(
     ensures named { IfErr result.1 (λ fault. IsTrue index.cache.store.is_faithful
         → HasFew catalogue.now → IsSavingFault index.cache fault) }
 
-    // Page 0 and those of a catalogue aside, each page is in the store as it was.
+    // Page 0 and those of a catalogue aside, each page is in the store as it was; and so is each that cannot be read.
     ensures others { OnOk result.1 (IsTrue index.cache.store.is_faithful
         → OthersStay (payload_of index.cache) (stored_payload (S.seen result.0))) }
+    ensures unreadable { OnOk result.1 (IsTrue index.cache.store.is_faithful
+        → LeavesUnreadable index.cache (S.seen result.0)) }
     ensures unfinished { IfErr result.1 (λ fault. IsNoStoreFault fault → IsMarked index.cache
         → IsUnfinishedStore (S.seen result.0)) }
 

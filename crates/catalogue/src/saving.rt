@@ -6,7 +6,7 @@ ghost use Rattle.boxsearch.specs.Beside.{with_cache, IsBeside};
 ghost use Rattle.boxsearch.specs.Index.{content, IsSound};
 ghost use Rattle.register.specs.Earlier.{AddsFew, AreEarlier, HasNoRoom};
 ghost use Rattle.register.specs.Lasting.{Says};
-ghost use Rattle.register.specs.Saved.{Continues, IsWrittenButFirst, KeepsFront, SparesOthers, SparesTree};
+ghost use Rattle.register.specs.Saved.{Continues, IsWrittenButFirst, KeepsFront, SparesOthers, SparesTree, SparesUnreadable};
 ghost use Rattle.register.specs.Saving.{contents_of, HasFew, IsSavingFault, IsSavingStop, IsCatalogue, IsCaused};
 ghost use Rattle.register.specs.Text.{catalogue_text, IsWhole};
 
@@ -46,6 +46,7 @@ pub fn save<S: PageStore>(
     ensures later { Continues index.old.cache index.new.cache }
     ensures tree { SparesTree index.old.cache index.new.cache }
     ensures others { SparesOthers index.old.cache index.new.cache }
+    ensures unreadable { SparesUnreadable index.old.cache index.new.cache }
     ensures takes { IsTrue index.old.cache.store.is_faithful → (pages : List ℕ)
         → AreEarlier (payload_of index.old.cache) pages → AddsFew index.old.cache.count
         (catalogue_text (contents_of catalogue.now index.new.places)) pages

@@ -39,6 +39,7 @@ list_words = record {
   most_pages = λ index. 0;
   capacity = λ index. 0;
   other = λ index page. None;
+  fields = λ index. None;
   asked = λ index. 0;
   plan = λ index. None;
   found_by = λ index. no_finding;
@@ -108,6 +109,7 @@ later-trans g a b c p q = record {
   most_pages = q.most_pages ∙ p.most_pages;
   capacity = q.capacity ∙ p.capacity;
   others = λ page bytes above is. q.others page bytes above (p.others page bytes above is);
+  fields = λ bytes is. q.fields bytes (p.fields bytes is);
   faults = let x = p.faults in let y = q.faults in omega (arith, x, y);
   asked = let x = p.asked in let y = q.asked in omega (arith, x, y);
   faithful = λ f. q.faithful (p.faithful f);
@@ -151,7 +153,7 @@ leaves-refl g a = record {
   sound = λ s. s;
   spent = refl;
   found_by = refl;
-  later = record { plan = refl; most_pages = refl; capacity = refl; others = λ page bytes above is. is; faults = omega arith; asked = omega arith; faithful = λ f. f };
+  later = record { plan = refl; most_pages = refl; capacity = refl; others = λ page bytes above is. is; fields = λ bytes is. is; faults = omega arith; asked = omega arith; faithful = λ f. f };
   clean = λ c. c;
   marked = λ m. m;
   written = λ c. refl;

@@ -18,14 +18,15 @@ use Rattle.legs.specs.declared.sieve.Sieve.{Sieve}
 use Rattle.timebase.specs.Period.{PeriodView}
 
 -- the same index, later: its shape is the same, its store may have as many pages, and its cache hold as many; what a
--- page behind page 0 holds that has a payload, and that one of no tree, it holds still; what is counted did not fall,
--- and its store is faithful where it was
+-- page behind page 0 holds that has a payload, and that one of no tree, it holds still, and so does page 0 behind its state;
+-- what is counted did not fall, and its store is faithful where it was
 pub record IsLater {I : Type 0} (g : Ghosts I) (old new : I) : Type 0 where
   pub plan : g.plan new ≡ g.plan old
   pub most_pages : g.most_pages new ≡ g.most_pages old
   pub capacity : g.capacity new ≡ g.capacity old
   pub others : (page : ℕ) (bytes : List ℕ) → 0 < page → g.other old page ≡ Some bytes
       → g.other new page ≡ Some bytes
+  pub fields : (bytes : List ℕ) → g.fields old ≡ Some bytes → g.fields new ≡ Some bytes
   pub faults : g.faults old ≤ g.faults new
   pub asked : g.asked old ≤ g.asked new
   pub faithful : g.is_faithful old → g.is_faithful new

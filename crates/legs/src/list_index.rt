@@ -198,6 +198,8 @@ impl Listed for ListIndex {
 
     ghost other = { λ index page. None };
 
+    ghost fields = { λ index. None };
+
     ghost asked = { λ index. 0 };
 
     ghost plan = { λ index. None };

@@ -91,6 +91,10 @@ pub trait Listed {
     /// keeps a list, and where its store is not faithful.
     ghost other: { Self → ℕ → Option (List ℕ) };
 
+    /// What the payload of page 0 says behind its first 12 bytes, the letters, the version and the state; nothing where page 0
+    /// has no payload, of an index that keeps a list, and where its store is not faithful.
+    ghost fields: { Self → Option (List ℕ) };
+
     /// How many pages it asked for. It never falls; 2^64 - 1 stands for any greater number.
     ghost asked: { Self → ℕ };
 

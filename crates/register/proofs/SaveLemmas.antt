@@ -23,14 +23,33 @@ use Rattle.register.specs.Saving.{contents_of, KeepsTree, PutsFields}
 use Rattle.register.specs.Text.{catalogue_text}
 use Rattle.header.specs.declared.header_fields.Fields.{Fields}
 use Rattle.register.proofs.ReaderLemmas.{some_none}
-use Rattle.register.proofs.SpareLemmas.{same_spare, spares_then, stays_spares}
+use Rattle.register.proofs.SavingLemmas.{passes_trans}
+use Rattle.register.proofs.SpareLemmas.{same_spare, spares_then, spares_trans, stays_spares, unchanged}
 
 not_first : (n : ℕ) → 0 < n → (0 == n) ≡ false
 not_first n h = grind (arith, nat_tests, h)
 
 -- pages that are only read
 pub reads_spare : (a b : Cache) → OnlyReads a b → Spares a b
-reads_spare a b r = same_spare a b r.count r.payloads
+reads_spare a b r = same_spare a b r.count r.payloads r.written
+
+reads_pass : (a b : Cache) → OnlyReads a b → Passes a b
+reads_pass a b r = record {
+  store = r.store;
+  capacity = r.capacity;
+  count = (let n = r.count in omega (arith, n));
+  asked = r.asked;
+  first = λ f some. r.payloads f 0;
+  unmarked = λ some u. r.changed 0 u;
+  written = λ f some u. r.written f 0 some u;
+}
+
+-- so a text is kept once it is written
+pub kept_written : (a x d : Cache) → KeepsTree a x → OnlyReads x d → KeepsTree a d
+kept_written a x d kept reads = record {
+  passes = passes_trans a x d kept.passes (reads_pass x d reads);
+  tree = spares_trans a x d kept.passes kept.tree (reads_spare x d reads);
+}
 
 pub not_zero : (n : ℕ) → 1 ≤ n → 0 ≢ n
 not_zero n h e = omega (arith, h, e)
@@ -61,6 +80,7 @@ module _ {c d : Cache} {fields : Fields} (puts : PutsFields fields c d) where
           rest = λ p h. ap (λ o. node_in (option_map node_of o)) (other f p h);
         };
         others = λ p v h e k. other f p h ∙ e;
+        unreadable = λ p h l e. (other f p h ∙ e, puts.lends.writes.keeps.written f p l (unchanged c p e));
       }
 
   puts_count : d.count ≡ c.count

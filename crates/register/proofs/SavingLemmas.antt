@@ -41,7 +41,7 @@ passes_refl a = record {
   written = λ f h u. refl;
 }
 
-passes_trans : (a b c : Cache) → Passes a b → Passes b c → Passes a c
+pub passes_trans : (a b c : Cache) → Passes a b → Passes b c → Passes a c
 passes_trans a b c p q =
     let more = p.count in
     record {

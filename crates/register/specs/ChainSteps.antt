@@ -10,7 +10,7 @@ use Rattle.register.specs.ChainWriter.{Holds, IsOwn, WriterView}
 use Rattle.register.specs.Earlier.{AreLinked}
 use Rattle.tbtree.specs.Descent.{IsSameTree}
 use Rattle.tbtree.specs.Nodes.{pages_of_cache}
-use Rattle.register.specs.Saved.{OthersStay}
+use Rattle.register.specs.Saved.{OthersStay, UnreadableStay}
 
 -- the number of a page above page 0, in four bytes
 pub record IsNumber (page : ℕ) : Type 0 where
@@ -33,10 +33,12 @@ PayloadsStay old new =
     IsTrue old.store.is_faithful → (p : ℕ) (payload : Payload) → payload_of old p ≡ Some payload
     → payload_of new p ≡ Some payload
 
--- the pages of a tree say what they said, and the pages that are none of a catalogue's have their payloads
+-- the pages of a tree say what they said, the pages that are none of a catalogue's have their payloads, and those without
+-- one stay as they are written
 pub record SparesPages (old new : Cache) : Type 0 where
   pub tree : IsSameTree (pages_of_cache old) (pages_of_cache new)
   pub others : OthersStay (payload_of old) (payload_of new)
+  pub unreadable : UnreadableStay old new
 
 abbrev pub Spares : Cache → Cache → Type 0
 Spares old new = IsTrue old.store.is_faithful → SparesPages old new

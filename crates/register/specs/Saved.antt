@@ -7,7 +7,7 @@ use Rattle.legs.specs.declared.head.BookHead.{BookHead}
 use Rattle.mfcsv.specs.declared.Dimension.TheVariants.{Two, Three}
 use Rattle.pages.specs.declared.payload.Kind.TheVariants.{Catalogue}
 use Rattle.pages.specs.declared.payload.Payload.{Payload}
-use Rattle.pagecache.specs.Cache.{is_changed, payload_of, Cache, IsSettled}
+use Rattle.pagecache.specs.Cache.{is_changed, page_of, payload_of, Cache, IsSettled}
 use Rattle.tbtree.specs.Descent.{IsSameTree}
 use Rattle.tbtree.specs.Nodes.{pages_of_cache}
 use Rattle.tbtree.specs.declared.tree.TbTree.{TbTree}
@@ -77,6 +77,15 @@ OthersStay old new =
 abbrev pub SparesOthers : Cache → Cache → Type 0
 SparesOthers old new =
     IsTrue old.store.is_faithful → OthersStay (payload_of old) (payload_of new)
+
+-- and one that has no payload has none, and stays as it is written
+abbrev pub UnreadableStay : Cache → Cache → Type 0
+UnreadableStay old new =
+    (p : ℕ) → 0 < p → p < old.count → payload_of old p ≡ None
+    → (payload_of new p ≡ None) × (page_of new p ≡ page_of old p)
+
+abbrev pub SparesUnreadable : Cache → Cache → Type 0
+SparesUnreadable old new = IsTrue old.store.is_faithful → UnreadableStay old new
 
 -- no page but page 0 is changed; so each other one is as written
 pub record IsWrittenButFirst (c : Cache) : Type 0 where

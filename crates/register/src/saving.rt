@@ -16,7 +16,7 @@ ghost use Rattle.tbtree.specs.Shape.{IsShape};
 ghost use Rattle.header.specs.Fields.{first_of, FitsFields};
 ghost use Rattle.register.specs.ChainSteps.{IsAhead, StaysWithin};
 ghost use Rattle.register.specs.Earlier.{AddsFew, AreEarlier, HasNoRoom};
-ghost use Rattle.register.specs.Saved.{dimension_of, fields_for, head_of, Continues, IsWrittenButFirst, KeepsFront, SparesOthers, SparesTree};
+ghost use Rattle.register.specs.Saved.{dimension_of, fields_for, head_of, Continues, IsWrittenButFirst, KeepsFront, SparesOthers, SparesUnreadable, SparesTree};
 ghost use Rattle.register.specs.Saving.{contents_of, end_of, feature_at, features_of, wanted, HasFew, HasPageZero, IsSavingFault, IsSavingStop, IsCatalogue, IsCaused, IsNotWritten, KeepsTree, Puts, PutsFields, Saves};
 ghost use Rattle.register.specs.declared.fault.CatalogueFault.TheVariants.{Malformed};
 ghost use Rattle.register.specs.Text.{catalogue_text, feature_text, features_text, head_text, lists_text, row_text, rows_text, HasFeatures, IsFeature, IsHead, IsNumber, IsShortText, IsWhole};
@@ -462,6 +462,7 @@ pub fn keep<S: PageStore>(
     ensures later { Continues cache.old cache.new }
     ensures tree { SparesTree cache.old cache.new }
     ensures others { SparesOthers cache.old cache.new }
+    ensures unreadable { SparesUnreadable cache.old cache.new }
     ensures length { OnOk result (KeepsLength cache.old cache.new) }
     ensures takes { IsTrue cache.old.store.is_faithful → (pages : List ℕ)
         → AreEarlier (payload_of cache.old) pages → AddsFew cache.old.count

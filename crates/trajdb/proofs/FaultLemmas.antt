@@ -39,6 +39,7 @@ later-trans g a b c p q = record {
     most_pages = q.index.most_pages ∙ p.index.most_pages;
     capacity = q.index.capacity ∙ p.index.capacity;
     others = λ page bytes above is. q.index.others page bytes above (p.index.others page bytes above is);
+    fields = λ bytes is. q.index.fields bytes (p.index.fields bytes is);
     faults = let x = p.index.faults in let y = q.index.faults in omega (arith, x, y);
     asked = let x = p.index.asked in let y = q.index.asked in omega (arith, x, y);
     faithful = λ f. q.index.faithful (p.index.faithful f);
@@ -73,7 +74,7 @@ pub features_there : (old new : Book) (P : ℕ → Type 0) (features found : Lis
 features_there old new P features found same e h = rw (same, e) (picks_all P (λ f. f < length old.names) (range_with_len 0 (length old.names)) found (below (length old.names) (length old.names) (omega arith)) h)
 
 pub later-refl : {I : Type 0} (g : Ghosts I) (a : CoreView I) → IsLater g a a
-later-refl g a = record { limits = refl; index = record { plan = refl; most_pages = refl; capacity = refl; others = λ page bytes above is. is; faults = omega arith; asked = omega arith; faithful = λ f. f } }
+later-refl g a = record { limits = refl; index = record { plan = refl; most_pages = refl; capacity = refl; others = λ page bytes above is. is; fields = λ bytes is. is; faults = omega arith; asked = omega arith; faithful = λ f. f } }
 
 pub leaves-refl : {I : Type 0} (g : Ghosts I) (a : CoreView I) → LeavesBook g a a
 leaves-refl g a = record { book = refl; tracks = refl; begun = refl; sound = λ s. s; failed = refl; limits = refl; index = index_leaves-refl g a.index }

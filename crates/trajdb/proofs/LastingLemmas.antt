@@ -9,13 +9,13 @@ use Rattle.legs.specs.Limits.{IsLimits, LimitsView}
 use Rattle.legs.specs.Tracks.{StandsFor}
 use Rattle.boxsearch.specs.Index.{content, words, IndexView, IsMarked, IsSound as IsSoundIndex}
 use Rattle.catalogue.specs.Holding.{AnswersBook, HoldsBook, HoldsButFirst, HoldsIndex, HoldsIndexButFirst, IsAtRest, IsOfBook, IsUnfinishedStore}
-use Rattle.register.specs.Saved.{CatalogueView, OthersStay}
+use Rattle.register.specs.Saved.{CatalogueView}
 use Rattle.register.specs.Saving.{HasFew, IsSavingFault, IsSavingStop}
 use Rattle.register.specs.declared.fault.CatalogueFault.{CatalogueFault}
 use Rattle.register.specs.declared.fault.CatalogueFault.TheVariants as fault
-use Rattle.pages.specs.Store.{Store, IsLawful, IsSynced, IsSyncedButFirst}
+use Rattle.pages.specs.Store.{Store, IsLawful, IsSyncedButFirst}
 use Rattle.header.specs.Front.{SaysState}
-use Rattle.pagecache.specs.Cache.{payload_of, stored_payload, IsSettled}
+use Rattle.pagecache.specs.Cache.{payload_of, IsSettled}
 use Rattle.catalogue.specs.Closing.{IsNoStoreFault}
 use Rattle.catalogue.specs.Closing as closing
 use Rattle.register.specs.declared.fault.CatalogueFault.TheVariants.{Memory, StoreFull, Damaged, Unfinished, Version, Malformed}
@@ -91,16 +91,10 @@ pub closed_kept_headed : (db : DbView) (s : Store) (answer : Result (Unit {0}) C
 closed_kept_headed db s (Ok x) h = λ _. h
 closed_kept_headed db s (Err e) h = tt
 
--- all of it is synced
--- each other page keeps its payload
-pub closed_others : (db : DbView) (s : Store) (answer : Result (Unit {0}) CatalogueFault) → OnOk answer (IsTrue db.index.cache.store.is_faithful → OthersStay (payload_of db.index.cache) (stored_payload s))
-    → OnOk (closed_answer answer) (db.begun ≡ true → IsTrue db.index.cache.store.is_faithful → OthersStay (payload_of db.index.cache) (stored_payload s))
-closed_others db s (Ok x) h = λ begun. h
-closed_others db s (Err e) h = tt
-
-pub closed_synced : (B : Type 0) (s : Store) (answer : Result (Unit {0}) CatalogueFault) → OnOk answer (IsSynced s) → OnOk (closed_answer answer) (B → IsSynced s)
-closed_synced B s (Ok x) h = λ b. h
-closed_synced B s (Err e) h = tt
+-- what is so of a store that is closed
+pub closed_then : (B P : Type 0) (answer : Result (Unit {0}) CatalogueFault) → OnOk answer P → OnOk (closed_answer answer) (B → P)
+closed_then B P (Ok x) h = λ b. h
+closed_then B P (Err e) h = tt
 
 pub closed_takes : (db : DbView) (s : Store) (answer : Result (Unit {0}) CatalogueFault) → OnOk answer (TakesFew db s) → OnOk (closed_answer answer) (TakesFew db s)
 closed_takes db s (Ok x) h = h

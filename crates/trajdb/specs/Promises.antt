@@ -19,6 +19,7 @@ use Rattle.register.specs.Lasting.{first_fault, ComesFirst, IsKept, IsReadingFau
 use Rattle.register.specs.Stopping.{NamesStop}
 use Rattle.register.specs.Saved.{CatalogueView, OthersStay}
 use Rattle.register.specs.Saving.{HasFew}
+use Rattle.catalogue.specs.Closing.{LeavesUnreadable}
 use Rattle.catalogue.specs.Holding.{HoldsBook, HoldsButFirst, HoldsIndex, HoldsIndexButFirst, IsUnfinishedStore}
 use Rattle.querylang.specs.declared.Command.{Command}
 use Rattle.trajdb.specs.Answers.{AcceptsBy, IsAnswer, IsCountsText, book_then, book_with, load_of}
@@ -161,13 +162,16 @@ pub record RunCall {I O : Type 0} (g : Ghosts I) (shown : O → OutputView)
 
 -- what a call of a database over pages keeps, whatever it answers: one at rest stays so until it accepts a file or
 -- fails, and the store of a sound one, whose pages are as its state says, stays safe; its cache may hold as many pages,
--- and over a faithful store each page behind page 0 that has a payload, and that one of no tree, holds what it held
+-- and over a faithful store each page behind page 0 that has a payload, and that one of no tree, holds what it held, and so
+-- does page 0 behind its state, by which the pages of an earlier catalogue are found
 pub record KeepsStore (old new : DbView) : Type 0 where
   pub rests : IsIdle old → IsIdle new
   pub safe : (was : Store) → IsSoundDb old → HasPages old → IsSafe was old → IsSafe was new
   pub capacity : capacity_of new ≡ capacity_of old
   pub others : (page : ℕ) (bytes : List ℕ) → 0 < page → words.other old.index page ≡ Some bytes
       → words.other new.index page ≡ Some bytes
+  pub fields : (bytes : List ℕ) → words.fields old.index ≡ Some bytes
+      → words.fields new.index ≡ Some bytes
 
 -- what `open` of a store promises, with a cache of so many pages, where `seen` is what contracts see of one that is
 -- handed back
@@ -227,9 +231,12 @@ pub record CloseCall (db : DbView) (left : Store)
   pub kept_headed : OnOk result (db.begun ≡ true → IsTrue db.index.cache.store.is_faithful
       → (state : Bool) → SaysState state (payload_of db.index.cache 0)
       → HoldsIndex left (catalogue_of db) db.index)
-  -- each other page keeps its payload but those of a catalogue, be it one of a tree or none
+  -- each other page keeps its payload but those of a catalogue, be it one of a tree or none; one that cannot be read stays as
+  -- it is written
   pub others : OnOk result (db.begun ≡ true → IsTrue db.index.cache.store.is_faithful
       → OthersStay (payload_of db.index.cache) (stored_payload left))
+  pub unreadable : OnOk result (db.begun ≡ true → IsTrue db.index.cache.store.is_faithful
+      → LeavesUnreadable db.index.cache left)
   -- all of it is synced where it has begun; else it stays as it is (`idle`)
   pub synced : OnOk result (db.begun ≡ true → IsSynced left)
   -- new pages are taken only for what its text needs beyond those of an earlier one

@@ -1,5 +1,5 @@
 -- A store of version 1 that is brought over.
-use Rattle.std.proofs.Common.{ℕ, ◌≡◌, ◌<◌, ◌≤◌, ◌∙◌, ⊎_elim, inl, inr, List, length, slice_get, Option, Some, None, refl, sym, ap, subst, arith, IsTrue}
+use Rattle.std.proofs.Common.{ℕ, ◌≡◌, ◌<◌, ◌≤◌, ◌∙◌, cond, drop, ⊎_elim, inl, inr, List, length, slice_get, Option, Some, None, refl, sym, ap, subst, arith, IsTrue}
 use Rattle.std.proofs.lemmas.Int.{clamps}
 use Rattle.std.specs.Option.{option_and_then, option_map}
 use Rattle.legs.specs.Book.{Book}
@@ -14,7 +14,8 @@ use Rattle.legs.specs.Tracks.{TracksView}
 use Rattle.legs.specs.declared.tracks.Track.{Track}
 use Rattle.pages.specs.Store.{Store as StoreView, Faulted, IsLawful, Keeps, Stays}
 use Rattle.pages.specs.Unsealed.{unsealed}
-use Rattle.pagecache.specs.Cache.{stored_payload}
+use Rattle.pages.specs.declared.payload.Payload.{Payload}
+use Rattle.pagecache.specs.Cache.{payload_of, stored_payload}
 use Rattle.pagecache.specs.declared.fault.CacheFault.{CacheFault}
 use Rattle.pagecache.specs.declared.fault.CacheFault.TheVariants as cache
 use Rattle.version1.specs.OldForm.{old_node_of}
@@ -23,7 +24,7 @@ use Rattle.tbtree.specs.Nodes.{Pages}
 use Rattle.tbtree.specs.declared.tree.Place.{Place}
 use Rattle.tbtree.specs.declared.tree.TbTree.{TbTree}
 use Rattle.treecheck.specs.Checking.{Agree}
-use Rattle.boxsearch.specs.Index.{content, words, IndexView, IsSound}
+use Rattle.boxsearch.specs.Index.{content, fields, fields_in, words, IndexView, IsSound}
 use Rattle.version1.specs.OldLegs.{pages_of_old}
 use Rattle.catalogue.specs.Beginning.{IsCaused}
 use Rattle.register.specs.ChainReader.{fault_of}
@@ -134,6 +135,11 @@ shape_in None other = other
 -- a later index has the shape that it was begun with
 pub same_shape : (i begun : IndexView) (shape : ShapeView) → words.plan i ≡ words.plan begun → begun.tree.shape ≡ shape → i.tree.shape ≡ shape
 same_shape i begun shape plan is = ap (λ p. shape_in p shape) plan ∙ is
+
+-- what page 0 of a new store says behind its state
+pub begun_fields : (i : IndexView) (p : Payload) → IsTrue i.cache.store.is_faithful → i.cache.count ≡ 1 → payload_of i.cache 0 ≡ Some p → fields i ≡ Some (drop 12 p.bytes)
+begun_fields i p f one at =
+    ap (λ b. cond b (fields_in i.cache.count (payload_of i.cache 0)) None) f ∙ ap (λ n. fields_in n (payload_of i.cache 0)) one ∙ ap (fields_in 1) at
 
 pub left_later : (new mid left : StoreView) → Stays new mid → IsLeftOver mid left → IsLeftOver new left
 left_later new mid left s h = ⊎_elim inl (λ r. inr (⊎_elim inl (λ f. inr (f.0, faulted_before new mid left s.keeps.faults f.1)) r)) h

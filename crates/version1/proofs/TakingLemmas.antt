@@ -190,10 +190,10 @@ pub all_taken : (total n : ℕ) (list : List LegView) → IsNumbered total list 
 all_taken total n list numbered l = (let e = length_numbered total list numbered in take_past list n (omega (arith, e, l)))
 
 pub later_refl : {I : Type 0} (g : Ghosts I) (a : I) → IsLater g a a
-later_refl g a = record { plan = refl; most_pages = refl; capacity = refl; others = λ page bytes above is. is; faults = omega arith; asked = omega arith; faithful = λ f. f }
+later_refl g a = record { plan = refl; most_pages = refl; capacity = refl; others = λ page bytes above is. is; fields = λ bytes is. is; faults = omega arith; asked = omega arith; faithful = λ f. f }
 
 pub later_trans : {I : Type 0} (g : Ghosts I) (a b c : I) → IsLater g a b → IsLater g b c → IsLater g a c
-later_trans g a b c p q = record { plan = q.plan ∙ p.plan; most_pages = q.most_pages ∙ p.most_pages; capacity = q.capacity ∙ p.capacity; others = λ page bytes above is. q.others page bytes above (p.others page bytes above is); faults = (let x = p.faults in let y = q.faults in omega (arith, x, y)); asked = (let x = p.asked in let y = q.asked in omega (arith, x, y)); faithful = λ f. q.faithful (p.faithful f) }
+later_trans g a b c p q = record { plan = q.plan ∙ p.plan; most_pages = q.most_pages ∙ p.most_pages; capacity = q.capacity ∙ p.capacity; others = λ page bytes above is. q.others page bytes above (p.others page bytes above is); fields = λ bytes is. q.fields bytes (p.fields bytes is); faults = (let x = p.faults in let y = q.faults in omega (arith, x, y)); asked = (let x = p.asked in let y = q.asked in omega (arith, x, y)); faithful = λ f. q.faithful (p.faithful f) }
 
 pub stays_refl : (a : Store) → Stays a a
 stays_refl a = record { keeps = record { most = refl; faithful = refl; faults = omega arith }; count = refl; pages = λ f. refl; unsynced = inl refl }

@@ -1,5 +1,5 @@
 //! A store of version 1 is brought over.
-ghost use Rattle.std.specs.Prelude.{◌≡◌, ◌<◌, ◌≤◌, ◌^◌, [], List, length, None, IsTrue, IfErr, IfOk};
+ghost use Rattle.std.specs.Prelude.{◌≡◌, ◌<◌, ◌≤◌, ◌^◌, [], List, drop, length, None, Some, IsTrue, IfErr, IfOk};
 ghost use Rattle.legs.specs.Asking.{planted, IsLater};
 ghost use Rattle.legs.specs.Book.{Book};
 ghost use Rattle.legs.specs.Costs.{ShapeView};
@@ -11,7 +11,8 @@ ghost use Rattle.pages.specs.Store.{IsLawful, Stays};
 ghost use Rattle.pagecache.specs.Cache.{stored_payload};
 ghost use Rattle.treecheck.specs.Check.{HoldChains};
 ghost use Rattle.treecheck.specs.Checking.{Agree};
-ghost use Rattle.boxsearch.specs.Index.{content, words, IsMarked, IsSound};
+ghost use Rattle.header.specs.Fields.{header_payload};
+ghost use Rattle.boxsearch.specs.Index.{content, fields, words, IsMarked, IsSound};
 ghost use Rattle.version1.specs.OldLegs.{pages_of_old};
 ghost use Rattle.catalogue.specs.Holding.{AnswersBook, IsUnfinishedStore};
 ghost use Rattle.register.specs.Lasting.{ComesFirst, IsBehindFirst, IsStop, IsTrulyDamaged};
@@ -243,9 +244,12 @@ pub fn migrate<S: PageStore, T: PageStore>(
         → IsTrue (S.seen old.old).is_faithful → IsTrue (T.seen new).is_faithful
         → IsRightlyFull (S.seen old.old) (T.seen new) (T.seen back.0)) }
 
-    // Page 0 of the new store says that it is not finished, and that of the other comes first.
+    // Page 0 of the new store says that it is not finished, and behind that what it says of a new one; and that of the
+    // other comes first.
     ensures marked { IfOk result (λ r. IsTrue (S.seen old.old).is_faithful
         → IsTrue (T.seen new).is_faithful → IsMarked r.1.cache) }
+    ensures fields { IfOk result (λ r. IsTrue (T.seen new).is_faithful → fields r.1
+        ≡ Some (drop 12 (header_payload r.1.tree.shape r.0.limits).bytes)) }
     ensures first { IfErr result (λ back. IsTrue (S.seen old.old).is_faithful → ComesFirst
         (old_first_fault (S.seen old.old).count (stored_payload (S.seen old.old) 0)) back.1) }
     ensures finished { IfOk result (λ r. IsTrue (S.seen old.old).is_faithful

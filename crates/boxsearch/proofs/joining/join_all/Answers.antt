@@ -54,14 +54,14 @@ runs-preserved g c =
       asks = subst (λ n. RunsAsk old c.join.new.index n) one (asks_more old c.runs.index c.join.new.index (R turns - R (drop k turns)) c.runs.invariant.asks c.in_ok-join.ensures.asks);
       takes = subst (λ n. (done : List LegView) × HasAdded words old c.join.new.index done × (done ++ taken legs (drop (k + n) turns) ≡ taken legs turns)) (sym many)
           (run_more old c.runs.index c.join.new.index (taken legs turns) (taken legs (drop k turns)) (taken legs (drop (k + length run) turns)) run left c.runs.invariant.takes (subst (λ ls. HasAdded words c.runs.index c.join.new.index ls) c.as_slice.ensures.value c.in_ok-join.ensures.takes));
-      later = record { plan = more.plan ∙ later.plan; most_pages = more.most_pages ∙ later.most_pages; capacity = more.capacity ∙ later.capacity; others = λ page bytes above is. more.others page bytes above (later.others page bytes above is); faults = let x = later.faults in let y = more.faults in omega (arith, x, y); asked = let x = later.asked in let y = more.asked in omega (arith, x, y); faithful = λ fa. more.faithful (later.faithful fa) };
+      later = record { plan = more.plan ∙ later.plan; most_pages = more.most_pages ∙ later.most_pages; capacity = more.capacity ∙ later.capacity; others = λ page bytes above is. more.others page bytes above (later.others page bytes above is); fields = λ bytes is. more.fields bytes (later.fields bytes is); faults = let x = later.faults in let y = more.faults in omega (arith, x, y); asked = let x = later.asked in let y = more.asked in omega (arith, x, y); faithful = λ fa. more.faithful (later.faithful fa) };
     }
 
 pub runs-init : goal.runs-init
 runs-init g c = record {
   within = omega arith;
   taking = taking_start c.args.index.now (taken c.args.legs.now c.args.turns.now) c.requires.works;
-  later = record { plan = refl; most_pages = refl; capacity = refl; others = λ page bytes above is. is; faults = omega arith; asked = omega arith; faithful = λ fa. fa };
+  later = record { plan = refl; most_pages = refl; capacity = refl; others = λ page bytes above is. is; fields = λ bytes is. is; faults = omega arith; asked = omega arith; faithful = λ fa. fa };
   takes = ([], takes_none words c.args.index.now c.requires.works, refl);
   fewer = omega arith;
   asks = asks_none c.args.index.now (runs_in (numbered_legs c.args.legs.now c.args.turns.now));

@@ -33,7 +33,7 @@ not_marked g c = elim c.else-is_unfinished.branch [
 pub returns-clause-marks : goal.returns-clause-marks
 returns-clause-marks g c =
     flushed_marks c.args.cache.now c.page.follows.lender-at-none (c.page_mut.follows.lender c.set_unfinished.new.payload) c.flush.new.self c.in_ok-page.field-0.now c.set_unfinished.new.payload c.page.follows.holds-at-none.0 c.in_ok-page.ensures.value (not_marked g c)
-    (c.page_mut.follows.holds c.set_unfinished.new.payload (ap is_ok c.in_ok-page_mut.was)) c.flush.ensures.stays c.flush.ensures.length c.flush.ensures.asked
+    (c.page_mut.follows.holds c.set_unfinished.new.payload (ap is_ok c.in_ok-page_mut.was)) c.flush.ensures.stays c.flush.ensures.length c.flush.ensures.asked c.in_ok-page_mut.field-0.now c.in_ok-page_mut.ensures.value c.set_unfinished.ensures
 
 pub returns-clause-marked : goal.returns-clause-marked
 returns-clause-marked g c =

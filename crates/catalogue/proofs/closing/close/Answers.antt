@@ -6,7 +6,7 @@ use Rattle.register.specs.Earlier.{AddsFew}
 use Rattle.register.specs.Saved.{OthersStay}
 use Rattle.register.specs.Saving.{contents_of}
 use Rattle.register.specs.Text.{catalogue_text}
-use Rattle.catalogue.specs.Closing.{IsNoStoreFault}
+use Rattle.catalogue.specs.Closing.{IsNoStoreFault, LeavesUnreadable}
 use Rattle.catalogue.specs.Holding.{HoldsBook, HoldsButFirst, HoldsIndex, HoldsIndexButFirst, IsUnfinishedStore}
 use Rattle.catalogue.proofs.ResultLemmas.{if_err, on_ok}
 use Rattle.catalogue.proofs.RefusedLemmas.{map_err}
@@ -72,6 +72,12 @@ returns-clause-others g c =
     let left = c.into_store.ensures ∙ ap (λ (k : Cache). k.store) c.into_cache-cache.ensures in
     on_ok c.save_and_finish-result.result (λ others faithful.
     subst (λ (s : Store). OthersStay (payload_of c.args.index.cache) (stored_payload s)) (sym left) (others faithful)) c.save_and_finish-result.ensures.others
+
+pub returns-clause-unreadable : goal.returns-clause-unreadable
+returns-clause-unreadable g c =
+    let left = c.into_store.ensures ∙ ap (λ (k : Cache). k.store) c.into_cache-cache.ensures in
+    on_ok c.save_and_finish-result.result (λ unreadable faithful.
+    subst (λ (s : Store). LeavesUnreadable c.args.index.cache s) (sym left) (unreadable faithful)) c.save_and_finish-result.ensures.unreadable
 
 pub returns-clause-holds_headed : goal.returns-clause-holds_headed
 returns-clause-holds_headed g c =

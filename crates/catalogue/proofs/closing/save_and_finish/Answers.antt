@@ -13,7 +13,7 @@ use Rattle.boxsearch.specs.Beside.{with_cache}
 use Rattle.boxsearch.specs.Index.{content, IndexView, IsMarked, IsSound}
 use Rattle.catalogue.specs.Closing.{IsNoStoreFault}
 use Rattle.catalogue.specs.Holding.{HoldsBook, HoldsButFirst, HoldsIndex, IsOfBook, IsUnfinishedStore}
-use Rattle.register.specs.Saved.{CatalogueView, SparesOthers, SparesTree}
+use Rattle.register.specs.Saved.{CatalogueView, SparesOthers, SparesTree, SparesUnreadable}
 use Rattle.register.specs.Lasting.{IsLawful, IsWithin, Says}
 use Rattle.register.specs.Text.{IsWhole}
 use Rattle.register.specs.Earlier.{AddsFew, AreEarlier, HasNoRoom}
@@ -25,7 +25,7 @@ use Rattle.catalogue.proofs.RestLemmas.{BesideLaws}
 use Rattle.catalogue.proofs.CloseLemmas.{closed_holds, front_unwritten, marked_may, marked_some, of_catalogue, of_few, of_lawful, of_within, only_memory, only_stops, says_stored, still_says, PlaceLaws}
 use Rattle.catalogue.proofs.KeptLemmas.{closed_keeps, stored_others}
 use Rattle.catalogue.proofs.ResultLemmas.{if_err_of, on_ok, some_none}
-use Rattle.catalogue.proofs.RefusedLemmas.{any_err, behind_holds, behind_keeps, synced_but_first}
+use Rattle.catalogue.proofs.RefusedLemmas.{any_err, behind_holds, behind_keeps, left_unreadable, synced_but_first}
 use Rattle.catalogue.proofs.closing.save_and_finish.Given as given
 use Rattle.catalogue.proofs.closing.save_and_finish.Goals as goal
 
@@ -184,6 +184,14 @@ returns-clause-others g c = on_ok c.finish.result (λ stores faithful.
     let still = c.save.ensures.later.store.faithful ∙ works g c faithful in
     stored_others was saved c.finish.new.index.cache (subst (λ (i : IndexView). SparesOthers i.cache saved) c.settled.ensures.same c.save.ensures.others faithful) still
     c.in_ok-save.ensures.written (stores still (has_pages g c))) c.finish.ensures.stores
+
+pub returns-clause-unreadable : goal.returns-clause-unreadable
+returns-clause-unreadable g c = on_ok c.finish.result (λ stores faithful.
+    let was = c.args.index.now.cache in
+    let saved = c.save.new.index.cache in
+    let still = c.save.ensures.later.store.faithful ∙ works g c faithful in
+    left_unreadable was saved c.finish.new.index.cache (subst (λ (i : IndexView). SparesUnreadable i.cache saved) c.settled.ensures.same c.save.ensures.unreadable faithful)
+    (subst (λ (i : IndexView). i.cache.count ≤ saved.count) c.settled.ensures.same c.save.ensures.later.count) c.finish.ensures.later.count (c.finish.ensures.others still c.in_ok-save.ensures.written.clean)) c.finish.ensures.stores
 
 pub returns-in_err-save-clause-behind : goal.returns-in_err-save-clause-behind
 returns-in_err-save-clause-behind g c = any_err c.from_residual.result (λ lawful few was. inl (still_unfinished g c was))

@@ -1,8 +1,12 @@
 use Rattle.std.proofs.Common.{arith, sym, ◌∙◌}
 use Rattle.std.proofs.lemmas.Bool.{false≢true}
 use Rattle.register.proofs.ReuseLemmas.{ahead_above, ahead_apart}
+use Rattle.register.proofs.SpareLemmas.{stays_spares}
 use Rattle.register.proofs.chain_writer.reused.Goals as goal
 use Rattle.register.proofs.chain_writer.reused.Goals.{then-earlier-eq0-via-then-earlier-eq0, then-earlier-eq0-via-else-earlier-eq0+then-contains}
+
+pub returns-clause-tree : goal.returns-clause-tree
+returns-clause-tree g c = stays_spares _ _ c.following.ensures.rests.stays
 
 pub returns-then-earlier-eq0-clause-none : goal.returns-then-earlier-eq0-clause-none
 returns-then-earlier-eq0-clause-none g c = λ e page others h.

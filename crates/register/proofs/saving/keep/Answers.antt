@@ -5,7 +5,8 @@ use Rattle.register.proofs.ReuseLemmas.{read_ahead}
 use Rattle.register.specs.Earlier.{AddsFew}
 use Rattle.register.specs.Saving.{contents_of, wanted}
 use Rattle.register.specs.Text.{catalogue_text}
-use Rattle.register.proofs.SaveLemmas.{all_spare, keeps_front, not_zero, puts_length, says}
+use Rattle.register.proofs.SaveLemmas.{all_spare, keeps_front, not_zero, puts_length, reads_spare, says}
+use Rattle.register.proofs.SpareLemmas.{spares_then}
 use Rattle.register.proofs.saving.keep.Goals as goal
 
 pub returns-clause-front : goal.returns-clause-front
@@ -44,6 +45,18 @@ returns-clause-tree g c f =
 pub returns-clause-others : goal.returns-clause-others
 returns-clause-others g c f =
     (all_spare c.write_fields.new.cache c.fields_for-fields.result c.write_fields.result c.earlier_page.ensures.reads c.write_whole.ensures.kept c.write_fields.ensures.puts c.write_fields.ensures.rests f).others
+
+pub returns-clause-unreadable : goal.returns-clause-unreadable
+returns-clause-unreadable g c f =
+    (all_spare c.write_fields.new.cache c.fields_for-fields.result c.write_fields.result c.earlier_page.ensures.reads c.write_whole.ensures.kept c.write_fields.ensures.puts c.write_fields.ensures.rests f).unreadable
+
+pub returns-in_err-earlier-clause-unreadable : goal.returns-in_err-earlier-clause-unreadable
+returns-in_err-earlier-clause-unreadable g c f = (reads_spare _ _ c.earlier_page.ensures.reads f).unreadable
+
+pub returns-in_err-first-clause-unreadable : goal.returns-in_err-first-clause-unreadable
+returns-in_err-first-clause-unreadable g c f =
+    let reads = c.earlier_page.ensures.reads in
+    (spares_then _ _ _ reads.store.faithful (reads_spare _ _ reads) c.write_whole.ensures.kept.tree f).unreadable
 
 pub returns-clause-synced : goal.returns-clause-synced
 returns-clause-synced g c =

@@ -1,4 +1,5 @@
-use Rattle.std.proofs.Common.{inl, inr, ◌≡◌, ◌∙◌, ◌<◌, IsTrue, List, length, sym, ap, subst}
+use Rattle.std.proofs.Common.{inl, inr, ◌≡◌, ◌∙◌, ◌<◌, drop, IsTrue, List, Some, length, sym, ap, subst}
+use Rattle.header.specs.Fields.{header_payload}
 use Rattle.legs.specs.Costs.{ShapeView}
 use Rattle.legs.specs.Legs.{LegView}
 use Rattle.pagecache.specs.Cache.{stored_payload}
@@ -17,7 +18,7 @@ use Rattle.tbtree.specs.declared.tree.TbTree.{TbTree}
 use Rattle.version1.specs.Naming.{IsNamedOfChains}
 use Rattle.version1.proofs.NamedLemmas.{chains_of, kept_agrees, kept_few, named_as, named_of, stop_named}
 use Rattle.version1.proofs.OldBookLemmas.{old_kept_same}
-use Rattle.version1.proofs.MigrateLemmas.{allowed_stop, book_agrees, book_brought, book_chains, caused_beginning, chains_as, full_beginning, left_later, leg_stop, old_pages_stay, same_shape}
+use Rattle.version1.proofs.MigrateLemmas.{allowed_stop, begun_fields, book_agrees, book_brought, book_chains, caused_beginning, chains_as, full_beginning, left_later, leg_stop, old_pages_stay, same_shape}
 use Rattle.version1.proofs.migrating.migrate.Given as given
 use Rattle.version1.proofs.migrating.migrate.Goals as goal
 
@@ -161,6 +162,19 @@ pub returns-in-Err-bring_legs-clause-named : goal.returns-in-Err-bring_legs-clau
 returns-in-Err-bring_legs-clause-named g c = λ fa fb none.
     let answers = c.in-Ok.ensures.kept fa fb in
     absurd (none c.in-Ok.read.0.catalogue answers.tree c.in-Ok.read.0.places.items answers.kept)
+
+pub returns-in-Ok-bring_legs-clause-fields : goal.returns-in-Ok-bring_legs-clause-fields
+returns-in-Ok-bring_legs-clause-fields g c = λ fb.
+    let ft = c.in-Ok.ensures.stored.keeps.faithful ∙ fb in
+    let read = c.in-Ok.read.0 in
+    let index = c.in-Ok-bring_legs.index in
+    let begun = c.in-Ok-begin.index in
+    let limits = c.catalogue.inside.limits in
+    let shape = same_shape index begun read.shape c.in-Ok-bring_legs.ensures.later.plan c.in-Ok-begin.ensures.shape in
+    let first = begun_fields begun (header_payload read.shape limits) (c.in-Ok-begin.ensures.sound ft).faithful c.in-Ok-begin.ensures.count (c.in-Ok-begin.ensures.header ft) in
+    c.in-Ok-bring_legs.ensures.later.fields (drop 12 (header_payload read.shape limits).bytes) first
+    ∙ ap (λ s. Some (drop 12 (header_payload s limits).bytes)) (sym shape)
+    ∙ ap (λ (v : CatalogueView). Some (drop 12 (header_payload index.tree.shape v.limits).bytes)) c.catalogue.view_is
 
 pub returns-in-Err-begin-clause-full : goal.returns-in-Err-begin-clause-full
 returns-in-Err-begin-clause-full g c = λ e fa fb.

@@ -2,6 +2,7 @@ use Rattle.register.proofs.WithinLemmas.{refused_room}
 use Rattle.register.specs.ChainSteps.{lacked}
 use Rattle.register.proofs.ReaderLemmas.{if_err_and}
 use Rattle.std.proofs.Common.{◌≡◌, ◌≤◌, length, ap, ◌∙◌, arith}
+use Rattle.register.proofs.SpareLemmas.{stays_spares}
 use Rattle.register.proofs.WriterLemmas.{closed, last_tree, pages_taken}
 use Rattle.register.specs.ChainWriter.{WriterView}
 use Rattle.register.proofs.chain_writer.ChainWriter.close.Goals as goal
@@ -19,6 +20,9 @@ returns-clause-text g c = λ text h some f.
 
 pub returns-clause-tree : goal.returns-clause-tree
 returns-clause-tree g c = λ text h. last_tree c.args.cache.now c.write_page.new.cache c.args.self.now c.last-last.result 0 _ text c.last-last.ensures.last c.last-last.ensures.some c.in_ok-write_page.ensures.writes h
+
+pub returns-in_err-write_page-clause-tree : goal.returns-in_err-write_page-clause-tree
+returns-in_err-write_page-clause-tree g c = λ text h. stays_spares _ _ c.in_err-write_page.ensures.rests.stays
 
 pub returns-clause-pages : goal.returns-clause-pages
 returns-clause-pages g c = λ text h some f. pages_taken c.args.cache.now c.args.self.now text c.requires h some f

@@ -3,10 +3,10 @@ use Rattle.std.proofs.Common.{rules, Bool, ℕ, IsTrue, List, ◌≡◌, ◌∙�
 use Rattle.std.specs.Prelude.{◌⊎◌, IfErr, OnErr, OnOk, IsErrOf}
 use Rattle.legs.specs.Book.{Book}
 use Rattle.std.proofs.lemmas.Bool.{false≢true}
-use Rattle.pages.specs.Store.{Keeps, Store, IsLawful, IsSyncedButFirst}
+use Rattle.pages.specs.Store.{Keeps, Store, IsLawful, IsSynced, IsSyncedButFirst}
 use Rattle.pagecache.specs.Cache.{payload_of, stored_payload, IsSettled}
 use Rattle.boxsearch.specs.Index.{content, IndexView, IsMarked, IsSound as IsSoundIndex}
-use Rattle.catalogue.specs.Closing.{IsNoStoreFault}
+use Rattle.catalogue.specs.Closing.{IsNoStoreFault, LeavesUnreadable}
 use Rattle.catalogue.specs.Closing as closing
 use Rattle.catalogue.specs.Holding.{HoldsBook, HoldsButFirst, HoldsIndex, HoldsIndexButFirst, IsOfBook, IsUnfinishedStore}
 use Rattle.register.specs.Saved.{CatalogueView, OthersStay}
@@ -18,7 +18,7 @@ use Rattle.trajdb.specs.Db.{DbView, IsSoundDb}
 use Rattle.trajdb.specs.Faults.{closed_answer}
 use Rattle.trajdb.specs.Promises.{CloseCall}
 use Rattle.trajdb.specs.Lasting.{IsIdle, IsSafe, TakesFew}
-use Rattle.trajdb.proofs.LastingLemmas.{rest_book, closed_behind, closed_caused, closed_holds, closed_holds_headed, closed_kept, closed_kept_headed, closed_named, closed_only, closed_only_marked, closed_ordered, closed_others, closed_refused, closed_synced, closed_takes, closed_unfinished, closed_unfinished_marked, rest_takes, closed_full}
+use Rattle.trajdb.proofs.LastingLemmas.{rest_book, closed_behind, closed_caused, closed_holds, closed_holds_headed, closed_kept, closed_kept_headed, closed_named, closed_only, closed_only_marked, closed_ordered, closed_refused, closed_takes, closed_then, closed_unfinished, closed_unfinished_marked, rest_takes, closed_full}
 use Rattle.trajdb.proofs.SafeLemmas.{left_safe}
 use Rattle.trajdb.proofs.db.Db.close.Goals as goal
 
@@ -29,6 +29,7 @@ returns-then-failed g c = record {
   holds_headed = search rules;
   kept_headed = search rules;
   others = search rules;
+  unreadable = search rules;
   synced = search rules;
   takes = search rules;
   full = λ full. absurd cc;
@@ -79,6 +80,9 @@ returns-then-not-begun g c = record {
       let rests : c.self.inside.core.begun ≡ false = sym (λ i. (c.self-inside.view_is i).core.begun) ∙ c.if-not-begun.true in
       absurd (false≢true (sym rests ∙ ap (λ (d : DbView). d.begun) c.self.view_is ∙ begun));
   others = λ begun.
+      let rests : c.self.inside.core.begun ≡ false = sym (λ i. (c.self-inside.view_is i).core.begun) ∙ c.if-not-begun.true in
+      absurd (false≢true (sym rests ∙ ap (λ (d : DbView). d.begun) c.self.view_is ∙ begun));
+  unreadable = λ begun.
       let rests : c.self.inside.core.begun ≡ false = sym (λ i. (c.self-inside.view_is i).core.begun) ∙ c.if-not-begun.true in
       absurd (false≢true (sym rests ∙ ap (λ (d : DbView). d.begun) c.self.view_is ∙ begun));
   synced = λ begun.
@@ -132,8 +136,11 @@ returns g c =
           closed_kept_headed core s answer second;
       others =
           let first = subst (λ (x : IndexView). OnOk answer (IsTrue x.cache.store.is_faithful → OthersStay (payload_of x.cache) (stored_payload s))) of.index c.close-store.ensures.others in
-          closed_others core s answer first;
-      synced = closed_synced (core.begun ≡ true) s answer c.close-store.ensures.synced;
+          closed_then (core.begun ≡ true) (IsTrue core.index.cache.store.is_faithful → OthersStay (payload_of core.index.cache) (stored_payload s)) answer first;
+      unreadable =
+          let first = subst (λ (x : IndexView). OnOk answer (IsTrue x.cache.store.is_faithful → LeavesUnreadable x.cache s)) of.index c.close-store.ensures.unreadable in
+          closed_then (core.begun ≡ true) (IsTrue core.index.cache.store.is_faithful → LeavesUnreadable core.index.cache s) answer first;
+      synced = closed_then (core.begun ≡ true) (IsSynced s) answer c.close-store.ensures.synced;
       takes =
           let first = subst (λ (x : IndexView). OnOk answer (IsTrue x.cache.store.is_faithful → x.cache.count ≡ x.cache.store.count → (pages : List ℕ) → AreEarlier (payload_of x.cache) pages → AddsFew x.cache.count (catalogue_text (contents_of parts x.places)) pages s.count)) of.index c.close-store.ensures.takes in
           let second = subst (λ (k : CatalogueView). OnOk answer (IsTrue core.index.cache.store.is_faithful → core.index.cache.count ≡ core.index.cache.store.count → (pages : List ℕ) → AreEarlier (payload_of core.index.cache) pages → AddsFew core.index.cache.count (catalogue_text (contents_of k core.index.places)) pages s.count)) of.catalogue first in
