@@ -1,5 +1,6 @@
 //! An output whose answers are followed.
 ghost use Rattle.std.specs.Prelude.{◌≡◌};
+ghost use Rattle.monitor.specs.Notes.{refused_of, Counts};
 
 use crate::notes::Notes;
 use crate::progress::Progress;
@@ -36,7 +37,8 @@ impl<'a, 'b, O: Output + Drop, R: Clock + Eprint> Followed<'a, 'b, O, R> {
 
     /// An answer was taken.
     fn follow(&mut self, answer: &[u8])
-        ensures { self.new.out ≡ self.old.out }
+        ensures out { self.new.out ≡ self.old.out }
+        ensures counts { Counts (refused_of self.old.notes) (refused_of self.new.notes) answer.now }
     {
         let (place, text) = self.progress.at();
         self.notes.note(answer, place, text, self.progress.legs());

@@ -1,6 +1,6 @@
 //! What is noted of a run's answers, to be said in words.
 ghost use Rattle.std.specs.Prelude.{◌≡◌};
-ghost use Rattle.monitor.specs.Notes.{refused_of};
+ghost use Rattle.monitor.specs.Notes.{refused_of, Counts};
 
 use predicates::Predicate;
 use querylang::{Command, parse_line};
@@ -123,7 +123,9 @@ impl Notes {
     }
 
     /// Whether a note of that is to be kept: that the store had no legs is noted once.
-    fn is_new(&mut self, what: What) -> bool {
+    fn is_new(&mut self, what: What) -> bool
+        ensures { refused_of self.new ≡ refused_of self.old }
+    {
         if !self.is_told {
             return false;
         }
@@ -136,7 +138,9 @@ impl Notes {
     }
 
     /// Keeps a note, where there is room for one: whether it is kept. Refusals have room of their own.
-    fn push(&mut self, note: Note, is_refusal: bool) -> bool {
+    fn push(&mut self, note: Note, is_refusal: bool) -> bool
+        ensures { refused_of self.new ≡ refused_of self.old }
+    {
         let doubts = self.doubts;
         let held = if is_refusal {
             self.kept.len().saturating_sub(doubts)
@@ -153,7 +157,9 @@ impl Notes {
     }
 
     /// Keeps a note, or counts a refusal that is not kept.
-    fn keep(&mut self, note: Note) {
+    fn keep(&mut self, note: Note)
+        ensures { refused_of self.new ≡ refused_of self.old }
+    {
         let is_refusal = matches!(note.what, What::Refused(_));
         if !self.push(note, is_refusal) && is_refusal {
             self.missed = self.missed.saturating_add(1);
@@ -161,13 +167,12 @@ impl Notes {
     }
 
     /// Notes what is to be said of the answer to a line, as so many legs were loaded.
-    pub fn note(&mut self, answer: &[u8], place: LineSpan, text: &[u8], legs: u64) {
+    pub fn note(&mut self, answer: &[u8], place: LineSpan, text: &[u8], legs: u64)
+        ensures { Counts (refused_of self.old) (refused_of self.new) answer.now }
+    {
         let is_empty = self.is_empty && legs == 0;
-        let what = match Refusal::read(answer) {
-            Some(refusal) => {
-                self.refused = self.refused.saturating_add(1);
-                Some(What::Refused(refusal))
-            }
+        let what = match self.count(answer) {
+            Some(refusal) => Some(What::Refused(refusal)),
             None if self.is_told => doubt_of(self.alloc, answer, text, is_empty),
             None => None,
         };
@@ -176,5 +181,16 @@ impl Notes {
         {
             self.keep(Note { place, what });
         }
+    }
+
+    /// The refusal that an answer is, which is counted.
+    fn count(&mut self, answer: &[u8]) -> Option<Refusal>
+        ensures { Counts (refused_of self.old) (refused_of self.new) answer.now }
+    {
+        let read = Refusal::read(answer);
+        if read.is_some() {
+            self.refused = self.refused.saturating_add(1);
+        }
+        read
     }
 }
