@@ -39,4 +39,5 @@ unfoldable pub extent_members : Option BoxView → List ℕ
 extent_members extent =
     next_member (codes "first") (or_null extent (λ b. quoted (instant_text b.t_min)))
     ++ next_member (codes "last") (or_null extent (λ b. quoted (instant_text b.t_max)))
-    ++ next_member (codes "extent") (or_null extent (λ b. codes "[" ++ corners_text comma b ++ codes "]"))
+    ++ next_member (codes "extent")
+    (or_null extent (λ b. codes "[" ++ corners_text comma b ++ codes "]"))

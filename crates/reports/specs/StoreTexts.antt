@@ -31,7 +31,8 @@ bytes_of pages = pages * 4096
 unfoldable pub corners_text : ℕ → BoxView → List ℕ
 corners_text between bounds =
     join_with_byte between
-    (coord_text bounds.x_min ∷ coord_text bounds.y_min ∷ coord_text bounds.x_max ∷ coord_text bounds.y_max ∷ [])
+    (coord_text bounds.x_min ∷ coord_text bounds.y_min ∷ coord_text bounds.x_max
+    ∷ coord_text bounds.y_max ∷ [])
 
 -- `KEY: VALUE`, and a line end
 unfoldable pub line : List ℕ → List ℕ → List ℕ
@@ -90,7 +91,8 @@ quoted text = codes "\"" ++ text ++ codes "\""
 -- a byte of a string of JSON as itself; a quote and a backslash behind a backslash; one below a blank as its number
 abbrev pub escaped : ℕ → List ℕ
 escaped byte =
-    if nat_lt byte blank then codes "\\u00" ++ digits 16 false (byte / 16) ++ digits 16 false (byte % 16)
+    if nat_lt byte blank
+    then codes "\\u00" ++ digits 16 false (byte / 16) ++ digits 16 false (byte % 16)
     else if byte == 34 || byte == 92 then codes "\\" ++ byte ∷ []
     else byte ∷ []
 

@@ -135,7 +135,8 @@ fn push_key(text: &mut Vec<u8>, key: &str) -> Result<(), RunFault>
 /// Appends a member whose value is a number.
 #[tactic(auto, unfolding(crate::specs::StoreTexts::member))]
 fn push_first_number(text: &mut Vec<u8>, key: &str, number: u64) -> Result<(), RunFault>
-    ensures text { OnOk result (text.new.items ≡ text.old.items ++ member key.now (decimal number)) }
+    ensures text { OnOk result (text.new.items
+        ≡ text.old.items ++ member key.now (decimal number)) }
     ensures fault { IfErr result (λ fault. fault ≡ RunFault.Memory) }
 {
     push_key(text, key)?;

@@ -5,7 +5,6 @@ mod info_json;
 mod info_text;
 mod moments_text;
 mod pushed;
-mod wrote;
 
 pub use info_json::push_json;
 pub use info_text::{StoreReport, push_lines};

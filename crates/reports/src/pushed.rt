@@ -73,7 +73,8 @@ pub(crate) fn push_moment(text: &mut Vec<u8>, millis: i64) -> Result<(), RunFaul
 /// Appends the bounds of x and y, with a byte between two of them.
 pub(crate) fn push_corners(text: &mut Vec<u8>, bounds: &Box3, between: u8) -> Result<(), RunFault>
     ensures coords { OnOk result (HasCoords bounds.now) }
-    ensures text { OnOk result (text.new.items ≡ text.old.items ++ corners_text between bounds.now) }
+    ensures text { OnOk result (text.new.items
+        ≡ text.old.items ++ corners_text between bounds.now) }
     ensures fault { IfErr result (IsPrintFault (HasCoords bounds.now)) }
 {
     push_bound(text, bounds.x_min)?;
