@@ -1,2 +1,4 @@
 pub mod OrderLemmas
 pub mod ProgramLemmas
+pub mod RefusalLemmas
+pub mod TakenLemmas

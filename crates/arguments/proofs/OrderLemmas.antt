@@ -21,15 +21,15 @@ not_true true e = absurd (true≢false (sym e))
 not_true false e = refl
 
 -- a word that does not begin with a minus is no flag
-no_flag : (word : Text) → is_plain word ≡ true → (bytes_eq word (45 ∷ 45 ∷ []) ≡ false) × (long_of word ≡ None) × (short_of word ≡ None)
+pub no_flag : (word : Text) → is_plain word ≡ true → (bytes_eq word (45 ∷ 45 ∷ []) ≡ false) × (long_of word ≡ None) × (short_of word ≡ None)
 no_flag [] e = (refl, refl, refl)
 no_flag (x ∷ xs) e = let other : (x == 45) ≡ false = not_true (x == 45) e in (rw other refl, rw other refl, rw other refl)
 
-abbrev is_option : Waiting → Bool
+abbrev pub is_option : Waiting → Bool
 is_option (option id) = true
 is_option _ = false
 
-met_value : (c : List Rule) (trailing : Bool) (waiting : Waiting) (position : ℕ) (word : Text) (h : Held) → is_plain word ≡ true → is_option waiting ≡ false
+pub met_value : (c : List Rule) (trailing : Bool) (waiting : Waiting) (position : ℕ) (word : Text) (h : Held) → is_plain word ≡ true → is_option waiting ≡ false
     → word_met c [] trailing waiting position word h ≡ (h, value)
 met_value c true waiting position word h plain e = refl
 met_value c false idle position word h plain e = let other = no_flag word plain in rw (other.0, other.1, other.2) refl
@@ -40,7 +40,7 @@ met_value c false (option id) position word h plain e = absurd (true≢false e)
 abbrev pub taken : List Rule → Walk → Text → Walk
 taken c w word = to_positional c (arg_by_index c w.position) word w w.held
 
-taken_one : (c : List Rule) (w : Walk) (word : Text) → is_plain word ≡ true → w.stopped ≡ None → is_option w.waiting ≡ false → walked c [] w word ≡ taken c w word
+pub taken_one : (c : List Rule) (w : Walk) (word : Text) → is_plain word ≡ true → w.stopped ≡ None → is_option w.waiting ≡ false → walked c [] w word ≡ taken c w word
 unfolding walked
 taken_one c w word plain stopped waiting =
     ap (λ (s : Option (Text × List Text)). walked_from c [] s w word) stopped
@@ -50,13 +50,13 @@ no_option : (b : Bool) → is_option (if b then positional else idle) ≡ false
 no_option true = refl
 no_option false = refl
 
-still_open : (a : Option Rule) (word : Text) (w : Walk) → w.stopped ≡ None → is_option w.waiting ≡ false
+pub still_open : (a : Option Rule) (word : Text) (w : Walk) → w.stopped ≡ None → is_option w.waiting ≡ false
     → (c : List Rule) → ((to_positional c a word w w.held).stopped ≡ None) × (is_option (to_positional c a word w w.held).waiting ≡ false)
 still_open None word w stopped waiting c = (stopped, waiting)
 still_open (Some a) word w stopped waiting c = (refl, no_option (is_multiple a))
 
 -- the walk after words that are no flags
-taken_all : (c : List Rule) (words : List Text) (w : Walk) → list_all is_plain words ≡ true → w.stopped ≡ None → is_option w.waiting ≡ false
+pub taken_all : (c : List Rule) (words : List Text) (w : Walk) → list_all is_plain words ≡ true → w.stopped ≡ None → is_option w.waiting ≡ false
     → fold (walked c []) w words ≡ fold (taken c) w words
 taken_all c [] w plain stopped waiting = refl
 taken_all c (word ∷ rest) w plain stopped waiting =
@@ -65,7 +65,7 @@ taken_all c (word ∷ rest) w plain stopped waiting =
     ap (λ (x : Walk). fold (walked c []) x rest) (taken_one c w word each.0 stopped waiting) ∙ taken_all c rest (taken c w word) each.1 after.0 after.1
 
 -- where a command was met, all words behind it are its own
-behind : (c : List Rule) (names : Names) (words : List Text) (w : Walk) (command : Text) (had : List Text) → w.stopped ≡ Some (command, had)
+pub behind : (c : List Rule) (names : Names) (words : List Text) (w : Walk) (command : Text) (had : List Text) → w.stopped ≡ Some (command, had)
     → (fold (walked c names) w words).stopped ≡ Some (command, had ++ words)
 unfolding walked
 behind c names [] w command had stopped = stopped ∙ ap (λ (l : List Text). Some (command, l)) (sym (append-nil had))
@@ -94,11 +94,11 @@ rows_taken shape said = finished (rules_in shape) (fold (taken (rules_in shape))
 abbrev pub top_walk : Text → Walk
 top_walk command = walked (built (program false)).top.rules (names_of (built (program false))) (walk_from nothing_held) command
 
-some_same : {X : Type 0} (x y : X) → Some x ≡ Some y → x ≡ y
+pub some_same : {X : Type 0} (x y : X) → Some x ≡ Some y → x ≡ y
 some_same {X = X} x y e = ap (λ (o : Option X). unwrap_or o x) e
 
 -- the first word is the name of the program
-without_first : (first : Text) (rest : List Text) → argument_words (program false) (first ∷ rest) ≡ rest
+pub without_first : (first : Text) (rest : List Text) → argument_words (program false) (first ∷ rest) ≡ rest
 unfolding program_written_out
 without_first first rest = refl
 

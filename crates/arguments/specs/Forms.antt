@@ -3,7 +3,7 @@ use Rattle.std.specs.Prelude.{ℕ, ◌≡◌, ◌++◌, ◌∷◌, true, false, 
 use Rattle.clap.specs.Words.{Rule, Shape, shape_of}
 use Rattle.clap.specs.declared.builder.command.Command.{Command}
 use Rattle.clap.specs.declared.builder.command.Command.TheViews.{out-Command}
-use Rattle.arguments.specs.Program.{bound_rule, count_or_rule, count_rule, flag_rule, letter_flag_rule, lone_flag_rule, names_rule, number_rule, required_rule}
+use Rattle.arguments.specs.Program.{bound_rule, count_or_rule, count_rule, flag_rule, letter_flag_rule, names_rule, number_rule, required_rule}
 use Rattle.arguments.specs.declared.words.Form.{Form}
 use Rattle.arguments.specs.declared.words.Form.TheVariants as form
 use Rattle.arguments.specs.declared.words.Word.{Word}
@@ -15,7 +15,6 @@ form_rule name (form.Count least) = count_rule least name
 form_rule name form.Bound = bound_rule true name
 form_rule name form.Names = names_rule name
 form_rule name form.Flag = flag_rule name
-form_rule name (form.FlagWithout other) = lone_flag_rule name
 form_rule name (form.FlagOrLetter letter) = letter_flag_rule letter name
 form_rule name (form.Number value) = number_rule 0 name
 form_rule name (form.CountOr default) = count_or_rule default.now name

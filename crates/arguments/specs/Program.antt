@@ -40,10 +40,6 @@ names_rule name =
 unfoldable pub flag_rule : List ℕ → Rule
 flag_rule name = record (new_rule name) { long = Some name; action = Some SetTrue }
 
--- `--NAME`, without a value, and not beside another one, which the rule does not name
-unfoldable pub lone_flag_rule : List ℕ → Rule
-lone_flag_rule name = record (flag_rule name) { is_free = false }
-
 -- `--NAME`, without a value, and that letter for it
 unfoldable pub letter_flag_rule : ℕ → List ℕ → Rule
 letter_flag_rule letter name = record (flag_rule name) { short = Some letter }
@@ -67,10 +63,6 @@ command_shape name rules = record (new_shape name) { rules = rules }
 unfoldable pub cache_pages_rule : Rule
 cache_pages_rule = count_or_rule (codes "256") (codes "cache-pages")
 
--- `--explain`, which does not stand beside `--quiet`
-unfoldable pub explain_rule : Rule
-explain_rule = lone_flag_rule (codes "explain")
-
 -- `--quiet` or `-q`
 unfoldable pub quiet_rule : Rule
 quiet_rule = letter_flag_rule 113 (codes "quiet")
@@ -84,14 +76,18 @@ run_shape = command_shape (codes "run")
     ∷ flag_rule (codes "in-place")
     ∷ flag_rule (codes "existing")
     ∷ flag_rule (codes "strict")
-    ∷ explain_rule
+    ∷ flag_rule (codes "explain")
     ∷ quiet_rule
     ∷ flag_rule (codes "progress")
     ∷ [])
 
 unfoldable pub check_shape : Shape
 check_shape = command_shape (codes "check")
-    (required_rule (codes "STORE") ∷ cache_pages_rule ∷ explain_rule ∷ quiet_rule ∷ [])
+    (required_rule (codes "STORE")
+    ∷ cache_pages_rule
+    ∷ flag_rule (codes "explain")
+    ∷ quiet_rule
+    ∷ [])
 
 unfoldable pub migrate_shape : Shape
 migrate_shape = command_shape (codes "migrate")
@@ -121,7 +117,7 @@ moments_shape takes_negative = command_shape (codes "moments")
     ∷ bound_rule takes_negative (codes "T1")
     ∷ bound_rule takes_negative (codes "T2")
     ∷ flag_rule (codes "visits")
-    ∷ lone_flag_rule (codes "dwell")
+    ∷ flag_rule (codes "dwell")
     ∷ cache_pages_rule
     ∷ [])
 

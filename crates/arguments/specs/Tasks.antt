@@ -1,9 +1,11 @@
 -- What each command of the program is asked to do, by what `clap` found under its names.
-use Rattle.std.specs.Prelude.{false, ℕ, ◌≡◌, ◌≢◌, ◌∷◌, ◌⊎◌, [], List, None, Some, Result, codes, map, option_map}
-use Rattle.clap.specs.Words.{HasMatchesOf, ReadsOne, found_of, matches_of, one_text, rows_of, subcommand_name_of, subcommand_of, subcommand_rows_of}
+use Rattle.std.specs.Prelude.{false, true, ℕ, ◌≡◌, ◌≢◌, ◌∷◌, ◌⊎◌, [], List, None, Some, Result, codes, map, option_map}
+use Rattle.std.specs.List.{AllByRecursion}
+use Rattle.clap.specs.Words.{HasMatchesOf, ReadsOne, found_of, is_present, matches_of, one_text, rows_of, subcommand_name_of, subcommand_of, subcommand_rows_of}
 use Rattle.clap.specs.declared.parser.matches.Found.{Found}
 use Rattle.clap.specs.declared.parser.matches.ArgMatches.{ArgMatches}
 use Rattle.arguments.specs.Program.{has_negative, program}
+use Rattle.arguments.specs.Refusals.{clashes}
 use Rattle.arguments.specs.Words.{word, words, IsSaid, IsUnsaid, SaysFlag, SaysNumber, SaysTelling}
 use Rattle.arguments.specs.declared.task.Check.{Check}
 use Rattle.arguments.specs.declared.task.Info.{Info}
@@ -111,8 +113,24 @@ IsNamed said name found =
     ⊎ ((subcommand_of (program false) said ≡ None) × (name ≡ codes "run")
     × (rows_of found ≡ matches_of (program false) said))
 
+-- the words that have to be there for a task
+abbrev pub needed_words : Task → List (List ℕ)
+needed_words (task.Run run) = codes "STORE" ∷ codes "SCRIPT" ∷ []
+needed_words (task.Check check) = codes "STORE" ∷ []
+needed_words (task.Migrate migrate) = codes "OLD" ∷ codes "NEW" ∷ []
+needed_words (task.Part part) = codes "K" ∷ codes "N" ∷ codes "FILE" ∷ []
+needed_words (task.Parts parts) = codes "N" ∷ codes "FILE" ∷ codes "DIR" ∷ []
+needed_words (task.Moments moments) = codes "STORE" ∷ codes "X1" ∷ codes "Y1" ∷ codes "X2"
+    ∷ codes "Y2" ∷ codes "T1" ∷ codes "T2" ∷ []
+needed_words (task.Info info) = codes "STORE" ∷ []
+
+-- they are there, by the words that were given
+abbrev pub HasNeeded : Found → Task → Type 0
+HasNeeded found asked = AllByRecursion (λ id. is_present found id ≡ true) (needed_words asked)
+
 -- the task is what one command says, which `clap` met in the words of the program, as it is told
--- them; where a word begins as a number below 0 does, nothing says what it met
+-- them, and no two flags are said that may not stand side by side; where a word begins as a number
+-- below 0 does, nothing says what it met, nor that what the task needs was there
 pub record IsAsked {E : Type 0} (reads : List ℕ → Result ℕ E → Type 0) (said : List (List ℕ))
     (asked : Task) : Type 0 where
   pub matches : ArgMatches
@@ -121,4 +139,6 @@ pub record IsAsked {E : Type 0} (reads : List ℕ → Result ℕ E → Type 0) (
   pub found : Found
   pub command : IsCommandOf matches name found
   pub named : has_negative said ≡ false → IsNamed said name found
+  pub alone : clashes (rows_of found) ≡ false
+  pub needed : has_negative said ≡ false → HasNeeded found asked
   pub task : SaysTask reads name found asked

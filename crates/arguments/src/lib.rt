@@ -5,6 +5,6 @@ mod order;
 mod task;
 mod words;
 
-pub use order::laws;
+pub use order::{laws, verdicts};
 pub use task::{Bounds, Check, Info, Migrate, Moments, Part, Parts, RowKind, Run, Task, Telling};
 pub use words::read_words;

@@ -1,12 +1,14 @@
 //! The words of the command line.
-ghost use Rattle.std.specs.Prelude.{◌≡◌, ℕ, List, [], IfOk, codes, false, fold, map, true};
+ghost use Rattle.std.specs.Prelude.{◌≡◌, ℕ, List, [], IfErr, IfOk, codes, false, fold, is_some, map, true};
 ghost use Rattle.std.specs.String.{string_bytes};
 ghost use Rattle.clap.specs.Simple.{new_shape};
-ghost use Rattle.clap.specs.Words.{app_of, found_of, rule_of};
+ghost use Rattle.clap.specs.Words.{app_of, found_of, kind_of, rows_of, rule_of, FailsBy};
+ghost use Rattle.clap.specs.declared.error.kind.ErrorKind.TheVariants.{OutOfMemory};
 ghost use Rattle.arguments.specs.Forms.{form_rule, with_word, word_rule, HasShape};
-ghost use Rattle.arguments.specs.Program.{at_least, bound_rule, count_or_rule, count_rule, flag_rule, letter_flag_rule, lone_flag_rule, names_rule, number_rule, required_rule};
-ghost use Rattle.arguments.specs.Program.{bare_shape, cache_pages_rule, check_shape, explain_rule, info_shape, migrate_shape, moments_shape, part_shape, parts_shape, program, quiet_rule, run_shape};
+ghost use Rattle.arguments.specs.Program.{at_least, bound_rule, count_or_rule, count_rule, flag_rule, letter_flag_rule, names_rule, number_rule, required_rule};
+ghost use Rattle.arguments.specs.Program.{bare_shape, cache_pages_rule, check_shape, info_shape, migrate_shape, moments_shape, part_shape, parts_shape, program, quiet_rule, run_shape};
 ghost use Rattle.arguments.specs.Program.{has_negative, is_negative};
+ghost use Rattle.arguments.specs.Refusals.{clash_kinds, clashes, is_said, refusal_of};
 ghost use Rattle.arguments.specs.Tasks.{IsAsked, SaysCheck, SaysInfo, SaysMigrate, SaysMoments, SaysPart, SaysParts, SaysRows, SaysRun, SaysTask};
 ghost use Rattle.arguments.specs.Words.{word, SaysFlag, SaysNumber, SaysTelling};
 
@@ -14,6 +16,7 @@ use crate::task::{
     Bounds, Check, Info, Migrate, Moments, Part, Parts, RowKind, Run, Task, Telling,
 };
 use clap::builder::ValueParser;
+use clap::error::ErrorKind;
 use clap::{Arg, ArgAction, ArgMatches, Command, Error};
 use std::alloc::{AllocError, Global};
 use std::convert::AsStr;
@@ -35,8 +38,6 @@ enum Form<'a> {
     Names,
     /// `--NAME`, without a value.
     Flag,
-    /// `--NAME`, without a value, and not beside that other one.
-    FlagWithout(&'a str),
     /// `--NAME`, without a value, and that letter for it.
     FlagOrLetter(char),
     /// `--NAME VALUE`, a number.
@@ -119,14 +120,6 @@ fn flag<'a>(alloc: Global, word: Word<'a>) -> Arg<'a>
         .action(ArgAction::SetTrue)
 }
 
-/// A word `--NAME` without a value, and not beside that other one.
-fn lone_flag<'a>(alloc: Global, word: Word<'a>, other: &'a str) -> Result<Arg<'a>, AllocError>
-    ensures rule { IfOk result (λ arg. rule_of arg ≡ lone_flag_rule word.entry.name.now) }
-    ensures local { IfOk result (λ arg. arg.global ≡ false) }
-{
-    flag(alloc, word).conflicts_with(other)
-}
-
 /// A word `--NAME` without a value, and that letter for it.
 #[tactic(auto, unfolding(crate::specs::Program::letter_flag_rule))]
 fn letter_flag<'a>(alloc: Global, word: Word<'a>, letter: char) -> Arg<'a>
@@ -159,20 +152,19 @@ fn count_or<'a>(alloc: Global, word: Word<'a>, default: &'a str) -> Arg<'a>
 
 /// What `clap` is told of a word.
 #[tactic(auto, unfolding(crate::specs::Forms::word_rule))]
-fn arg_of<'a>(alloc: Global, word: Word<'a>) -> Result<Arg<'a>, AllocError>
-    ensures rule { IfOk result (λ arg. rule_of arg ≡ word_rule word.entry) }
-    ensures local { IfOk result (λ arg. arg.global ≡ false) }
+fn arg_of<'a>(alloc: Global, word: Word<'a>) -> Arg<'a>
+    ensures rule { rule_of result ≡ word_rule word.entry }
+    ensures local { result.global ≡ false }
 {
     match word.form {
-        Form::Required => Ok(required(alloc, word)),
-        Form::Count(least) => Ok(count(alloc, word, least)),
-        Form::Bound => Ok(bound(alloc, word)),
-        Form::Names => Ok(names(alloc, word)),
-        Form::Flag => Ok(flag(alloc, word)),
-        Form::FlagWithout(other) => lone_flag(alloc, word, other),
-        Form::FlagOrLetter(letter) => Ok(letter_flag(alloc, word, letter)),
-        Form::Number(value) => Ok(number(alloc, word, value, 0)),
-        Form::CountOr(default) => Ok(count_or(alloc, word, default)),
+        Form::Required => required(alloc, word),
+        Form::Count(least) => count(alloc, word, least),
+        Form::Bound => bound(alloc, word),
+        Form::Names => names(alloc, word),
+        Form::Flag => flag(alloc, word),
+        Form::FlagOrLetter(letter) => letter_flag(alloc, word, letter),
+        Form::Number(value) => number(alloc, word, value, 0),
+        Form::CountOr(default) => count_or(alloc, word, default),
     }
 }
 
@@ -187,7 +179,7 @@ fn command<'a>(
 {
     let mut command = Command::new(alloc, name).about(about);
     for word in words {
-        command = command.arg(arg_of(alloc, *word)?)?;
+        command = command.arg(arg_of(alloc, *word))?;
     }
     Ok(command)
 }
@@ -205,12 +197,11 @@ fn cache_pages<'a>() -> Word<'a>
 }
 
 /// The word `--explain`.
-#[tactic(auto, unfolding(crate::specs::Program::explain_rule))]
 fn explain<'a>() -> Word<'a>
-    ensures { word_rule result ≡ explain_rule }
+    ensures { word_rule result ≡ flag_rule (codes "explain") }
 {
     Word::new(
-        Form::FlagWithout("quiet"),
+        Form::Flag,
         "explain",
         "Say on standard error, in words, what went wrong; on a terminal it is said anyway",
     )
@@ -403,7 +394,7 @@ fn moments_command<'a>(alloc: Global, takes_negative: bool) -> Result<Command<'a
             "Print a record a visit: the stays of a feature, joined over legs without a gap",
         ),
         Word::new(
-            Form::FlagWithout("visits"),
+            Form::Flag,
             "dwell",
             "Print a record a feature: how long it stays in all",
         ),
@@ -511,7 +502,9 @@ fn telling_of(matches: &ArgMatches) -> Telling
 
 /// What `mftb run` is asked to do.
 fn run_of<'a>(alloc: Global, matches: &ArgMatches<'a>) -> Result<Run<'a>, Error>
-    ensures { IfOk result (SaysRun ⟦<u32 as FromStr>⟧.from_str_gives (found_of matches.now)) }
+    ensures asked { IfOk result
+        (SaysRun ⟦<u32 as FromStr>⟧.from_str_gives (found_of matches.now)) }
+    ensures memory { IfErr result (λ e. kind_of e ≡ OutOfMemory) }
 {
     let names = matches.get_strs("FILES").unwrap_or(&[]);
     Ok(Run {
@@ -614,26 +607,72 @@ fn info_of<'a>(matches: &ArgMatches<'a>) -> Info<'a>
     }
 }
 
+/// Whether a word without a value is there, as it was written.
+fn is_said(matches: &ArgMatches, name: &str) -> bool
+    ensures { result ≡ is_said (rows_of (found_of matches.now)) name.now }
+{
+    match matches.get_str(name) {
+        Some(text) => text == "true",
+        None => false,
+    }
+}
+
+/// Which two words are there of which one may not stand beside the other, in words.
+fn clash_of(matches: &ArgMatches) -> Option<&'static str>
+    ensures { is_some result ≡ clashes (rows_of (found_of matches.now)) }
+{
+    if is_said(matches, "explain") && is_said(matches, "quiet") {
+        return Some("the argument '--explain' cannot be used with '--quiet'");
+    }
+    if is_said(matches, "dwell") && is_said(matches, "visits") {
+        return Some("the argument '--dwell' cannot be used with '--visits'");
+    }
+    None
+}
+
 /// Reads the words, of which the first is the program's name.
 ///
-/// `clap` takes a number below 0 as a bound only where it is told so, and no clause says what it makes
-/// of words that it is told that of. So it is told so only where one of the words begins as such a number.
+/// `clap` takes a number below 0 as a bound only where it is told so, and no clause says what it
+/// makes of words that it is told that of. So it is told so only where one of the words begins as
+/// such a number. Nor does a clause say which words it takes where it is told that a word may not
+/// stand beside another one. So it is not told so, and two such words are refused here, once no word
+/// is missing.
 pub fn read_words<'a>(alloc: Global, words: &'a [String]) -> Result<Task<'a>, Error>
-    ensures { IfOk result (IsAsked ⟦<u32 as FromStr>⟧.from_str_gives
+    ensures asked { IfOk result (IsAsked ⟦<u32 as FromStr>⟧.from_str_gives
         (map ⟦<String as AsStr>⟧.text words.entry.now)) }
+    ensures refused { has_negative (map ⟦<String as AsStr>⟧.text words.entry.now) ≡ false
+        → FailsBy (refusal_of (map ⟦<String as AsStr>⟧.text words.entry.now)) result }
 {
-    let program = mftb(alloc, has_negative(words))?;
-    let matches = program.try_get_matches_from(words)?;
+    let mut program = mftb(alloc, has_negative(words))?;
+    let matches = program.try_get_matches_from_mut(words)?;
     match matches.subcommand() {
-        Some((name, found)) => task_of(alloc, name, found),
-        None => task_of(alloc, "run", &matches),
+        Some((name, found)) => ask(alloc, &mut program, name, found),
+        None => ask(alloc, &mut program, "run", &matches),
     }
+}
+
+/// What the words of a command ask for, unless two of their flags exclude each other.
+fn ask<'a>(
+    alloc: Global,
+    program: &mut Command<'_>,
+    name: &str,
+    matches: &ArgMatches<'a>,
+) -> Result<Task<'a>, Error>
+    ensures asked { IfOk result
+        (SaysTask ⟦<u32 as FromStr>⟧.from_str_gives name.now (found_of matches.now)) }
+    ensures refused { FailsBy (clash_kinds (rows_of (found_of matches.now))) result }
+{
+    if let Some(clash) = clash_of(matches) {
+        return Err(program.error(ErrorKind::ArgumentConflict, clash)?);
+    }
+    task_of(alloc, name, matches)
 }
 
 /// What the words of a command ask for.
 fn task_of<'a>(alloc: Global, name: &str, matches: &ArgMatches<'a>) -> Result<Task<'a>, Error>
-    ensures { IfOk result
+    ensures asked { IfOk result
         (SaysTask ⟦<u32 as FromStr>⟧.from_str_gives name.now (found_of matches.now)) }
+    ensures memory { IfErr result (λ e. kind_of e ≡ OutOfMemory) }
 {
     Ok(match name {
         "check" => Task::Check(check_of(matches)),

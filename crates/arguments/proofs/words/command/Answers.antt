@@ -33,9 +33,9 @@ loop-word-init c =
 
 pub loop-word-preserved : goal.loop-word-preserved
 loop-word-preserved c =
-    let local = c.in_ok-arg_of.ensures.local in
+    let local = c.arg_of.ensures.local in
     record {
-      shape = one_more c.args.words.now c.loop-word.word-index _ (rule_of c.in_ok-arg_of.field-0) (shape_of c.loop-word.command) _ _ c.loop-word-test.true c.in_ok-arg_of.ensures.rule
+      shape = one_more c.args.words.now c.loop-word.word-index _ (rule_of c.arg_of.result) (shape_of c.loop-word.command) _ _ c.loop-word-test.true c.arg_of.ensures.rule
           (ap (λ (a : App). a.top) (c.in_ok-command.ensures.shape local)) c.loop-word.invariant.shape;
       local = c.in_ok-command.ensures.globals ∙ ap₂ (λ (a b : Bool). a || b) c.loop-word.invariant.local local;
     }
