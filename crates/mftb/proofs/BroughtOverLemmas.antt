@@ -1,10 +1,9 @@
 -- Why `ok 0` is not said of a store that was to be brought over.
-use Rattle.std.proofs.Common.{◌≡◌, ◌∙◌, ap, inl, subst, IsTrue, Result, Ok, Err}
-use Rattle.std.specs.Prelude.{IfErr, OnErr, OnOk}
+use Rattle.std.proofs.Common.{◌≡◌, ◌∙◌, ap, subst, IsTrue, Result, Ok, Err}
+use Rattle.std.specs.Prelude.{IfErr}
 use Rattle.legs.specs.Book.{Book}
 use Rattle.legs.specs.Costs.{ShapeView}
 use Rattle.legs.specs.Limits.{LimitsView}
-use Rattle.outputs.specs.Output.{OutputView, HasRefused}
 use Rattle.pages.specs.Store.{Store}
 use Rattle.pagecache.specs.Cache.{stored_payload}
 use Rattle.catalogue.specs.Beginning.{IsLeftOver}
@@ -22,17 +21,7 @@ use Rattle.trajdb.specs.declared.RunFault.TheVariants as run
 use Rattle.sessions.specs.Answers.{BringsButFirst, BringsTooMuch, IsNotOver, IsOverFault}
 use Rattle.sessions.specs.declared.fault.Fault.{Fault}
 use Rattle.sessions.specs.declared.fault.Fault.TheVariants.{Run, Open}
-use Rattle.mftb.specs.BroughtOver.{IsBroughtOver, IsNotBrought, IsWithheld}
-
-pub where_ok : {T E P : Type 0} (r : Result T E) → P → OnOk r P
-where_ok (Ok x) p = p
-where_ok (Err e) p = tt
-
--- it was brought over, and the output refused
-pub unsaid_output : (old after new left : Store) (sent sent' : OutputView) (r : Result (Unit {0}) Fault) → IsBroughtOver old new left
-    → OnErr r (HasRefused sent sent') → IfErr r (λ fault. fault ≡ Run run.Output) → IfErr r (IsWithheld old after new sent sent')
-unsaid_output old after new left sent sent' (Ok x) brought refused is = tt
-unsaid_output old after new left sent sent' (Err fault) brought refused is = (left, inl (brought, is, refused))
+use Rattle.mftb.specs.BroughtOver.{IsNotBrought}
 
 module _ (old after new left : Store) (r : Result (Unit {0}) Fault) (fault : Fault) (is : r ≡ Err fault) where
   opened : (why : CatalogueFault) → fault ≡ Open why → r ≡ Err (Open why)

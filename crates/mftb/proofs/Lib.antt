@@ -5,3 +5,4 @@ pub mod MomentsLemmas
 pub mod OpeningLemmas
 pub mod PageLemmas
 pub mod RunLemmas
+pub mod SendingLemmas

@@ -1,22 +1,22 @@
 -- What is told of moments, and why it is not.
-use Rattle.std.proofs.Common.{◌≡◌, ◌∙◌, inl, inr, refl, subst, sym, false, List, ℕ, Result, Ok, Err}
-use Rattle.std.specs.Prelude.{IfErr, IfOk, OnErr, OnOk, take}
-use Rattle.std.specs.Io.KnownBytes.{Appends}
+use Rattle.std.proofs.Common.{◌≡◌, inl, inr, refl, List, ℕ, Result, Ok, Err}
+use Rattle.std.specs.Prelude.{IfErr, IfOk, OnOk}
 use Rattle.timebase.specs.Period.{PeriodView}
 use Rattle.legs.specs.Boxes.{RectView}
-use Rattle.outputs.specs.Output.{OutputView, HasRefused, IsFlushed}
+use Rattle.outputs.specs.Output.{OutputView}
+use Rattle.pages.specs.Store.{Store}
+use Rattle.boxsearch.specs.Index.{words}
 use Rattle.arguments.specs.declared.task.RowKind.{RowKind}
-use Rattle.trajdb.specs.Calls.{IsText}
+use Rattle.trajdb.specs.Calls.{IsText, LeavesBook}
 use Rattle.trajdb.specs.Db.{DbView}
 use Rattle.trajdb.specs.declared.RunFault.{RunFault}
-use Rattle.trajdb.specs.declared.RunFault.TheVariants as run
+use Rattle.trajdb.specs.Promises.{CloseCall}
 use Rattle.moments.specs.declared.stay.Stay.{Stay}
 use Rattle.sessions.specs.declared.fault.Fault.{Fault}
 use Rattle.sessions.specs.declared.fault.Fault.TheVariants.{Run}
-use Rattle.mftb.specs.MomentsPrinted.{moments_text, AreStaysOf, HasNames, IsMomentsFault, IsMomentsUnsent, PrintsMoments, TellsMoments}
-
-pub never : (r : Result (Unit {0}) RunFault) (e : RunFault) → r ≡ Ok tt → r ≡ Err e → ⊥
-never r e ok err = let wrong : Ok tt ≡ Err e = sym ok ∙ err in absurd (cc)
+use Rattle.mftb.specs.MomentsPrinted.{moments_text, AreStaysOf, HasNames, IsMomentsFault, IsUntold, PrintsMoments, TellsMoments}
+use Rattle.mftb.specs.Sending.{SendsAll}
+use Rattle.mftb.proofs.SendingLemmas.{refused_for}
 
 module _ (db : DbView) (rect : RectView) (period : PeriodView) (rows : RowKind) where
   module _ (stays : List Stay) (are : AreStaysOf db rect period stays) where
@@ -30,12 +30,15 @@ module _ (db : DbView) (rect : RectView) (period : PeriodView) (rows : RowKind) 
     fails (Ok x) after why = tt
     fails (Err e) after why = inr (stays, are, why)
 
-  module _ (sent : OutputView) where
-    pub unsent : (fault : Fault) → IsMomentsUnsent db rect period rows sent sent fault → PrintsMoments db rect period rows sent sent (Err fault)
-    unsent fault why = record { told = tt; refused = why }
-
-    pub sent_all : (sent' : OutputView) (text : List ℕ) (r : Result (Unit {0}) Fault) → TellsMoments db rect period rows text
-        → OnOk r (Appends sent.contents sent'.contents text) → OnOk r (IsFlushed sent sent') → OnErr r (HasRefused sent sent') → IfErr r (λ e. e ≡ Run run.Output)
-        → OnErr r ((n : ℕ) × Appends sent.contents sent'.contents (take n text)) → PrintsMoments db rect period rows sent sent' r
-    sent_all sent' text (Ok x) tells appends flushed refused fault part = record { told = (text, tells, appends, flushed); refused = tt }
-    sent_all sent' text (Err e) tells appends flushed refused fault part = record { told = tt; refused = inl (text, tells, fault, refused, part) }
+  -- a text that is told of a database that was closed is sent, and nothing else is
+  pub prints : {T : Type 0} (items : T → List ℕ) (told : Result T RunFault) (closed : Result (Unit {0}) RunFault) (after : DbView) (left : Store) (sent sent' : OutputView) (r : Result (Unit {0}) Fault)
+      → IfOk told (λ text. TellsMoments db rect period rows (items text)) → IfErr told (IsMomentsFault db rect period rows after) → LeavesBook words db after
+      → CloseCall after left closed
+      → IfOk told (λ text. OnOk closed (SendsAll (items text) sent sent' r)) → IfErr told (λ why. (sent' ≡ sent) × (r ≡ Err (Run why))) → OnOk told (IfErr closed (λ why. (sent' ≡ sent) × (r ≡ Err (Run why))))
+      → PrintsMoments db rect period rows left sent sent' r
+  prints items (Ok text) (Ok x) after left sent sent' r tells fails leaves close sends untold unclosed =
+      record { after = after; leaves = leaves; closed = Ok x; close = close; prints = inl (items text, tells, sends) }
+  prints items (Ok text) (Err why) after left sent sent' r tells fails leaves close sends untold unclosed =
+      record { after = after; leaves = leaves; closed = Err why; close = close; prints = inr (refused_for (IsUntold db rect period rows after (Err why)) sent sent' (Run why) r unclosed.0 unclosed.1 (why, refl, inr refl)) }
+  prints items (Err why) closed after left sent sent' r tells fails leaves close sends untold unclosed =
+      record { after = after; leaves = leaves; closed = closed; close = close; prints = inr (refused_for (IsUntold db rect period rows after closed) sent sent' (Run why) r untold.0 untold.1 (why, refl, inl fails)) }

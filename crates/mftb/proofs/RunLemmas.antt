@@ -1,17 +1,24 @@
 -- What a run over a store of any kind, with an output of any kind, says of what these show.
-use Rattle.std.proofs.Common.{ℕ, ◌≡◌, ◌⊎◌, ap, inl, inr, refl, Bool, List, Option, Result, Ok, Err}
+use Rattle.std.proofs.Common.{ℕ, ◌≡◌, ◌⊎◌, ap, inl, inr, refl, subst, false, IsTrue, List, Option, Result, Ok, Err}
 use Rattle.std.specs.Prelude.{IfErr, OnOk}
 use Rattle.outputs.specs.Output.{OutputView}
+use Rattle.arguments.specs.declared.task.Run.{Run}
 use Rattle.pages.specs.Store.{Store}
 use Rattle.boxsearch.specs.Index.{words}
 use Rattle.register.specs.declared.fault.CatalogueFault.{CatalogueFault}
+use Rattle.trajdb.specs.Calls.{HasLoad}
 use Rattle.trajdb.specs.Db.{DbView}
 use Rattle.trajdb.specs.Promises.{RunCall}
+use Rattle.trajdb.specs.Script.{lines_of}
 use Rattle.trajdb.specs.declared.RunFault.{RunFault}
 use Rattle.sessions.specs.Answers.{RunsAndCloses, RunsOver}
 use Rattle.sessions.specs.Folder.{History, IsOfFolder, IsRefusedByFolder, IsRefusedEarly, NameIsKept, RunsOnCopy}
 use Rattle.sessions.specs.declared.fault.Fault.{Fault}
-use Rattle.mftb.specs.Running.{IsRefusedUnsent, IsRun, IsRunInPlace, IsLeftUnsaid, RunsInPlace, RunsSome}
+use Rattle.mftb.specs.RunAsked.{RunsAsAsked}
+use Rattle.mftb.specs.Running.{IsRefusedUnsent, IsRun, IsRunInPlace, IsLeftUnsaid, IsUnrun, OpensOrMakes, RunsInPlace, RunsSome}
+use Rattle.mftb.specs.Unopened.{IsUnheld}
+use Rattle.mftb.specs.declared.run.Work.{Work}
+use Rattle.mftb.proofs.OpeningLemmas.{opens_shown, refuses_shown}
 
 module _ {O : Type 0} (shown : O → OutputView) (files : List (List ℕ × List ℕ)) (out out' : O) (lines : List (List ℕ)) where
   call_shown : (old new : DbView) (ran : Result (Unit {0}) RunFault)
@@ -46,20 +53,25 @@ module _ {O : Type 0} (shown : O → OutputView) (files : List (List ℕ × List
       → RunsAndCloses shown db files out out' lines ran closed store → RunsAndCloses (λ v. v) db files (shown out) (shown out') lines ran closed store
   closes_shown db ran closed store r = record { between = r.between; ok = r.ok; run = call_shown db r.between ran r.run; keeps = r.keeps; close = r.close; ends = r.ends }
 
+module _ {O : Type 0} (shown : O → OutputView) (work : Work) (out out' : O) where
   -- a database over a store of some kind was run over
-  pub runs_some : {S : Type 0} (seen : S → Store) (opened : Result DbView (S × CatalogueFault)) (answered : Result (Unit {0}) Fault) (closed : Result (Unit {0}) RunFault) (store : Store)
-      (result : Result (Unit {0}) Fault) → RunsOver seen shown opened files out out' lines answered closed store
-      → ((answered ≡ result) ⊎ ((answered ≡ Ok tt) × OnOk result ⊥ × IfErr result IsOfFolder)) → RunsSome files lines (shown out) (shown out') result
-  runs_some seen (Ok db) answered closed store result (ran, said, over) answers = record {
+  pub runs_some : {S : Type 0} (seen : S → Store) (was : Store) (opened : Result DbView (S × CatalogueFault)) (answered : Result (Unit {0}) Fault) (closed : Result (Unit {0}) RunFault) (store : Store)
+      (result : Result (Unit {0}) Fault) → OpensOrMakes seen was work.how.is_new work.how.cache_pages opened → RunsOver seen shown opened work.files out out' (lines_of work.script.items) answered closed store
+      → ((answered ≡ result) ⊎ ((answered ≡ Ok tt) × OnOk result ⊥ × IfErr result IsOfFolder)) → RunsSome work (shown out) (shown out') result
+  runs_some seen was (Ok db) answered closed store result opens (ran, said, over) answers = record {
+    was = was;
     opened = Ok db;
+    opens = opens_shown seen was work.how.cache_pages work.how.is_new db opens;
     answered = answered;
     closed = closed;
     store = store;
-    run = (ran, said, closes_shown db ran closed store over);
+    run = (ran, said, closes_shown shown work.files out out' (lines_of work.script.items) db ran closed store over);
     answers = answers;
   }
-  runs_some seen (Err back) answered closed store result over answers = record {
+  runs_some seen was (Err back) answered closed store result opens over answers = record {
+    was = was;
     opened = Err (seen back.0, back.1);
+    opens = refuses_shown seen was work.how.cache_pages work.how.is_new back opens;
     answered = answered;
     closed = closed;
     store = store;
@@ -68,35 +80,48 @@ module _ {O : Type 0} (shown : O → OutputView) (files : List (List ℕ × List
   }
 
   -- so it was as its store lies there, with what is left unsaid of the closing
-  pub runs_in_place : {S : Type 0} (seen : S → Store) (opened : Result DbView (S × CatalogueFault)) (result : Result (Unit {0}) Fault) (closed : Result (Unit {0}) RunFault) (store : Store) (left : Option RunFault)
-      → RunsOver seen shown opened files out out' lines result closed store → IsLeftUnsaid result closed left → RunsInPlace files lines (shown out) (shown out') result left
-  runs_in_place seen (Ok db) result closed store left (ran, said, over) unsaid = record {
+  pub runs_in_place : {S : Type 0} (seen : S → Store) (was : Store) (opened : Result DbView (S × CatalogueFault)) (result : Result (Unit {0}) Fault) (closed : Result (Unit {0}) RunFault) (store : Store) (left : Option RunFault)
+      → OpensOrMakes seen was work.how.is_new work.how.cache_pages opened → RunsOver seen shown opened work.files out out' (lines_of work.script.items) result closed store → IsLeftUnsaid result closed left
+      → RunsInPlace work was store (shown out) (shown out') result left
+  runs_in_place seen was (Ok db) result closed store left opens (ran, said, over) unsaid = record {
     opened = Ok db;
+    opens = opens_shown seen was work.how.cache_pages work.how.is_new db opens;
     closed = closed;
-    store = store;
-    run = (ran, said, closes_shown db ran closed store over);
-    unsaid = unsaid;
+    run = (ran, said, closes_shown shown work.files out out' (lines_of work.script.items) db ran closed store over);
+    leaves = unsaid;
   }
-  runs_in_place seen (Err back) result closed store left over unsaid = record {
+  runs_in_place seen was (Err back) result closed store left opens over unsaid = record {
     opened = Err (seen back.0, back.1);
+    opens = refuses_shown seen was work.how.cache_pages work.how.is_new back opens;
     closed = closed;
-    store = store;
     run = over;
-    unsaid = unsaid;
+    leaves = unsaid;
   }
 
+-- a store that is not held is why nothing was run over
+unheld : (result : Result (Unit {0}) Fault) → IfErr result IsUnheld → IfErr result IsUnrun
+unheld (Ok x) why = tt
+unheld (Err fault) why = inl why
+
 -- a store that was run over as it lies there was run over
-pub in_place_is_run : (files : List (List ℕ × List ℕ)) (lines : List (List ℕ)) (sent sent' : OutputView) (result : Result (Unit {0}) Fault) (left : Option RunFault)
-    → IsRunInPlace files lines sent sent' result left → IsRun files lines sent sent' result
-in_place_is_run files lines sent sent' result left (inl (unsent, none)) = inl unsent
-in_place_is_run files lines sent sent' result left (inr r) = inr (record {
+pub in_place_is_run : (work : Work) (sent sent' : OutputView) (result : Result (Unit {0}) Fault) (left : Option RunFault)
+    → IsRunInPlace work sent sent' result left → IsRun work sent sent' result
+in_place_is_run work sent sent' result left (inl (unsent, why, none)) = inl (unsent, unheld result why)
+in_place_is_run work sent sent' result left (inr (was, store, r)) = inr (record {
+  was = was;
   opened = r.opened;
+  opens = r.opens;
   answered = result;
   closed = r.closed;
-  store = r.store;
+  store = store;
   run = r.run;
   answers = inl refl;
 })
+
+-- it was run as it was asked for, with what is left unsaid where it was run as the store lies there
+pub as_asked : (run : Run) (work : Work) (sent sent' : OutputView) (ran : Result (Unit {0}) Fault) (left : Option RunFault) → IsRun work sent sent' ran → (IsTrue run.in_place → IsRunInPlace work sent sent' ran left)
+    → (work.how.is_new ≡ false → (HasLoad (lines_of work.script.items) → ⊥) → IsRunInPlace work sent sent' ran left) → RunsAsAsked run work sent sent' ran
+as_asked run work sent sent' ran left runs in_place asks = record { runs = runs; in_place = λ there. (left, in_place there); asks = λ old only. (left, asks old only) }
 
 -- what was answered of a run is what is answered of it and its copy, or that was well, and the folder refuses this
 answers_of : (N : Type 0) (before after : ℕ) (last : Option Fault) (answered result : Result (Unit {0}) Fault) → OnOk result ((answered ≡ Ok tt) × N)
@@ -107,14 +132,17 @@ answers_of N before after last answered (Err fault) kept (inl is) = inl is
 answers_of N before after last answered (Err fault) kept (inr (is, why)) = inr (is, tt, why.0)
 
 unsent : {O : Type 0} (shown : O → OutputView) (out out' : O) (before after : ℕ) (last : Option Fault) (result : Result (Unit {0}) Fault)
-    → IsRefusedEarly before after last result → shown out' ≡ shown out → IsRefusedUnsent (shown out) (shown out') result
+    → IsRefusedEarly before after last result → shown out' ≡ shown out → IsRefusedUnsent (shown out) (shown out') result × IfErr result IsUnrun
 unsent shown out out' before after last (Ok x) (e, early) same = absurd cc
-unsent shown out out' before after last (Err fault) early same = (same, tt)
+unsent shown out out' before after last (Err fault) (e, early) same = ((same, tt), inr early.0)
 
 -- so it was with a run over a copy, or it was refused before
-pub run_beside : {S O : Type 0} (seen : S → Store) (shown : O → OutputView) (is_new : Bool) (cache_pages before after : ℕ) (last : Option Fault) (old new : Option History) (files : List (List ℕ × List ℕ)) (out out' : O) (lines : List (List ℕ))
-    (result : Result (Unit {0}) Fault) → (IsRefusedEarly before after last result × (shown out' ≡ shown out)) ⊎ RunsOnCopy seen shown is_new cache_pages before after last old new files out out' lines result
-    → IsRun files lines (shown out) (shown out') result
-run_beside seen shown is_new cache_pages before after last old new files out out' lines result (inl (early, same)) = inl (unsent shown out out' before after last result early same)
-run_beside seen shown is_new cache_pages before after last old new files out out' lines result (inr r) =
-    inr (runs_some shown files out out' lines seen r.opened r.answered r.closed r.store result r.run (answers_of (NameIsKept r.store old new) before after last r.answered result r.kept r.refused))
+pub run_beside : {S O : Type 0} (seen : S → Store) (shown : O → OutputView) (work : Work) (script : List ℕ) (before after : ℕ) (last : Option Fault) (old new : Option History) (out out' : O) (result : Result (Unit {0}) Fault)
+    → script ≡ work.script.items
+    → (IsRefusedEarly before after last result × (shown out' ≡ shown out)) ⊎ RunsOnCopy seen shown work.how.is_new work.how.cache_pages before after last old new work.files out out' (lines_of script) result
+    → IsRun work (shown out) (shown out') result
+run_beside seen shown work script before after last old new out out' result is (inl (early, same)) = inl (unsent shown out out' before after last result early same)
+run_beside seen shown work script before after last old new out out' result is (inr r) =
+    inr (runs_some shown work out out' seen r.copy r.opened r.answered r.closed r.store result (record { opens = r.opens; makes = r.makes })
+    (subst (λ (text : List ℕ). RunsOver seen shown r.opened work.files out out' (lines_of text) r.answered r.closed r.store) is r.run)
+    (answers_of (NameIsKept r.store old new) before after last r.answered result r.kept r.refused))

@@ -1,10 +1,9 @@
 -- What the program says where a store of version 1 was brought over, and where it was not.
-use Rattle.std.specs.Prelude.{◌≡◌, ◌⊎◌, codes, IfErr, IsTrue, OnErr, OnOk, Result}
-use Rattle.std.specs.Io.KnownBytes.{Appends}
+use Rattle.std.specs.Prelude.{◌≡◌, ◌⊎◌, codes, IsTrue, Result}
 use Rattle.legs.specs.Book.{Book}
 use Rattle.legs.specs.Costs.{ShapeView}
 use Rattle.legs.specs.Limits.{LimitsView}
-use Rattle.outputs.specs.Output.{OutputView, HasRefused, IsFlushed}
+use Rattle.outputs.specs.Output.{OutputView}
 use Rattle.pages.specs.Store.{Store, IsSynced, Stays}
 use Rattle.pagecache.specs.Cache.{stored_payload}
 use Rattle.catalogue.specs.Beginning.{IsLeftOver}
@@ -23,6 +22,7 @@ use Rattle.sessions.specs.Answers.{BringsButFirst, BringsTooMuch, BringsWhole, I
 use Rattle.sessions.specs.declared.fault.Fault.{Fault}
 use Rattle.sessions.specs.declared.fault.Fault.TheVariants.{Run, Open, CannotRead, CannotWrite, NotEmpty, NoPart, InUse, NoStore, NoSuchStore, Bounds}
 use Rattle.mftb.specs.Running.{AnswersRun}
+use Rattle.mftb.specs.Sending.{IsRefusedFor, SendsAll}
 
 -- the new store is synced, and of faithful stores has all that the old one keeps
 abbrev pub IsBroughtOver : (old new left : Store) → Type 0
@@ -53,22 +53,13 @@ pub record IsNotBrought (old after new left : Store) (fault : Fault) : Type 0 wh
   pub rightly : IsTrue old.is_faithful → IsTrue new.is_faithful
       → IsRightlyRefused old new left fault
 
--- why `ok 0` is withheld: it was brought over, and the output refused a call; or it was not, and nothing was sent
-abbrev pub IsWithheld : (old after new : Store) → (sent sent' : OutputView) → Fault → Type 0
-IsWithheld old after new sent sent' fault =
-    (left : Store)
-    × ((IsBroughtOver old new left × (fault ≡ Run run.Output) × HasRefused sent sent')
-    ⊎ (IsNotBrought old after new left fault × (sent' ≡ sent)))
-
--- a store is brought over into another, which has no page, and that is said
-pub record BringsOver (old after new : Store) (sent sent' : OutputView)
+-- a store is brought over into another, which has no page, and that is sent; or it is not, and nothing was sent. These are
+-- left of both
+pub record BringsOver (old after new left : Store) (sent sent' : OutputView)
     (result : Result (Unit {0}) Fault) : Type 0 where
   pub empty : new.count ≡ 0
-  pub whole : OnOk result ((left : Store) × IsBroughtOver old new left)
-  pub said : OnOk result (Appends sent.contents sent'.contents (codes "ok 0\n"))
-  pub flushed : OnOk result (IsFlushed sent sent')
-  pub unsent : OnErr result ((sent' ≡ sent) ⊎ HasRefused sent sent')
-  pub refused : IfErr result (IsWithheld old after new sent sent')
+  pub brings : (IsBroughtOver old new left × SendsAll (codes "ok 0\n") sent sent' result)
+      ⊎ IsRefusedFor (IsNotBrought old after new left) sent sent' result
   pub stays : Stays old after
 
 -- why two files are not taken: memory ran out; or it is said that the new one has bytes, that the old one has none, or that
@@ -89,6 +80,6 @@ IsUnmigrated (Bounds code) = ⊥
 -- answered
 abbrev pub PerformsMigrate : OutputView → OutputView → Result (Unit {0}) Fault → Type 0
 PerformsMigrate sent sent' result =
-    ((sent' ≡ sent) × OnOk result ⊥ × IfErr result IsUnmigrated)
-    ⊎ ((old after new : Store) × (brought : Result (Unit {0}) Fault)
-    × BringsOver old after new sent sent' brought × AnswersRun brought result)
+    IsRefusedFor IsUnmigrated sent sent' result
+    ⊎ ((old after new left : Store) × (brought : Result (Unit {0}) Fault)
+    × BringsOver old after new left sent sent' brought × AnswersRun brought result)

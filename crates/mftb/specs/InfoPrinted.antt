@@ -1,9 +1,8 @@
 -- What the program prints of a store.
-use Rattle.std.specs.Prelude.{ℕ, ◌≡◌, ◌≢◌, ◌⊎◌, ◌↔◌, Bool, if◌then◌else◌, take, List, length, Option, Some, None, Result, IfErr, IfSome, IsTrue, OnOk}
-use Rattle.std.specs.Io.KnownBytes.{Appends}
+use Rattle.std.specs.Prelude.{ℕ, ◌≡◌, ◌≢◌, ◌⊎◌, ◌↔◌, Bool, if◌then◌else◌, List, length, Option, Some, None, Result, Ok, Err, IfSome, IsTrue}
 use Rattle.std.specs.Option.{option_and_then, option_copied}
 use Rattle.legs.specs.Boxes.{BoxView}
-use Rattle.outputs.specs.Output.{OutputView, HasRefused, IsFlushed}
+use Rattle.outputs.specs.Output.{OutputView}
 use Rattle.pages.specs.Store.{Store, Stays}
 use Rattle.pagecache.specs.Cache.{stored_payload}
 use Rattle.header.specs.Front.{finished_front, front_of}
@@ -11,13 +10,13 @@ use Rattle.boxsearch.specs.Index.{words}
 use Rattle.arguments.specs.declared.task.Info.{Info}
 use Rattle.trajdb.specs.Db.{DbView}
 use Rattle.trajdb.specs.declared.RunFault.{RunFault}
-use Rattle.trajdb.specs.declared.RunFault.TheVariants as run
 use Rattle.reports.specs.Printing.{IsPrintable, IsPrintFault}
 use Rattle.reports.specs.StoreTexts.{json_text, lines_text}
 use Rattle.reports.specs.declared.info_text.StoreReport.{StoreReport}
 use Rattle.sessions.specs.declared.fault.Fault.{Fault}
 use Rattle.sessions.specs.declared.fault.Fault.TheVariants.{Run}
 use Rattle.mftb.specs.PagesRead.{box_of, IsUnread, SaysHeader}
+use Rattle.mftb.specs.Sending.{IsRefusedFor, SendsAll}
 use Rattle.mftb.specs.Unopened.{IsOpened, IsUnasked, IsUnopened}
 use Rattle.mftb.specs.declared.root.Header.{Header}
 
@@ -60,46 +59,50 @@ pub record IsReport (db : DbView) (count : ℕ) (header : Header) (bounds : Opti
   pub limits : said.limits ≡ db.limits
   pub extent : said.extent ≡ bounds
 
--- so it is of a store, which is looked at first and then opened
-pub record IsReportOf (store : Store) (said : StoreReport) : Type 0 where
-  pub seen : Store
-  pub header : Header
-  pub extent : Option BoxView
-  pub pages : SaysPages store seen header extent
-  pub db : DbView
-  pub opened : IsOpened seen cache_pages db
-  pub report : IsReport db store.count header extent said
-
 -- its text, as JSON or as lines
 abbrev pub store_text : Bool → StoreReport → List ℕ
 store_text is_json said = if is_json then json_text said else lines_text said
 
--- why there is none: the database is not opened, which comes first; a page is not read; or it cannot be printed
-abbrev pub IsUntold : Store → Fault → Type 0
-IsUntold store fault =
-    (seen : Store) × Stays store seen
-    × (IsUnopened seen cache_pages fault
-    ⊎ (((db : DbView) × IsOpened seen cache_pages db × IsPageFault store seen fault)
-    ⊎ ((said : StoreReport) × IsReportOf store said × (why : RunFault) × (fault ≡ Run why)
-    × IsPrintFault (IfSome said.extent IsPrintable) why)))
+-- it cannot be printed
+abbrev pub IsUnprinted : StoreReport → Fault → Type 0
+IsUnprinted said fault =
+    (why : RunFault) × (fault ≡ Run why) × IsPrintFault (IfSome said.extent IsPrintable) why
 
--- why it is not sent: there is none, and nothing was sent; or the output refused it, and took a front of it, or all
-abbrev pub IsInfoUnsent : Store → Bool → OutputView → OutputView → Fault → Type 0
-IsInfoUnsent store is_json sent sent' fault =
-    ((sent' ≡ sent) × IsUntold store fault)
-    ⊎ ((said : StoreReport) × IsReportOf store said × (fault ≡ Run run.Output)
-    × HasRefused sent sent'
-    × ((n : ℕ) × Appends sent.contents sent'.contents (take n (store_text is_json said))))
+-- what is said of a database of so many pages, and of what was seen of them, is sent, if it can be
+-- printed
+abbrev pub TellsDatabase : DbView → (count : ℕ) → Header × Option BoxView → Bool → OutputView
+    → OutputView → Result (Unit {0}) Fault → Type 0
+TellsDatabase db count seen is_json sent sent' result =
+    (said : StoreReport) × IsReport db count seen.0 seen.1 said
+    × (IsRefusedFor (IsUnprinted said) sent sent' result
+    ⊎ SendsAll (store_text is_json said) sent sent' result)
 
--- the text of a store is sent, and passed on; or why not
-pub record TellsStore (store : Store) (is_json : Bool) (sent sent' : OutputView)
+-- so it is; or they were not seen, it is answered why, and nothing is sent
+abbrev pub TellsSeen : DbView → (count : ℕ) → Result (Header × Option BoxView) Fault → Bool
+    → OutputView → OutputView → Result (Unit {0}) Fault → Type 0
+TellsSeen db count (Ok seen) is_json sent sent' result =
+    TellsDatabase db count seen is_json sent sent' result
+TellsSeen db count (Err fault) is_json sent sent' result = (sent' ≡ sent) × (result ≡ Err fault)
+
+-- the pages are seen so, or not, and then these are left
+abbrev pub IsSeen : (store after : Store) → Result (Header × Option BoxView) Fault → Type 0
+IsSeen store after (Ok seen) = SaysPages store after seen.0 seen.1
+IsSeen store after (Err fault) = IsPageFault store after fault
+
+-- a store is looked at, and its database is opened: where it is not, that is answered, and nothing is sent; else it is told
+-- of, with what was seen. Then the store is left as it is
+pub record TellsStore (store left : Store) (is_json : Bool) (sent sent' : OutputView)
     (result : Result (Unit {0}) Fault) : Type 0 where
-  pub told : OnOk result ((said : StoreReport) × IsReportOf store said
-      × Appends sent.contents sent'.contents (store_text is_json said) × IsFlushed sent sent')
-  pub refused : IfErr result (IsInfoUnsent store is_json sent sent')
+  pub after : Store
+  pub looks : Stays store after
+  pub seen : Result (Header × Option BoxView) Fault
+  pub says : IsSeen store after seen
+  pub tells : IsRefusedFor (IsUnopened after left cache_pages) sent sent' result
+      ⊎ ((db : DbView) × IsOpened after cache_pages db × (left ≡ db.index.cache.store)
+      × TellsSeen db store.count seen is_json sent sent' result)
 
--- a task is refused as its store is not opened, and nothing was sent; or some store is told of
+-- a task is refused as the file of its store is not opened, and nothing was sent; or some store is told of
 abbrev pub PerformsInfo : Info → OutputView → OutputView → Result (Unit {0}) Fault → Type 0
 PerformsInfo task sent sent' result =
-    ((sent' ≡ sent) × OnOk result ⊥ × IfErr result (IsUnasked task.store.now))
-    ⊎ ((store : Store) × TellsStore store task.is_json sent sent' result)
+    IsRefusedFor (IsUnasked task.store.now) sent sent' result
+    ⊎ ((store left : Store) × TellsStore store left task.is_json sent sent' result)

@@ -5,8 +5,12 @@ pub mod BroughtOver
 pub mod Names
 pub mod PagesRead
 pub mod PartPrinted
+pub mod PartsPut
 pub mod Reading
+pub mod CheckPrinted
+pub mod RunAsked
 pub mod Running
+pub mod Sending
 pub mod Status
 pub mod Unopened
 pub mod MomentsPrinted

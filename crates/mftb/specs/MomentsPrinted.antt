@@ -1,23 +1,22 @@
 -- What the program prints of moments.
-use Rattle.std.specs.Prelude.{ℕ, ◌≡◌, ◌⊎◌, ◌<◌, pos, false, true, take, All, List, length, Option, Some, None, Result, IfErr, OnOk, map, max}
-use Rattle.std.specs.Io.KnownBytes.{Appends}
+use Rattle.std.specs.Prelude.{ℕ, ◌≡◌, ◌⊎◌, ◌<◌, pos, false, true, All, List, length, Option, Some, None, Result, Err, map, max}
 use Rattle.timebase.specs.Period.{PeriodView}
 use Rattle.mfcsv.specs.declared.Dimension.TheVariants.{Two}
 use Rattle.legs.specs.Book.{Book}
 use Rattle.legs.specs.Boxes.{RectView, box_over}
 use Rattle.legs.specs.Questions.{InBox}
 use Rattle.legs.specs.declared.head.BookHead.{BookHead}
-use Rattle.outputs.specs.Output.{OutputView, HasRefused, IsFlushed}
+use Rattle.outputs.specs.Output.{OutputView}
 use Rattle.pages.specs.Store.{Store}
 use Rattle.boxsearch.specs.Index.{words}
 use Rattle.arguments.specs.declared.task.Moments.{Moments}
 use Rattle.arguments.specs.declared.task.RowKind.{RowKind}
 use Rattle.arguments.specs.declared.task.RowKind.TheVariants.{Legs, Visits, Dwell}
-use Rattle.trajdb.specs.Calls.{IsRefused, IsText}
+use Rattle.trajdb.specs.Calls.{IsRefused, IsText, LeavesBook}
 use Rattle.trajdb.specs.Db.{DbView, IsSoundDb}
+use Rattle.trajdb.specs.Promises.{CloseCall}
 use Rattle.trajdb.specs.Telling.{Names}
 use Rattle.trajdb.specs.declared.RunFault.{RunFault}
-use Rattle.trajdb.specs.declared.RunFault.TheVariants as run
 use Rattle.moments.specs.Asking.{AreTold}
 use Rattle.moments.specs.Dwells.{dwells_of}
 use Rattle.moments.specs.Stays.{AreStays}
@@ -28,6 +27,7 @@ use Rattle.reports.specs.declared.moments_text.Frame.{Frame}
 use Rattle.sessions.specs.declared.fault.Fault.{Fault}
 use Rattle.sessions.specs.declared.fault.Fault.TheVariants.{Run}
 use Rattle.mftb.specs.BoundsRefused.{are_words, RefusesBounds, SaysBox}
+use Rattle.mftb.specs.Sending.{IsRefusedFor, SendsAll}
 use Rattle.mftb.specs.Unopened.{IsOpened, IsUnasked, IsUnopened}
 
 -- how stays are written: as the first file said it, or without one from 1970 on, in two dimensions
@@ -68,25 +68,33 @@ module _ (db : DbView) (rect : RectView) (period : PeriodView) where
       × (db.failed ≡ false → IsRefused words db after fault))
       ⊎ ((stays : List Stay) × AreStaysOf stays × IsText (HasNames db.book.names stays rows) fault)
 
-  -- why it is not printed: the output refused it, and took a front of it, or all; or nothing was sent, and there is no such
-  -- text, or the database was not closed, as is said of none that has neither begun nor failed
-  abbrev pub IsMomentsUnsent : RowKind → OutputView → OutputView → Fault → Type 0
-  IsMomentsUnsent rows sent sent' fault =
-      ((text : List ℕ) × TellsMoments rows text × (fault ≡ Run run.Output)
-      × HasRefused sent sent' × ((n : ℕ) × Appends sent.contents sent'.contents (take n text)))
-      ⊎ ((why : RunFault) × (fault ≡ Run why) × (sent' ≡ sent)
-      × (((after : DbView) × IsMomentsFault rows after why)
-      ⊎ (db.begun ≡ false → db.failed ≡ false → ⊥)))
+  -- why nothing is sent: there is no such text, or the database was not closed
+  abbrev pub IsUntold : RowKind → DbView → Result (Unit {0}) RunFault → Fault → Type 0
+  IsUntold rows after closed fault =
+      (why : RunFault) × (fault ≡ Run why)
+      × (IsMomentsFault rows after why ⊎ (closed ≡ Err why))
 
-  -- the text of what the database tells is sent, and passed on; or why not
-  pub record PrintsMoments (rows : RowKind) (sent sent' : OutputView)
+  -- the text of what the database tells is sent, or why it is not; asking leaves the database so,
+  -- and closing that leaves this store
+  pub record PrintsMoments (rows : RowKind) (left : Store) (sent sent' : OutputView)
       (result : Result (Unit {0}) Fault) : Type 0 where
-    pub told : OnOk result ((text : List ℕ) × TellsMoments rows text
-        × Appends sent.contents sent'.contents text × IsFlushed sent sent')
-    pub refused : IfErr result (IsMomentsUnsent rows sent sent')
+    pub after : DbView
+    pub leaves : LeavesBook words db after
+    pub closed : Result (Unit {0}) RunFault
+    pub close : CloseCall after left closed
+    pub prints : ((text : List ℕ) × TellsMoments rows text × SendsAll text sent sent' result)
+        ⊎ IsRefusedFor (IsUntold rows after closed) sent sent' result
 
--- why a task is refused before its database is asked: its rectangle and its period are, which comes first; or its store is
--- not opened
+-- the database of a store is not opened, and nothing was sent; or it tells what is asked of it
+abbrev pub AsksStore : Moments → RectView → PeriodView → (store left : Store)
+    → OutputView → OutputView → Result (Unit {0}) Fault → Type 0
+AsksStore task rect period store left sent sent' result =
+    IsRefusedFor (IsUnopened store left (max task.cache_pages 1)) sent sent' result
+    ⊎ ((db : DbView) × IsOpened store (max task.cache_pages 1) db
+    × PrintsMoments db rect period task.rows left sent sent' result)
+
+-- why a task is refused before its store is: its rectangle and its period are, which comes first; or the file of its store
+-- is not opened
 abbrev pub IsMomentsRefused : Moments → Fault → Type 0
 IsMomentsRefused task fault =
     RefusesBounds (map (λ text. text.now) task.bounds.corners)
@@ -94,17 +102,15 @@ IsMomentsRefused task fault =
     ⊎ ((rect : RectView) × (period : PeriodView)
     × SaysBox (map (λ text. text.now) task.bounds.corners)
     (map (λ text. text.now) task.bounds.times) rect period
-    × (IsUnasked task.store.now fault
-    ⊎ ((store : Store) × IsUnopened store (max task.cache_pages 1) fault)))
+    × IsUnasked task.store.now fault)
 
--- a task is refused before, and nothing was sent; or a database of some store tells what it asks
+-- a task is refused before, and nothing was sent; or some store is asked what it says
 abbrev pub PerformsMoments : Moments → OutputView → OutputView → Result (Unit {0}) Fault → Type 0
 PerformsMoments task sent sent' result =
-    ((sent' ≡ sent) × OnOk result ⊥ × IfErr result (IsMomentsRefused task))
-    ⊎ ((store : Store) × (db : DbView) × IsOpened store (max task.cache_pages 1) db
-    × (rect : RectView) × (period : PeriodView)
+    IsRefusedFor (IsMomentsRefused task) sent sent' result
+    ⊎ ((store left : Store) × (rect : RectView) × (period : PeriodView)
     × (are_words (map (λ text. text.now) task.bounds.corners)
     (map (λ text. text.now) task.bounds.times) ≡ true)
     × SaysBox (map (λ text. text.now) task.bounds.corners)
     (map (λ text. text.now) task.bounds.times) rect period
-    × PrintsMoments db rect period task.rows sent sent' result)
+    × AsksStore task rect period store left sent sent' result)

@@ -38,9 +38,9 @@ IsUnasked store (Bounds code) = ⊥
 abbrev pub IsOpened : Store → ℕ → DbView → Type 0
 IsOpened store cache_pages db = OpenCall (λ (s : Store). s) store cache_pages (Ok db)
 
--- it is not: memory ran out, or that call says why
-abbrev pub IsUnopened : Store → ℕ → Fault → Type 0
-IsUnopened store cache_pages fault =
-    (fault ≡ Run run.Memory)
-    ⊎ ((left : Store) × (why : CatalogueFault) × (fault ≡ Open why)
+-- it is not, which left the store so: memory ran out, or that call says why
+abbrev pub IsUnopened : (store left : Store) → ℕ → Fault → Type 0
+IsUnopened store left cache_pages fault =
+    ((fault ≡ Run run.Memory) × (left ≡ store))
+    ⊎ ((why : CatalogueFault) × (fault ≡ Open why)
     × OpenCall (λ (s : Store). s) store cache_pages (Err (left, why)))

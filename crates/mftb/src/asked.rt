@@ -31,20 +31,21 @@ pub(crate) fn store_to_ask<'a, R: Files<File = File> + AllocGlobal>(
     open_asked(rt, &names)
 }
 
-/// The database of a store.
+/// The database of a store; where it is not opened, the store is given back.
 pub(crate) fn database_to_ask<'a, R: AllocGlobal + RandomSource, S: PageStore + Drop>(
     rt: &R,
     store: S,
     cache_pages: u32,
-) -> Result<Db<S>, Fault<'a>>
+) -> Result<Db<S>, (S, Fault<'a>)>
     ensures opened { IfOk result (IsOpened (S.seen store) (max cache_pages 1)) }
-    ensures refused { IfErr result (IsUnopened (S.seen store) (max cache_pages 1)) }
+    ensures refused { IfErr result (λ back. IsUnopened (S.seen store) (S.seen back.0)
+        (max cache_pages 1) back.1) }
 {
     let Ok(keys) = RandomState::new(rt) else {
-        return Err(Fault::Run(RunFault::Memory));
+        return Err((store, Fault::Run(RunFault::Memory)));
     };
     match Db::open(rt.alloc(), keys, store, cache_pages.max(1) as usize) {
         Ok(database) => Ok(database),
-        Err((_, fault)) => Err(Fault::Open(fault)),
+        Err((store, fault)) => Err((store, Fault::Open(fault))),
     }
 }

@@ -1,8 +1,9 @@
 //! The files of all parts of a file, in a folder of the system.
-ghost use Rattle.std.specs.Prelude.{ℕ, ◌≡◌, ◌≤◌, ◌<◌, ◌+◌, Err, IfErr, IfOk, None, Some};
+ghost use Rattle.std.specs.Prelude.{ℕ, ◌≡◌, ◌≤◌, ◌<◌, ◌+◌, Err, IfErr, IfOk, None, OnOk, Some};
 ghost use Rattle.std.specs.String.{string_bytes};
 ghost use Rattle.mftb.specs.Names.{part_name};
 ghost use Rattle.mftb.specs.PartPrinted.{IsPartsFault};
+ghost use Rattle.mftb.specs.PartsPut.{AsksFor, IsNoPart, PerformsParts, PutsAsked, PutsCount};
 ghost use Rattle.sessions.specs.declared.fault.Fault.{Fault};
 
 use arguments::Parts;
@@ -57,7 +58,82 @@ impl<'a, R: Files<File = File> + AllocGlobal> PartFolder for SystemParts<'a, R> 
     }
 }
 
-/// Reads a file, and puts parts of it into a folder.
+/// How many parts are asked for; refused where some of them are not there.
+fn count_of<'a>(task: &Parts<'_>) -> Result<u32, Fault<'a>>
+    ensures first { task.now.parts ≤ task.now.first
+        → result ≡ Err (Fault.NoPart task.now.first task.now.parts) }
+    ensures count { (n : ℕ) → task.now.first < task.now.parts → task.now.count ≡ Some n
+        → task.now.parts < task.now.first + n
+        → result ≡ Err (Fault.NoPart task.now.parts task.now.parts) }
+    ensures asked { IfOk result (AsksFor task.now) }
+    ensures some { OnOk result (0 < task.now.parts) }
+    ensures within { IfOk result (λ count. task.now.first + count ≤ task.now.parts) }
+    ensures fault { IfErr result (IsPartsFault task.now) }
+    ensures refused { IfErr result (IsNoPart task.now) }
+{
+    if task.first >= task.parts {
+        return Err(Fault::NoPart(task.first, task.parts));
+    }
+    let most = task.parts - task.first;
+    match task.count {
+        Some(count) if count > most => Err(Fault::NoPart(task.parts, task.parts)),
+        Some(count) => Ok(count),
+        None => Ok(most),
+    }
+}
+
+/// Puts so many parts of a file into a folder, from the first one on that is asked for.
+fn put_count<'a, F: PartFolder>(
+    alloc: Global,
+    folder: &mut F,
+    task: &Parts<'a>,
+    count: u32,
+    bytes: &[u8],
+) -> Result<(), Fault<'a>>
+    requires some { 0 < task.now.parts }
+    requires within { task.now.first + count ≤ task.now.parts }
+    ensures puts { PutsCount task.now count bytes.now (F.puts folder.old) (F.puts folder.new)
+        (F.refusals folder.old) (F.refusals folder.new) result }
+    ensures fault { IfErr result (IsPartsFault task.now) }
+{
+    match put_parts(
+        alloc,
+        folder,
+        task.parts as u64,
+        task.first as u64,
+        count as u64,
+        bytes,
+    ) {
+        Ok(()) => Ok(()),
+        Err(RunFault::Output) => Err(Fault::CannotWrite(task.folder)),
+        Err(fault) => Err(Fault::Run(fault)),
+    }
+}
+
+/// Reads a file, and puts the parts of it that are asked for into a folder.
+fn put_asked<'a, R: Files + AllocGlobal, F: PartFolder>(
+    rt: &R,
+    folder: &mut F,
+    task: &Parts<'a>,
+) -> Result<(), Fault<'a>>
+    ensures first { task.now.parts ≤ task.now.first
+        → result ≡ Err (Fault.NoPart task.now.first task.now.parts) }
+    ensures count { (n : ℕ) → task.now.first < task.now.parts → task.now.count ≡ Some n
+        → task.now.parts < task.now.first + n
+        → result ≡ Err (Fault.NoPart task.now.parts task.now.parts) }
+    ensures fault { IfErr result (IsPartsFault task.now) }
+    ensures put { PutsAsked task.now (F.puts folder.old) (F.puts folder.new)
+        (F.refusals folder.old) (F.refusals folder.new) result }
+{
+    let count = match count_of(task) {
+        Ok(count) => count,
+        Err(fault) => return Err(fault),
+    };
+    let bytes = read_named(rt, task.file, MOST_BYTES)?;
+    put_count(rt.alloc(), folder, task, count, &bytes)
+}
+
+/// Reads a file, and puts parts of it into a folder of the system.
 pub(crate) fn write_parts<'a, R: Files<File = File> + AllocGlobal>(
     rt: &R,
     task: &Parts<'a>,
@@ -68,30 +144,12 @@ pub(crate) fn write_parts<'a, R: Files<File = File> + AllocGlobal>(
         → task.now.parts < task.now.first + n
         → result ≡ Err (Fault.NoPart task.now.parts task.now.parts) }
     ensures fault { IfErr result (IsPartsFault task.now) }
+    ensures put { PerformsParts task.now result }
 {
-    if task.first >= task.parts {
-        return Err(Fault::NoPart(task.first, task.parts));
-    }
-    let most = task.parts - task.first;
-    let count = match task.count {
-        Some(count) if count > most => return Err(Fault::NoPart(task.parts, task.parts)),
-        Some(count) => count,
-        None => most,
-    };
-    let bytes = read_named(rt, task.file, MOST_BYTES)?;
     let mut folder = SystemParts {
         rt,
         folder: task.folder,
         refusals: Refusals::none(),
     };
-    let (n, first, count) = (
-        u64::from(task.parts),
-        u64::from(task.first),
-        u64::from(count),
-    );
-    match put_parts(rt.alloc(), &mut folder, n, first, count, &bytes) {
-        Ok(()) => Ok(()),
-        Err(RunFault::Output) => Err(Fault::CannotWrite(task.folder)),
-        Err(fault) => Err(Fault::Run(fault)),
-    }
+    put_asked(rt, &mut folder, task)
 }

@@ -2,7 +2,7 @@
 ghost use Rattle.std.specs.Prelude.{◌≡◌, IfErr, IfOk, IfSome};
 ghost use Rattle.pages.specs.Store.{Stays};
 ghost use Rattle.reports.specs.Printing.{IsPrintable, IsPrintFault};
-ghost use Rattle.mftb.specs.InfoPrinted.{store_text, IsPageFault, IsReport, PerformsInfo, SaysPages, TellsStore};
+ghost use Rattle.mftb.specs.InfoPrinted.{store_text, IsPageFault, IsReport, PerformsInfo, SaysPages, TellsDatabase, TellsStore};
 
 use crate::asked::{database_to_ask, store_to_ask};
 use crate::root::{Header, read_extent, read_header};
@@ -64,21 +64,45 @@ fn text_of(alloc: Global, said: &StoreReport<'_>, is_json: bool) -> Result<Vec<u
     Ok(text)
 }
 
-/// Prints what a store holds.
+/// Prints what is said of a database, and of what was seen of its pages.
+fn tell_database<'a, S: PageStore, O: Output>(
+    alloc: Global,
+    database: &Db<S>,
+    pages: u32,
+    seen: (Header, Option<Box3>),
+    is_json: bool,
+    out: &mut O,
+) -> Result<(), Fault<'a>>
+    ensures { TellsDatabase database.now pages seen is_json (O.seen out.old) (O.seen out.new)
+        result }
+{
+    let text = text_of(alloc, &said_of(database, pages, seen), is_json)?;
+    send_all(out, &text)
+}
+
+/// Prints what a store holds, which is given back.
 fn tell_store<'a, R: AllocGlobal + RandomSource, S: PageStore + Drop, O: Output>(
     rt: &R,
     mut store: S,
     is_json: bool,
     out: &mut O,
-) -> Result<(), Fault<'a>>
-    ensures { TellsStore (S.seen store) is_json (O.seen out.old) (O.seen out.new) result }
+) -> (S, Result<(), Fault<'a>>)
+    ensures { TellsStore (S.seen store) (S.seen result.0) is_json (O.seen out.old)
+        (O.seen out.new) result.1 }
 {
     let pages = store.len();
     let seen = look(&mut store);
     // Why the database is not opened comes first.
-    let database = database_to_ask(rt, store, CACHE_PAGES)?;
-    let text = text_of(rt.alloc(), &said_of(&database, pages, seen?), is_json)?;
-    send_all(out, &text)
+    match database_to_ask(rt, store, CACHE_PAGES) {
+        Ok(database) => match seen {
+            Ok(seen) => {
+                let told = tell_database(rt.alloc(), &database, pages, seen, is_json, out);
+                (database.abandon(), told)
+            }
+            Err(fault) => (database.abandon(), Err(fault)),
+        },
+        Err((store, fault)) => (store, Err(fault)),
+    }
 }
 
 /// Opens the store to be read alone, and prints what it holds.
@@ -90,5 +114,6 @@ pub(crate) fn print_info<'a, R: Files<File = File> + AllocGlobal + RandomSource,
     ensures { PerformsInfo task.now (O.seen out.old) (O.seen out.new) result }
 {
     let store = store_to_ask(rt, task.store)?;
-    tell_store(rt, store, task.is_json, out)
+    let (_store, told) = tell_store(rt, store, task.is_json, out);
+    told
 }

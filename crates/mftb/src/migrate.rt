@@ -25,22 +25,23 @@ fn not_new<'a, R: Files<File = File> + AllocGlobal>(rt: &R, name: &str) -> Fault
     }
 }
 
-/// Brings a store of version 1 over into a new one, as `sessions::migrate_and_close` does, and says so.
+/// Brings a store of version 1 over into a new one, as `sessions::migrate_and_close` does, and says so. The new one is
+/// given back.
 fn bring_over<'a, S: PageStore, T: PageStore + Drop, O: Output>(
     alloc: Global,
     keys: RandomState,
     old: &mut S,
     new: T,
     out: &mut O,
-) -> Result<(), Fault<'a>>
+) -> (T, Result<(), Fault<'a>>)
     requires { (T.seen new).count ≡ 0 }
-    ensures { BringsOver (S.seen old.old) (S.seen old.new) (T.seen new) (O.seen out.old)
-        (O.seen out.new) result }
+    ensures { BringsOver (S.seen old.old) (S.seen old.new) (T.seen new) (T.seen result.0)
+        (O.seen out.old) (O.seen out.new) result.1 }
 {
     let (store, migrated) = migrate_and_close(alloc, keys, old, new);
     match migrated {
-        Ok(()) => send_all(out, "ok 0\n".as_bytes()),
-        Err(fault) => Err(fault),
+        Ok(()) => (store, send_all(out, "ok 0\n".as_bytes())),
+        Err(fault) => (store, Err(fault)),
     }
 }
 
@@ -68,7 +69,8 @@ pub(crate) fn migrate<'a, R: Files<File = File> + AllocGlobal + RandomSource, O:
     if new.len() != 0 {
         return Err(Fault::NotEmpty);
     }
-    match bring_over(rt.alloc(), keys, &mut old, new, out) {
+    let (_store, brought) = bring_over(rt.alloc(), keys, &mut old, new, out);
+    match brought {
         Ok(()) => Ok(()),
         Err(fault) => Err(names.caused(fault)),
     }

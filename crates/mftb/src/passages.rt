@@ -1,8 +1,10 @@
 //! `mftb moments`: when legs are inside a rectangle in a period.
-ghost use Rattle.std.specs.Prelude.{◌≡◌, IfErr, IfOk, OnOk};
+ghost use Rattle.std.specs.Prelude.{◌≡◌, Err, IfErr, IfOk, OnOk};
 ghost use Rattle.boxsearch.specs.Index.{words};
 ghost use Rattle.trajdb.specs.Calls.{IsText, LeavesBook};
-ghost use Rattle.mftb.specs.MomentsPrinted.{frame_of, moments_text, HasNames, IsMomentsFault, PerformsMoments, PrintsMoments, TellsMoments};
+ghost use Rattle.sessions.specs.declared.fault.Fault.{Fault};
+ghost use Rattle.mftb.specs.MomentsPrinted.{frame_of, moments_text, AsksStore, HasNames, IsMomentsFault, PerformsMoments, PrintsMoments, TellsMoments};
+ghost use Rattle.mftb.specs.Sending.{SendsAll};
 
 use crate::asked::{database_to_ask, store_to_ask};
 use crate::bounds::read_bounds;
@@ -87,23 +89,61 @@ fn ask<S: PageStore>(
     text_of(alloc, database, &stays, period, rows)
 }
 
-/// Asks a database of the rectangle in the period, closes it, and prints its answer.
-fn print_over<'a, S: PageStore + Drop, O: Output>(
+/// Sends a text, where there is one, and its database was closed.
+fn send_told<'a, O: Output>(
+    told: Result<Vec<u8>, RunFault>,
+    closed: Result<(), RunFault>,
+    out: &mut O,
+) -> Result<(), Fault<'a>>
+    ensures sends { IfOk told (λ text. OnOk closed
+        (SendsAll text.items (O.seen out.old) (O.seen out.new) result)) }
+    ensures untold { IfErr told (λ why. (O.seen out.new ≡ O.seen out.old)
+        × (result ≡ Err (Fault.Run why))) }
+    ensures unclosed { OnOk told (IfErr closed (λ why. (O.seen out.new ≡ O.seen out.old)
+        × (result ≡ Err (Fault.Run why)))) }
+{
+    match told {
+        Ok(text) => match closed {
+            Ok(()) => send_all(out, &text),
+            Err(fault) => Err(Fault::Run(fault)),
+        },
+        Err(fault) => Err(Fault::Run(fault)),
+    }
+}
+
+/// Asks a database of the rectangle in the period, closes it, and prints its answer. Its store is given back.
+fn print_over<'a, S: PageStore, O: Output>(
     alloc: Global,
     mut database: Db<S>,
     asked: (Rect, Period),
     rows: RowKind,
     out: &mut O,
-) -> Result<(), Fault<'a>>
-    ensures { PrintsMoments database asked.0 asked.1 rows (O.seen out.old) (O.seen out.new)
-        result }
+) -> (S, Result<(), Fault<'a>>)
+    ensures { PrintsMoments database asked.0 asked.1 rows (S.seen result.0) (O.seen out.old)
+        (O.seen out.new) result.1 }
 {
     let (rect, period) = asked;
     let told = ask(alloc, &mut database, &rect, &period, rows);
-    let (_store, closed) = database.close(alloc);
-    let text = told?;
-    closed?;
-    send_all(out, &text)
+    let (store, closed) = database.close(alloc);
+    let sent = send_told(told, closed, out);
+    (store, sent)
+}
+
+/// Opens the database of a store, asks it of the rectangle in the period, and prints its answer. The store is given back.
+fn print_store<'a, R: AllocGlobal + RandomSource, S: PageStore + Drop, O: Output>(
+    rt: &R,
+    task: &Moments<'a>,
+    store: S,
+    asked: (Rect, Period),
+    out: &mut O,
+) -> (S, Result<(), Fault<'a>>)
+    ensures { AsksStore task.now asked.0 asked.1 (S.seen store) (S.seen result.0)
+        (O.seen out.old) (O.seen out.new) result.1 }
+{
+    match database_to_ask(rt, store, task.cache_pages) {
+        Ok(database) => print_over(rt.alloc(), database, asked, task.rows, out),
+        Err((store, fault)) => (store, Err(fault)),
+    }
 }
 
 /// Opens the store to be read alone, and prints when legs of its database are inside the rectangle in the period.
@@ -116,6 +156,6 @@ pub(crate) fn print_moments<'a, R: Files<File = File> + AllocGlobal + RandomSour
 {
     let asked = read_bounds(rt.alloc(), &task.bounds)?;
     let store = store_to_ask(rt, task.store)?;
-    let database = database_to_ask(rt, store, task.cache_pages)?;
-    print_over(rt.alloc(), database, asked, task.rows, out)
+    let (_store, printed) = print_store(rt, task, store, asked, out);
+    printed
 }

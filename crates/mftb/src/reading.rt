@@ -1,7 +1,8 @@
 //! What a run reads before it opens a store.
-ghost use Rattle.std.specs.Prelude.{◌≡◌, ℕ, [], List, IfOk, OnOk, map};
+ghost use Rattle.std.specs.Prelude.{◌≡◌, ℕ, [], List, IfErr, IfOk, OnOk, map};
 ghost use Rattle.trajdb.specs.Files.{files_with};
-ghost use Rattle.mftb.specs.Reading.{AreRead};
+ghost use Rattle.sessions.specs.Reading.{IsUnreadFile};
+ghost use Rattle.mftb.specs.Reading.{AreRead, IsOneUnread};
 
 use sessions::{Cause, Fault, MOST_BYTES, read_named};
 use std::fs::File;
@@ -14,8 +15,9 @@ fn add_file<'a, R: rt::Files + AllocGlobal>(
     files: &mut Files,
     name: &'a str,
 ) -> Result<(), Fault<'a>>
-    ensures { OnOk result ((bytes : List ℕ)
+    ensures added { OnOk result ((bytes : List ℕ)
         × (files.new ≡ files_with files.old name.now bytes)) }
+    ensures refused { IfErr result (IsUnreadFile name.now) }
 {
     let bytes = read_named(rt, name, MOST_BYTES)?;
     match files.add(name, bytes) {
@@ -29,7 +31,8 @@ pub(crate) fn read_files<'a, R: rt::Files + AllocGlobal>(
     rt: &R,
     names: &[&'a str],
 ) -> Result<Files, Fault<'a>>
-    ensures { IfOk result (AreRead [] (map (λ n. n.now) names.now)) }
+    ensures read { IfOk result (AreRead [] (map (λ n. n.now) names.now)) }
+    ensures refused { IfErr result (IsOneUnread (map (λ n. n.now) names.now)) }
 {
     let mut files = Files::new(rt.alloc());
     for name in names {

@@ -1,12 +1,13 @@
 //! `mftb run`: a script over the database that a file keeps.
-ghost use Rattle.std.specs.Prelude.{◌≡◌, ◌⊎◌, ◌<◌, ◌↔◌, [], Err, None, IfOk, IsTrue, false, map, max, true};
+ghost use Rattle.std.specs.Prelude.{◌≡◌, ◌⊎◌, ◌<◌, ◌↔◌, [], Err, None, IfErr, IfOk, IsTrue, false, map, max, true};
 ghost use Rattle.sessions.specs.declared.fault.Fault.{Fault};
 ghost use Rattle.monitor.specs.Notes.{refused_of};
 ghost use Rattle.trajdb.specs.Calls.{HasLoad};
 ghost use Rattle.trajdb.specs.Script.{lines_of};
 ghost use Rattle.trajdb.specs.declared.RunFault.{RunFault};
-ghost use Rattle.mftb.specs.Reading.{AreRead};
-ghost use Rattle.mftb.specs.Running.{IsRun, IsRunBy, IsRunInPlace, IsLeftUnsaid, RunsInPlace, AnswersRun};
+ghost use Rattle.mftb.specs.Reading.{AreRead, IsOneUnread};
+ghost use Rattle.mftb.specs.RunAsked.{IsRunBy, IsRunRefused};
+ghost use Rattle.mftb.specs.Running.{IsRun, IsRunInPlace, IsLeftUnsaid, RunsInPlace, AnswersRun};
 ghost use Rattle.mftb.specs.declared.outcome.Outcome.{Outcome};
 
 use crate::locks::hold_name;
@@ -67,17 +68,21 @@ fn unsaid(said: &Result<(), Fault<'_>>, closed: Result<(), RunFault>) -> Option<
     }
 }
 
-/// Runs the script over a store as it lies there, as `sessions::answer` does.
-fn run_over<'a, S: PageStore + Drop, O: Output>(store: S, work: &Work, out: &mut O) -> Ended<'a>
+/// Runs the script over a store as it lies there, as `sessions::answer` does. The store is given back.
+fn run_over<'a, S: PageStore + Drop, O: Output>(
+    store: S,
+    work: &Work,
+    out: &mut O,
+) -> (S, Ended<'a>)
     requires { 0 < work.now.how.cache_pages }
-    ensures { RunsInPlace work.now.files (lines_of work.now.script.items) (O.seen out.old)
-        (O.seen out.new) result.0 result.1 }
+    ensures { RunsInPlace work.now (S.seen store) (S.seen result.0) (O.seen out.old)
+        (O.seen out.new) result.1.0 result.1.1 }
 {
     let how = work.how;
     let opened = database(how.alloc, how.keys, store, how.is_new, how.cache_pages);
-    let (_store, said, closed) = answer(how.alloc, opened, &work.script, &work.files, out);
+    let (store, said, closed) = answer(how.alloc, opened, &work.script, &work.files, out);
     let unsaid = unsaid(&said, closed);
-    (said, unsaid)
+    (store, (said, unsaid))
 }
 
 /// Runs a script that only asks over a store that is there. It is opened to be read alone.
@@ -88,12 +93,33 @@ fn ask<'a, R: rt::Files<File = File> + rt::Clock + Eprint, O: Output>(
     out: &mut O,
 ) -> Ended<'a>
     requires { 0 < work.now.how.cache_pages }
-    ensures { IsRunInPlace work.now.files (lines_of work.now.script.items) (O.seen out.old)
-        (O.seen out.new) result.0 result.1 }
+    ensures { IsRunInPlace work.now (O.seen out.old) (O.seen out.new) result.0 result.1 }
 {
     sweep(rt, &work.names);
     match open_asked(rt, &work.names) {
-        Ok(store) => run_over(Noted::new(store, progress), work, out),
+        Ok(store) => {
+            let (_store, ended) = run_over(Noted::new(store, progress), work, out);
+            ended
+        }
+        Err(fault) => (Err(fault), None),
+    }
+}
+
+/// Runs a script that may write over a store that is opened as it lies there.
+fn open_and_run<'a, R: rt::Files<File = File> + rt::Clock + Eprint, O: Output>(
+    rt: &R,
+    work: &Work,
+    progress: &Progress<'_, R>,
+    out: &mut O,
+) -> Ended<'a>
+    requires { 0 < work.now.how.cache_pages }
+    ensures { IsRunInPlace work.now (O.seen out.old) (O.seen out.new) result.0 result.1 }
+{
+    match open_in_place(rt, &work.names) {
+        Ok(store) => {
+            let (_store, ended) = run_over(Noted::new(store, progress), work, out);
+            ended
+        }
         Err(fault) => (Err(fault), None),
     }
 }
@@ -107,18 +133,14 @@ fn run_in_place<'a, R: rt::Files<File = File> + rt::Clock + Eprint, O: Output>(
     out: &mut O,
 ) -> Ended<'a>
     requires { 0 < work.now.how.cache_pages }
-    ensures { IsRunInPlace work.now.files (lines_of work.now.script.items) (O.seen out.old)
-        (O.seen out.new) result.0 result.1 }
+    ensures { IsRunInPlace work.now (O.seen out.old) (O.seen out.new) result.0 result.1 }
 {
     let names = &work.names;
     let lock = match hold_name(rt, names.lock.as_str()) {
         Err(Fault::InUse) => return (Err(Fault::InUse), None),
         held => held.ok(),
     };
-    let ended = match open_in_place(rt, names) {
-        Ok(store) => run_over(Noted::new(store, progress), work, out),
-        Err(fault) => (Err(fault), None),
-    };
+    let ended = open_and_run(rt, work, progress, out);
     if let Some(lock) = lock {
         if lock.is_locked {
             let _ = fs::remove_file(rt, names.copy.as_str());
@@ -136,8 +158,7 @@ fn run_beside<'a, R: rt::Files<File = File> + rt::Clock + Eprint, O: Output>(
     out: &mut O,
 ) -> Result<(), Fault<'a>>
     requires { 0 < work.now.how.cache_pages }
-    ensures { IsRun work.now.files (lines_of work.now.script.items) (O.seen out.old)
-        (O.seen out.new) result }
+    ensures { IsRun work.now (O.seen out.old) (O.seen out.new) result }
 {
     let mut folder = SystemFolder::take(rt, &work.names, progress)?;
     let result = run_on_copy(&mut folder, work.how, &work.script, &work.files, out);
@@ -165,18 +186,17 @@ fn run_as_asked<'a, R: rt::Files<File = File> + rt::Clock + Eprint, O: Output>(
     out: &mut O,
 ) -> Ended<'a>
     requires { 0 < work.now.how.cache_pages }
-    ensures runs { IsRun work.now.files (lines_of work.now.script.items) (O.seen out.old)
-        (O.seen out.new) result.0 }
+    ensures runs { IsRun work.now (O.seen out.old) (O.seen out.new) result.0 }
 
     // Something is left unsaid only of a store that was run over as it lies there; and where that is asked for, or the
     // store is there and the script only asks, just what the answer leaves unsaid.
-    ensures unsaid { (result.1 ≡ None) ⊎ IsRunInPlace work.now.files
-        (lines_of work.now.script.items) (O.seen out.old) (O.seen out.new) result.0 result.1 }
-    ensures in_place { IsTrue is_in_place → IsRunInPlace work.now.files
-        (lines_of work.now.script.items) (O.seen out.old) (O.seen out.new) result.0 result.1 }
+    ensures unsaid { (result.1 ≡ None)
+        ⊎ IsRunInPlace work.now (O.seen out.old) (O.seen out.new) result.0 result.1 }
+    ensures in_place { IsTrue is_in_place
+        → IsRunInPlace work.now (O.seen out.old) (O.seen out.new) result.0 result.1 }
     ensures asks { work.now.how.is_new ≡ false
-        → (HasLoad (lines_of work.now.script.items) → ⊥) → IsRunInPlace work.now.files
-        (lines_of work.now.script.items) (O.seen out.old) (O.seen out.new) result.0 result.1 }
+        → (HasLoad (lines_of work.now.script.items) → ⊥)
+        → IsRunInPlace work.now (O.seen out.old) (O.seen out.new) result.0 result.1 }
 {
     let how = work.how;
     let loads = match has_load(how.alloc, &work.script) {
@@ -197,6 +217,14 @@ fn is_without_legs<R: rt::Files<File = File>>(rt: &R, name: &str, is_told: bool)
     is_told && reach_of(rt, name) == Reach::Nowhere
 }
 
+/// The files that a run may load.
+fn files_of<'a, R: rt::Files + AllocGlobal>(rt: &R, run: &Run<'a>) -> Result<Files, Fault<'a>>
+    ensures read { IfOk result (AreRead [] (map (λ n. n.now) run.now.files.items)) }
+    ensures refused { IfErr result (IsOneUnread (map (λ n. n.now) run.now.files.items)) }
+{
+    read_files(rt, &run.files)
+}
+
 /// Reads all that is named, and looks whether the store is there.
 fn read_work<'a, R: rt::Files<File = File> + AllocGlobal + RandomSource>(
     rt: &R,
@@ -209,9 +237,10 @@ fn read_work<'a, R: rt::Files<File = File> + AllocGlobal + RandomSource>(
         → work.how.is_new ≡ false) }
     ensures files { IfOk result (λ work. AreRead [] (map (λ n. n.now) run.now.files.items)
         work.files) }
+    ensures refused { IfErr result (IsRunRefused run.now) }
 {
     let script = read_named(rt, run.script, MOST_BYTES)?;
-    let files = read_files(rt, &run.files)?;
+    let files = files_of(rt, run)?;
     let Ok(keys) = RandomState::new(rt) else {
         return Err(Fault::Run(RunFault::Memory));
     };
@@ -263,8 +292,7 @@ pub(crate) fn run<
     R: rt::Files<File = File> + rt::Clock + Eprint + AllocGlobal + RandomSource,
     O: Output + Drop,
 >(rt: &R, run: &Run<'a>, out: O, is_terminal: bool) -> (O, Result<Outcome, Fault<'a>>)
-    ensures runs { IsRunBy (map (λ n. n.now) run.now.files.items) (O.seen out) (O.seen result.0)
-        result.1 }
+    ensures runs { IsRunBy run.now (O.seen out) (O.seen result.0) result.1 }
     ensures strict { IfOk result.1 (λ outcome. outcome ≡ Outcome.Refused
         → IsTrue run.now.is_strict) }
 {

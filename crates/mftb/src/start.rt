@@ -1,8 +1,9 @@
 //! The program, over any runtime and writers.
 ghost use Rattle.std.specs.Prelude.{◌≡◌, ◌≤◌, ◌↔◌, codes, map, Any, IsTrue};
 ghost use Rattle.std.specs.String.{string_bytes};
+ghost use Rattle.clap.specs.Words.{kind_of};
 ghost use Rattle.mftb.specs.Status.{exit_status};
-ghost use Rattle.mftb.specs.Performing.{ends_as, EndsBy, EndsTask, Performs};
+ghost use Rattle.mftb.specs.Performing.{ends_as, EndsBy, EndsTask, EndsUnread, Performs};
 
 use crate::check::check;
 use crate::file_part::print_part;
@@ -76,7 +77,8 @@ fn has_strict(words: &[String]) -> bool
 
 /// Says why the words are not read, or gives the help that they ask for: the exit status.
 fn answer_words<W: Write, V: Write>(error: &Error, out: &mut W, faults: &mut V) -> u8
-    ensures { result ≤ 2 }
+    ensures ends { EndsUnread (kind_of error.now) result }
+    ensures most { result ≤ 2 }
 {
     if error.kind() == ErrorKind::OutOfMemory {
         let _ = writeln!(faults, "mftb: memory");
@@ -122,8 +124,12 @@ fn answer_task<
     status_of(&ended, has_strict(words))
 }
 
-/// Runs the program, and answers its exit status: 0, or 3 where a line or a file was refused and
-/// `--strict` is among the words, or 2 for wrong words, or 1 for any other fault.
+/// Runs the program, and answers its exit status: that of the task for which the words ask, and
+/// else 0 where they ask for help or the version, 2 where they are wrong, and 1 where memory ran
+/// out.
+///
+/// Of a task it is 0, or 3 where a line or a file was refused and `--strict` is among the words, or
+/// 2 for bounds or a part that are wrong, or 1 for any other fault.
 ///
 /// `words` has the program's name first. Answers and help go to `out`, faults to `faults`.
 /// What a long run is doing, and in words what went wrong, is said on standard error, which may be a

@@ -1,6 +1,7 @@
 //! The folder of a store's file, as the system has it.
 ghost use Rattle.std.specs.Prelude.{◌≡◌, false, None, IfErr, IsTrue, OnOk};
 ghost use Rattle.sessions.specs.Folder.{IsOfFolder};
+ghost use Rattle.mftb.specs.Unopened.{IsUnheld};
 
 use crate::held_file::HeldFile;
 use crate::locks::{Held, Hold, hold_name, is_named, open_held};
@@ -46,7 +47,9 @@ pub(crate) struct SystemFolder<'a, 'p, R: Files<File = File> + Clock + Eprint> {
 }
 
 /// Takes a file's name away, where it has one.
-fn remove<'a, R: Files>(rt: &R, name: &str) -> Result<(), Fault<'a>> {
+fn remove<'a, R: Files>(rt: &R, name: &str) -> Result<(), Fault<'a>>
+    ensures { IfErr result IsUnheld }
+{
     match fs::remove_file(rt, name) {
         Ok(()) => Ok(()),
         Err(error) if error.kind() == io::ErrorKind::NotFound => Ok(()),
@@ -55,7 +58,9 @@ fn remove<'a, R: Files>(rt: &R, name: &str) -> Result<(), Fault<'a>> {
 }
 
 /// Takes the store's file to be read, where there is one that this run may write as well.
-fn take_store<'a, R: Files<File = File>>(rt: &R, names: &Names) -> Result<Option<File>, Fault<'a>> {
+fn take_store<'a, R: Files<File = File>>(rt: &R, names: &Names) -> Result<Option<File>, Fault<'a>>
+    ensures { IfErr result IsUnheld }
+{
     let mut how = File::options();
     how.read(true).write(true);
     match open_held(rt, names.store.as_str(), &how, Hold::Shared)? {
@@ -65,11 +70,25 @@ fn take_store<'a, R: Files<File = File>>(rt: &R, names: &Names) -> Result<Option
 }
 
 /// Takes away the copy that a killed run left, where the lock says that no run works there.
-fn clear<'a, R: Files<File = File>>(rt: &R, names: &Names, lock: &Held) -> Result<(), Fault<'a>> {
+fn clear<'a, R: Files<File = File>>(rt: &R, names: &Names, lock: &Held) -> Result<(), Fault<'a>>
+    ensures { IfErr result IsUnheld }
+{
     if lock.is_locked {
         return remove(rt, names.copy.as_str());
     }
     Ok(())
+}
+
+/// Takes the store's file so, where nothing that a killed run left is in the way.
+fn clear_and_take<'a, R: Files<File = File>>(
+    rt: &R,
+    names: &Names,
+    lock: &Held,
+) -> Result<Option<File>, Fault<'a>>
+    ensures { IfErr result IsUnheld }
+{
+    clear(rt, names, lock)?;
+    take_store(rt, names)
 }
 
 /// Gives a file the rights, and where the system lets it the owner and the group, of another one.
@@ -138,13 +157,11 @@ impl<'a, 'p, R: Files<File = File> + Clock + Eprint> SystemFolder<'a, 'p, R> {
         rt: &'a R,
         names: &'a Names,
         progress: &'a Progress<'p, R>,
-    ) -> Result<SystemFolder<'a, 'p, R>, Fault<'b>> {
+    ) -> Result<SystemFolder<'a, 'p, R>, Fault<'b>>
+        ensures { IfErr result IsUnheld }
+    {
         let lock = hold_name(rt, names.lock.as_str())?;
-        let taken = match clear(rt, names, &lock) {
-            Ok(()) => take_store(rt, names),
-            Err(fault) => Err(fault),
-        };
-        match taken {
+        match clear_and_take(rt, names, &lock) {
             Ok(store) => Ok(SystemFolder {
                 rt,
                 names,

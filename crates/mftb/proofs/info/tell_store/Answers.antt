@@ -1,32 +1,25 @@
-use Rattle.std.proofs.Common.{◌∙◌, inl, inr, refl}
-use Rattle.std.proofs.lemmas.Result.{err_from_is_err_and}
-use Rattle.mftb.proofs.InfoLemmas.{report_of, sent_all, untold}
+use Rattle.std.proofs.Common.{inr, refl, subst, ℕ, Ok, Err}
+use Rattle.mftb.specs.InfoPrinted.{TellsDatabase}
 use Rattle.mftb.proofs.info.tell_store.Goals as goal
 
-pub returns-in_err-seen : goal.returns-in_err-seen
-returns-in_err-seen g c =
-    let store = g.S.PageStore.seen c.args.store in
+pub returns-in-Ok-seen : goal.returns-in-Ok-seen
+returns-in-Ok-seen g c =
     let sent = g.O.Output.seen c.args.out.now in
-    let seen = g.S.PageStore.seen c.look-seen.new.store in
-    let p = err_from_is_err_and c.from_residual-in_err-seen.result c.from_residual-in_err-seen.ensures.1 in
-    rw (p.1, p.2) (untold store c.args.is_json sent _ (seen, c.look-seen.ensures.stays, inr (inl (c.in_ok-database.database, c.in_ok-database.ensures.opened, c.in_err-seen.ensures.refused))))
+    let told = c.tell_database-told in
+    let tells = subst (λ (n : ℕ). TellsDatabase c.in-Ok.database n c.in-Ok-seen.seen c.args.is_json sent (g.O.Output.seen told.new.out) told.result) c.len-pages.ensures told.ensures in
+    record {
+      after = g.S.PageStore.seen c.look-seen.new.store;
+      looks = c.look-seen.ensures.stays;
+      seen = Ok c.in-Ok-seen.seen;
+      says = c.in-Ok-seen.ensures.says;
+      tells = inr (c.in-Ok.database, c.in-Ok.ensures.opened, c.abandon.ensures.store, tells);
+    }
 
-pub returns-in_err-text : goal.returns-in_err-text
-returns-in_err-text g c =
-    let store = g.S.PageStore.seen c.args.store in
-    let sent = g.O.Output.seen c.args.out.now in
-    let seen = g.S.PageStore.seen c.look-seen.new.store in
-    let said = c.said_of.result in
-    let of = report_of store c.args.is_json sent seen c.in_ok-seen.field-0.0 c.in_ok-seen.field-0.1 c.in_ok-database.database said c.len-pages.result c.len-pages.ensures c.in_ok-seen.ensures.says c.in_ok-database.ensures.opened c.said_of.ensures in
-    let p = err_from_is_err_and c.from_residual-in_err-text.result c.from_residual-in_err-text.ensures.1 in
-    rw (p.1, p.2) (untold store c.args.is_json sent _ (seen, c.look-seen.ensures.stays, inr (inr (said, of, c.in_err-text.field-0.0, refl, c.in_err-text.ensures.fault))))
-
-pub returns : goal.returns
-returns g c =
-    let store = g.S.PageStore.seen c.args.store in
-    let sent = g.O.Output.seen c.args.out.now in
-    let seen = g.S.PageStore.seen c.look-seen.new.store in
-    let said = c.said_of.result in
-    let of = report_of store c.args.is_json sent seen c.in_ok-seen.field-0.0 c.in_ok-seen.field-0.1 c.in_ok-database.database said c.len-pages.result c.len-pages.ensures c.in_ok-seen.ensures.says c.in_ok-database.ensures.opened c.said_of.ensures in
-    let e = c.send_all.ensures in
-    sent_all store c.args.is_json sent (g.O.Output.seen c.send_all.new.out) said c.deref.result.now c.send_all.result (c.deref.ensures.value ∙ c.in_ok-text.ensures.text) of e.sent e.flushed e.cause e.fault e.part
+pub returns-in-Err-seen : goal.returns-in-Err-seen
+returns-in-Err-seen g c = record {
+  after = g.S.PageStore.seen c.look-seen.new.store;
+  looks = c.look-seen.ensures.stays;
+  seen = Err c.in-Err-seen.fault;
+  says = c.in-Err-seen.ensures.refused;
+  tells = inr (c.in-Ok.database, c.in-Ok.ensures.opened, c.abandon-in-Err-seen.ensures.store, (refl, refl));
+}

@@ -11,7 +11,10 @@ not_both true e f = false≢true (sym f)
 not_both false e f = false≢true (sym e)
 
 pub returns-then-not-loads-clause-runs : goal.returns-then-not-loads-clause-runs
-returns-then-not-loads-clause-runs g c = in_place_is_run _ _ _ _ _ _ c.ask.ensures
+returns-then-not-loads-clause-runs g c = in_place_is_run _ _ _ _ _ c.ask.ensures
+
+pub returns-then-is_special-clause-runs : goal.returns-then-is_special-clause-runs
+returns-then-is_special-clause-runs g c = in_place_is_run _ _ _ _ _ c.run_in_place.ensures
 
 -- a run beside has a script that loads, or makes its store
 pub returns-else-is_special-clause-asks : goal.returns-else-is_special-clause-asks
