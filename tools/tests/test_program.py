@@ -289,9 +289,13 @@ class Program(Case):
         status, out, faults = self.answer("chart", "store")
         self.assertEqual((status, out), (2, ""))
         self.assertNotEqual(faults, "")
-        status, out, _ = self.answer("--help")
-        self.assertEqual(status, 0)
-        self.assertNotEqual(out, "")
+        for words in (["--help"], ["help"], ["help", "run"]):
+            status, out, _ = self.answer(*words)
+            self.assertEqual(status, 0)
+            self.assertNotEqual(out, "")
+        status, out, faults = self.answer("help", "chart")
+        self.assertEqual((status, out), (2, ""))
+        self.assertNotEqual(faults, "")
 
     def test_the_version_is_printed(self):
         self.assertEqual(self.answer("--version"), (0, "mftb 0.1.0\n", ""))
