@@ -42,7 +42,7 @@ rests_marks a b r = record {
 
 pub marks_trans : (a b c : Cache) → Marks a b → Marks b c → Marks a c
 marks_trans a b c p q = record {
-  store = record { most = q.store.most ∙ p.store.most; faithful = q.store.faithful ∙ p.store.faithful; faults = (let h = p.store.faults in let k = q.store.faults in omega (arith, h, k)) };
+  store = record { most = q.store.most ∙ p.store.most; faithful = q.store.faithful ∙ p.store.faithful; faults = (let h = p.store.faults in let k = q.store.faults in omega (arith, h, k)); lost = λ l. q.store.lost (p.store.lost l) };
   capacity = q.capacity ∙ p.capacity;
   count = q.count ∙ p.count;
   length = q.length ∙ p.length;
@@ -86,7 +86,7 @@ module _ (a b c d : Cache) (p w : Payload) (r : Rests a b) (read : IsTrue a.stor
 
   pub flushed_marks : (v : Payload) → (IsTrue b.store.is_faithful → payload_of b 0 ≡ Some v) → w ≡ marked v → Marks a d
   flushed_marks v value made = record {
-    store = record { most = s.keeps.store.most ∙ l.writes.keeps.store.most ∙ r.stays.keeps.store.most; faithful = s.keeps.store.faithful ∙ l.writes.keeps.store.faithful ∙ r.stays.keeps.store.faithful; faults = (let x = r.stays.keeps.store.faults in let y = l.writes.keeps.store.faults in let z = s.keeps.store.faults in omega (arith, x, y, z)) };
+    store = record { most = s.keeps.store.most ∙ l.writes.keeps.store.most ∙ r.stays.keeps.store.most; faithful = s.keeps.store.faithful ∙ l.writes.keeps.store.faithful ∙ r.stays.keeps.store.faithful; faults = (let x = r.stays.keeps.store.faults in let y = l.writes.keeps.store.faults in let z = s.keeps.store.faults in omega (arith, x, y, z)); lost = λ h. s.keeps.store.lost (l.writes.keeps.store.lost (r.stays.keeps.store.lost h)) };
     capacity = s.keeps.capacity ∙ l.writes.keeps.capacity ∙ r.stays.keeps.capacity;
     count = s.count ∙ l.writes.count ∙ r.stays.count;
     length = len ∙ l.length ∙ r.length;

@@ -4,7 +4,7 @@ use Rattle.std.specs.Prelude.{OnErr}
 use Rattle.std.proofs.lemmas.List.{length-drop}
 use Rattle.pages.proofs.UnsealedLemmas.{unsealed-sealed}
 use Rattle.pages.specs.Sealed.{sealed}
-use Rattle.pages.specs.Store.{IsLawful, IsSynced, IsSyncedButFirst, Store}
+use Rattle.pages.specs.Store.{IsLawful, IsSyncedButFirst, NoneUnsynced, Store}
 use Rattle.pages.specs.declared.unsynced.Unsynced.TheVariants.{Nothing, Others}
 use Rattle.pages.specs.Unsealed.{unsealed}
 use Rattle.pages.specs.declared.payload.Payload.{Payload}
@@ -45,7 +45,7 @@ pub sets_others : (a b : Cache) {w : Payload} → Writes 0 w a b → IsTrue a.st
 sets_others a b s f clean = (λ n h. s.changed n (not_zero n h) (clean n h), s.unwritten.from f 1 clean)
 
 -- a store of which nothing is unsynced
-pub synced_but_first : (s : Store) → IsSynced s → IsSyncedButFirst s
+pub synced_but_first : (s : Store) → NoneUnsynced s → IsSyncedButFirst s
 synced_but_first s e k = let x : Nothing ≡ Others = sym e ∙ k in cc
 
 -- what holds of whatever is refused

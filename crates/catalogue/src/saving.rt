@@ -1,6 +1,6 @@
 //! A catalogue is saved beside the legs of an index.
 ghost use Rattle.std.specs.Prelude.{ℕ, List, ◌≡◌, ◌≢◌, ◌<◌, false, IfErr, IsErrOf, IsTrue, None, OnErr, OnOk};
-ghost use Rattle.pages.specs.Store.{IsSynced};
+ghost use Rattle.pages.specs.Store.{NoneUnsynced};
 ghost use Rattle.pagecache.specs.Cache.{is_changed, page_of, payload_of};
 ghost use Rattle.boxsearch.specs.Beside.{with_cache, IsBeside};
 ghost use Rattle.boxsearch.specs.Index.{content, IsSound};
@@ -58,7 +58,7 @@ pub fn save<S: PageStore>(
         (catalogue_text (contents_of catalogue.now index.new.places)) pages }
     ensures beside { OnOk result (IsBeside index.old.cache index.new.cache) }
     ensures written { OnOk result (IsWrittenButFirst index.new.cache) }
-    ensures synced { OnOk result (IsSynced index.new.cache.store) }
+    ensures synced { OnOk result (NoneUnsynced index.new.cache.store) }
     ensures content { OnOk result (content index.new ≡ content index.old) }
     ensures sound { OnOk result (IsSound index.old → IsSound index.new) }
     ensures only { HasFew catalogue.now → IsTrue index.old.cache.store.is_faithful

@@ -12,7 +12,7 @@ use Rattle.chains.specs.Reads.{OnlyReads, Reads}
 
 pub reads_refl : (a : Cache) → OnlyReads a a
 reads_refl a = record {
-  store = record { most = refl; faithful = refl; faults = omega arith };
+  store = record { most = refl; faithful = refl; faults = omega arith; lost = λ l. l };
   capacity = refl;
   count = refl;
   length = refl;
@@ -30,6 +30,7 @@ reads_trans a b c p q = record {
     most = q.store.most ∙ p.store.most;
     faithful = q.store.faithful ∙ p.store.faithful;
     faults = omega (arith, p.store.faults, q.store.faults);
+    lost = λ l. q.store.lost (p.store.lost l);
   };
   capacity = q.capacity ∙ p.capacity;
   count = q.count ∙ p.count;

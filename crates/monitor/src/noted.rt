@@ -115,6 +115,8 @@ impl<'a, 'b, S: PageStore, R: Clock + Eprint> PageStore for Noted<'a, 'b, S, R> 
             (⟦<Noted<'a, 'b, S, R> as PageStore>⟧.seen self.new) }
         ensures synced { OnOk result
             (IsSynced (⟦<Noted<'a, 'b, S, R> as PageStore>⟧.seen self.new)) }
+        ensures lost { OnErr result
+            (IsTrue (⟦<Noted<'a, 'b, S, R> as PageStore>⟧.seen self.new).has_lost) }
         ensures refuses_none { OnOk result
             ((⟦<Noted<'a, 'b, S, R> as PageStore>⟧.seen self.new).faults
             ≡ (⟦<Noted<'a, 'b, S, R> as PageStore>⟧.seen self.old).faults) }

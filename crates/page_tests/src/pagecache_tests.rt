@@ -182,14 +182,19 @@ fn is_flushed<S: PageStore>(cache: &mut PageCache<S>) -> bool {
     }
 }
 
-/// Whether all goes well, each call asked again where the store failed it.
+/// How many calls of the store are before its one `sync`: two pages are added, the first is read, written
+/// in turn for the second, which is read, and written too.
+const BEFORE_SYNC: u64 = 6;
+
+/// Whether all goes well, each call asked again where the store failed it. A `sync` that failed is refused for good.
 fn goes_well(alloc: Global, calls: u64) -> Result<bool, Memory> {
     let store = Fuse::new(MemStore::new(alloc, 10), calls, true);
     let mut cache = cache_over(alloc, store, 1)?;
     let is_made = added(&mut cache) == Ok(0) && added(&mut cache) == Ok(1);
     let is_set = is_set(&mut cache, 0, 1) && is_set(&mut cache, 1, 2);
-    let is_read = is_flushed(&mut cache) && is_read(&mut cache, 0, 1) && is_read(&mut cache, 1, 2);
-    Ok(is_made && is_set && is_read && cache.count() == 2)
+    let is_right = is_flushed(&mut cache) == (calls != BEFORE_SYNC);
+    let is_read = is_read(&mut cache, 0, 1) && is_read(&mut cache, 1, 2);
+    Ok(is_made && is_set && is_right && is_read && cache.count() == 2)
 }
 
 #[test]

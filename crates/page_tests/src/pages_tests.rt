@@ -112,6 +112,15 @@ fn a_fuse_fails_after_some_calls(rt: HostRuntime) {
 }
 
 #[test]
+fn no_sync_is_answered_once_one_failed(rt: HostRuntime) {
+    let mut fuse = Fuse::new(MemStore::new(rt.alloc(), 3), 1, true);
+    assert!(rt; fuse.sync() == Ok(()));
+    assert!(rt; fuse.sync() == Err(StoreFault));
+    assert!(rt; put(&mut fuse, 0, &worked_page()));
+    assert!(rt; fuse.sync() == Err(StoreFault));
+}
+
+#[test]
 fn a_write_that_a_fuse_fails_leaves_zero_bytes(rt: HostRuntime) {
     let mut store = MemStore::new(rt.alloc(), 3);
     assert!(rt; put(&mut store, 0, &worked_page()));

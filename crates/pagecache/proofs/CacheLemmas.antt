@@ -122,7 +122,7 @@ pub reordered_step : (c d : Cache) → IsSound c → store.Stays c.store d.store
 reordered_step c d s t look count capacity asked = let r = reordered c d s t look count capacity in record { sound = r.0; stays = r.1; unsynced = unsyncs_none c d t.unsynced; asked = asked }
 
 pub store_rests : (s : Store) → store.Stays s s
-store_rests s = record { keeps = record { most = refl; faithful = refl; faults = omega arith }; count = refl; pages = λ _. refl; unsynced = inl refl }
+store_rests s = record { keeps = record { most = refl; faithful = refl; faults = omega arith; lost = λ l. l }; count = refl; pages = λ _. refl; unsynced = inl refl }
 
 -- only the store has changed, and it stays
 pub store_step : {S : Type 0} (seen : S → Store) (old new : Slots S) → IsSound (seen_of seen old) → new ≡ record old { store = new.store }

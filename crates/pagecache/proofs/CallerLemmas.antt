@@ -1,6 +1,5 @@
 -- What proofs of callers may cite: how the relations of `specs/Cache.antt` join.
-use Rattle.std.proofs.Common.{◌≡◌, ℕ, Bool, true, false, cond, nat_eq, Option, Some, IsTrue, refl, sym, ap, ◌∙◌, arith, ⊎_elim, inl, inr}
-use Rattle.std.proofs.lemmas.Bool.{eq-eqb}
+use Rattle.std.proofs.Common.{◌≡◌, ℕ, false, cond, nat_eq, Some, sym, ap, ◌∙◌, arith, ⊎_elim, inl, inr}
 use Rattle.pages.specs.Store.{Store, Faulted}
 use Rattle.pages.specs.Store as store
 use Rattle.pages.specs.declared.payload.Payload.{Payload}
@@ -10,7 +9,7 @@ use Rattle.pagecache.specs.declared.fault.CacheFault.TheVariants as fault
 
 -- one step after another
 store_keeps-trans : (a b c : Store) → store.Keeps a b → store.Keeps b c → store.Keeps a c
-store_keeps-trans a b c k l = record { most = l.most ∙ k.most; faithful = l.faithful ∙ k.faithful; faults = omega (arith, k.faults, l.faults) }
+store_keeps-trans a b c k l = record { most = l.most ∙ k.most; faithful = l.faithful ∙ k.faithful; faults = omega (arith, k.faults, l.faults); lost = λ h. l.lost (k.lost h) }
 
 keeps_after : (a b c : Cache) → KeepsPayloads a b → Keeps b c → Keeps a c
 keeps_after a b c t k = record {

@@ -1,12 +1,12 @@
 -- What is not synced after a step of a cache.
-use Rattle.std.proofs.Common.{◌≡◌, ◌≢◌, ◌<◌, ◌≤◌, ◌∙◌, ℕ, false, refl, sym, ap, arith, subst, ⊎_elim, inl, inr}
+use Rattle.std.proofs.Common.{◌≡◌, ◌≢◌, ◌<◌, ◌≤◌, ◌∙◌, ℕ, false, refl, sym, arith, subst, ⊎_elim}
 use Rattle.std.proofs.lemmas.Bool.{cases_lt}
 use Rattle.pages.specs.Store as store
 use Rattle.pages.specs.Store.{Store, IsSyncedButFirst, MayUnsync, Unsyncs}
 use Rattle.pages.specs.Unsynced.{with_written}
 use Rattle.pages.specs.declared.unsynced.Unsynced.{Unsynced}
 use Rattle.pages.specs.declared.unsynced.Unsynced.TheVariants.{Nothing, First, Others}
-use Rattle.pagecache.specs.Cache.{Cache, IsClean, is_changed, UnsyncsNone}
+use Rattle.pagecache.specs.Cache.{Cache, is_changed, UnsyncsNone}
 
 nothing_others : (u : Unsynced) → u ≡ Nothing → u ≢ Others
 nothing_others u e k = let x : Nothing ≡ Others = sym e ∙ k in cc

@@ -1,5 +1,5 @@
 -- The bytes of a file, and the pages that they hold.
-use Rattle.std.specs.Prelude.{ℕ, zero, suc, ◌≡◌, ◌≤◌, ◌*◌, List, [], ◌∷◌, take, drop, length, Option, Some, None, ⊤, option_map, unwrap_or, true, ◌/◌, ◌^◌, ◌-◌}
+use Rattle.std.specs.Prelude.{ℕ, zero, suc, ◌≡◌, ◌≤◌, ◌*◌, List, [], ◌∷◌, take, drop, length, Option, Some, None, ⊤, option_map, unwrap_or, true, false, ◌/◌, ◌^◌, ◌-◌}
 use Rattle.std.specs.Option.{ForSome}
 use Rattle.pages.specs.Store.{Store}
 use Rattle.pages.specs.declared.unsynced.Unsynced.TheVariants.{Others}
@@ -24,6 +24,7 @@ whole_pages xs = record {
   most = 2 ^ 32 - 1;
   faults = 0;
   unsynced = Others;
+  has_lost = false;
   is_faithful = true;
   pages = pages_of 4096 (length xs / 4096) xs;
 }

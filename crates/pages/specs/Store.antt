@@ -1,16 +1,17 @@
 -- What contracts see of a store of pages, and what a call does to it.
-use Rattle.std.specs.Prelude.{ℕ, Bool, true, IsTrue, ◌≡◌, ◌≢◌, ◌⊎◌, ◌+◌, ◌-◌, ◌^◌, ◌<◌, ◌≤◌, min, max, length, List, [], ◌∷◌, ◌++◌, take, drop, slice_set, slice_index_or}
+use Rattle.std.specs.Prelude.{ℕ, Bool, true, false, IsTrue, ◌≡◌, ◌≢◌, ◌⊎◌, ◌+◌, ◌-◌, ◌^◌, ◌<◌, ◌≤◌, min, max, length, List, [], ◌∷◌, ◌++◌, take, drop, slice_set, slice_index_or}
 use Rattle.pages.specs.Unsynced.{with_written}
 use Rattle.pages.specs.declared.unsynced.Unsynced.{Unsynced}
 use Rattle.pages.specs.declared.unsynced.Unsynced.TheVariants.{Nothing, Others}
 
--- how many pages there are and may be, how many calls have failed, which pages may be unsynced,
--- whether a read gives the page last written there, and, of a faithful store, the pages as written
+-- how many pages there are and may be, how many calls have failed, which pages may be unsynced, whether a sync was ever
+-- refused, whether a read gives the page last written there, and, of a faithful store, the pages as written
 pub record Store : Type 0 where
   pub count : ℕ
   pub most : ℕ
   pub faults : ℕ
   pub unsynced : Unsynced
+  pub has_lost : Bool
   pub is_faithful : Bool
   pub pages : List (List ℕ)
 
@@ -21,6 +22,7 @@ empty_store most = record {
   most = most;
   faults = 0;
   unsynced = Nothing;
+  has_lost = false;
   is_faithful = true;
   pages = [];
 }
@@ -45,8 +47,13 @@ abbrev pub Faulted : Store → Store → Type 0
 Faulted old new = HasRisen old.faults new.faults
 
 -- no page is unsynced
-abbrev pub IsSynced : Store → Type 0
-IsSynced s = s.unsynced ≡ Nothing
+abbrev pub NoneUnsynced : Store → Type 0
+NoneUnsynced s = s.unsynced ≡ Nothing
+
+-- and no sync was ever refused, so that none of them can be lost
+pub record IsSynced (s : Store) : Type 0 where
+  pub none : NoneUnsynced s
+  pub never_lost : s.has_lost ≡ false
 
 -- no page but page 0 is
 abbrev pub IsSyncedButFirst : Store → Type 0
@@ -58,13 +65,14 @@ SameUnsynced old new = new.unsynced ≡ old.unsynced
 
 -- so it is, or nothing is
 abbrev pub UnsyncsNone : Store → Store → Type 0
-UnsyncsNone old new = SameUnsynced old new ⊎ IsSynced new
+UnsyncsNone old new = SameUnsynced old new ⊎ NoneUnsynced new
 
--- what every call keeps
+-- what every call keeps; what was lost stays so
 pub record Keeps (old new : Store) : Type 0 where
   pub most : new.most ≡ old.most
   pub faithful : new.is_faithful ≡ old.is_faithful
   pub faults : old.faults ≤ new.faults
+  pub lost : IsTrue old.has_lost → IsTrue new.has_lost
 
 -- the pages with p at n, where n may be the place after the last
 abbrev pub put_page : {X : Type 0} → List X → ℕ → X → List X

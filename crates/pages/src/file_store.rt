@@ -1,5 +1,5 @@
 //! A store in a file.
-ghost use Rattle.std.specs.Prelude.{◌≡◌, ◌<◌, ◌≤◌, ◌^◌, ◌-◌, ◌/◌, is_some, length, IfOk, IsErr, IsOk, IfSome, IsTrue};
+ghost use Rattle.std.specs.Prelude.{◌≡◌, false, ◌<◌, ◌≤◌, ◌^◌, ◌-◌, ◌/◌, is_some, length, IfOk, IsErr, IsOk, IfSome, IsTrue};
 ghost use Rattle.std.proofs.Common.{arith};
 ghost use Rattle.pages.specs.Bytes.{HoldPages, known_pages, whole_pages};
 ghost use Rattle.pages.specs.declared.unsynced.Unsynced.TheVariants.{Nothing, Others};
@@ -36,13 +36,15 @@ impl<F: ByteFile> FileStore<F> {
         F: Drop,
         ensures pages { IfOk result (λ s. IfSome (F.bytes file)
             (λ xs. ⟦<FileStore<F> as PageStore>⟧.seen s
-            ≡ record (whole_pages xs) { faults = F.refusals file })) }
+            ≡ record (whole_pages xs) { faults = F.refusals file; has_lost = F.has_lost file })) }
         ensures most { IfOk result (λ s.
             (⟦<FileStore<F> as PageStore>⟧.seen s).most ≡ 2 ^ 32 - 1) }
         ensures faults { IfOk result (λ s.
             (⟦<FileStore<F> as PageStore>⟧.seen s).faults ≡ F.refusals file) }
         ensures unsynced { IfOk result (λ s.
             (⟦<FileStore<F> as PageStore>⟧.seen s).unsynced ≡ Others) }
+        ensures lost { IfOk result (λ s.
+            (⟦<FileStore<F> as PageStore>⟧.seen s).has_lost ≡ F.has_lost file) }
         ensures too_long { IfSome (F.bytes file)
             (λ xs. 2 ^ 32 ≤ length xs / 4096 → IsErr result) }
         ensures opens { IfSome (F.bytes file)
@@ -75,6 +77,8 @@ impl<F: FileExt + OpenFile + Drop> FileStore<SystemFile<F>> {
             (⟦<FileStore<SystemFile<F>> as PageStore>⟧.seen s).faults ≡ 0) }
         ensures unsynced { IfOk result (λ s.
             (⟦<FileStore<SystemFile<F>> as PageStore>⟧.seen s).unsynced ≡ Others) }
+        ensures lost { IfOk result (λ s.
+            (⟦<FileStore<SystemFile<F>> as PageStore>⟧.seen s).has_lost ≡ false) }
     {
         match SystemFile::open(rt, path) {
             Ok(file) => FileStore::new(file),
@@ -92,6 +96,7 @@ impl<F: ByteFile> PageStore for FileStore<F> {
       most = 2 ^ 32 - 1;
       faults = F.refusals s.file;
       unsynced = s.unsynced;
+      has_lost = F.has_lost s.file;
       is_faithful = is_some (F.bytes s.file);
       pages = known_pages 4096 s.count (F.bytes s.file);
     } };

@@ -1,5 +1,5 @@
 //! A store that fails on purpose.
-ghost use Rattle.std.specs.Prelude.{◌≡◌, ◌≢◌, ◌<◌, ◌≤◌, ◌↔◌, Some, slice_get, IsTrue, IsErr, OnErr, OnOk};
+ghost use Rattle.std.specs.Prelude.{◌≡◌, ◌≢◌, false, ◌<◌, ◌≤◌, ◌↔◌, Some, slice_get, IsTrue, IsErr, OnErr, OnOk};
 ghost use Rattle.pages.specs.Store.{Faulted, IsSynced, MayUnsync, SameUnsynced, Stays, Tears, Unsyncs, Writes};
 
 use crate::refusals::Refusals;
@@ -10,7 +10,8 @@ use crate::store::{PageStore, StoreFault};
 /// to try what stands above it.
 ///
 /// Each failure counts as a fault, also one of the store below. A `write` that it fails leaves a
-/// page of zero bytes where there is one, and adds none. It is faithful where the store below is.
+/// page of zero bytes where there is one, and adds none. Once it has failed a `sync`, it fails each later
+/// one. It is faithful where the store below is.
 #[derive(Drop)]
 pub struct Fuse<S> {
     store: S,
@@ -18,6 +19,8 @@ pub struct Fuse<S> {
     left: Option<u64>,
     once: bool,
     faults: Refusals,
+    /// Whether a sync was refused.
+    has_lost: bool,
 }
 
 impl<S: PageStore> Fuse<S> {
@@ -30,13 +33,14 @@ impl<S: PageStore> Fuse<S> {
         ensures left { left_of result ≡ Some calls }
         ensures once { is_once result ≡ once }
         ensures seen { ⟦<Fuse<S> as PageStore>⟧.seen result
-            ≡ record (S.seen store) { faults = 0 } }
+            ≡ record (S.seen store) { faults = 0; has_lost = false } }
     {
         Fuse {
             store,
             left: Some(calls),
             once,
             faults: Refusals::none(),
+            has_lost: false,
         }
     }
 
@@ -54,6 +58,7 @@ impl<S: PageStore> Fuse<S> {
         ensures store { self.new.store ≡ self.old.store }
         ensures once { self.new.once ≡ self.old.once }
         ensures faults { self.new.faults ≡ self.old.faults }
+        ensures lost { self.new.has_lost ≡ self.old.has_lost }
     {
         match self.left {
             None => false,
@@ -80,6 +85,7 @@ impl<S: PageStore> Fuse<S> {
         ensures left { self.new.left ≡ self.old.left }
         ensures once { self.new.once ≡ self.old.once }
         ensures faults { self.new.faults ≡ self.old.faults }
+        ensures lost { self.new.has_lost ≡ self.old.has_lost }
     {
         if number < self.store.len() {
             let _ = self.store.write(number, &blank());
@@ -91,7 +97,7 @@ impl<S: PageStore> PageStore for Fuse<S> {
     ghost use Rattle.pages.specs.Store.{Store, IsLawful};
     ghost use Rattle.pages.specs.Fuse.{inner, is_once, left_of, left_after};
 
-    ghost seen = { λ s. record (S.seen s.store) { faults = s.faults } };
+    ghost seen = { λ s. record (S.seen s.store) { faults = s.faults; has_lost = s.has_lost } };
 
     ghost lawful = { λ s. let l = S.lawful s.store in
         record { within = l.within; small = l.small; counted = l.counted } };
@@ -163,6 +169,7 @@ impl<S: PageStore> PageStore for Fuse<S> {
     fn sync(&mut self) -> Result<(), StoreFault>
         ensures fails { left_of self.old ≡ Some 0 → IsErr result }
         ensures passes { OnErr result (left_of self.old ≢ Some 0
+            → (⟦<Fuse<S> as PageStore>⟧.seen self.old).has_lost ≡ false
             → Faulted (S.seen (inner self.old)) (S.seen (inner self.new))) }
         ensures left { left_of self.new ≡ left_after (is_once self.old) (left_of self.old) }
         ensures once { is_once self.new ≡ is_once self.old }
@@ -171,14 +178,19 @@ impl<S: PageStore> PageStore for Fuse<S> {
         ensures synced { OnOk result (IsSynced (⟦<Fuse<S> as PageStore>⟧.seen self.new)) }
         ensures refuses_none { OnOk result ((⟦<Fuse<S> as PageStore>⟧.seen self.new).faults
             ≡ (⟦<Fuse<S> as PageStore>⟧.seen self.old).faults) }
+        ensures lost { OnErr result (IsTrue (⟦<Fuse<S> as PageStore>⟧.seen self.new).has_lost) }
         ensures unsynced { OnErr result (SameUnsynced
             (⟦<Fuse<S> as PageStore>⟧.seen self.old) (⟦<Fuse<S> as PageStore>⟧.seen self.new)) }
         ensures cause { OnErr result (Faulted
             (⟦<Fuse<S> as PageStore>⟧.seen self.old) (⟦<Fuse<S> as PageStore>⟧.seen self.new)) }
     {
-        if self.burns() {
+        let burns = self.burns();
+        if burns || self.has_lost {
+            self.has_lost = true;
             return self.faults.count(Err(StoreFault));
         }
-        self.faults.count(self.store.sync())
+        let answer = self.store.sync();
+        self.has_lost = answer.is_err();
+        self.faults.count(answer)
     }
 }

@@ -1,5 +1,5 @@
 //! A store in memory.
-ghost use Rattle.std.specs.Prelude.{◌≡◌, ◌<◌, ◌≤◌, ◌^◌, true, vec_len, Some, slice_get, IsTrue, IsOk, OnErr, OnOk};
+ghost use Rattle.std.specs.Prelude.{◌≡◌, ◌<◌, ◌≤◌, ◌^◌, true, false, vec_len, Some, slice_get, IsTrue, IsOk, OnErr, OnOk};
 ghost use Rattle.std.proofs.Common.{arith};
 ghost use Rattle.pages.specs.Store.{empty_store, with_byte, Faulted, IsSynced, MayUnsync, SameUnsynced, Stays, Tears, Unsyncs, Writes};
 
@@ -63,6 +63,7 @@ impl PageStore for MemStore {
       most = s.most;
       faults = s.faults;
       unsynced = s.unsynced;
+      has_lost = false;
       is_faithful = true;
       pages = s.pages.items;
     } };
@@ -138,6 +139,7 @@ impl PageStore for MemStore {
         ensures synced { OnOk result (IsSynced (⟦<MemStore as PageStore>⟧.seen self.new)) }
         ensures refuses_none { OnOk result ((⟦<MemStore as PageStore>⟧.seen self.new).faults
             ≡ (⟦<MemStore as PageStore>⟧.seen self.old).faults) }
+        ensures lost { OnErr result (IsTrue (⟦<MemStore as PageStore>⟧.seen self.new).has_lost) }
         ensures unsynced { OnErr result (SameUnsynced
             (⟦<MemStore as PageStore>⟧.seen self.old) (⟦<MemStore as PageStore>⟧.seen self.new)) }
         ensures cause { OnErr result (Faulted

@@ -14,11 +14,12 @@ pub struct StoreFault;
 /// A store is faithful where every read that answers `Ok` gives the page last written there; what
 /// is said of pages is said of a faithful store. No call changes whether it is, nor how many pages
 /// there may be. The count of faults never falls, and rises where a call is refused, and only there.
-/// A page that is written is unsynced until `sync` answers `Ok`.
+/// A page that is written is unsynced until `sync` answers `Ok`. Once a `sync` was refused, what was written
+/// before it may be lost, so none is answered any more, for good.
 pub trait PageStore {
     /// What contracts see of a store: how many pages there are and may be, how many calls have
-    /// failed, which pages may be unsynced, whether it is faithful, and the pages as written. The
-    /// count of faults stays at 2^64 - 1 once it is there, and then counts as risen.
+    /// failed, which pages may be unsynced, whether a sync was ever refused, whether it is faithful, and the
+    /// pages as written. The count of faults stays at 2^64 - 1 once it is there, and then counts as risen.
     ghost seen: { Self → Store };
 
     /// How many pages there are.
@@ -51,11 +52,13 @@ pub trait PageStore {
         ensures torn_unsynced { OnErr result (MayUnsync number (seen self.old) (seen self.new)) }
         ensures cause { OnErr result (Faulted (seen self.old) (seen self.new)) };
 
-    /// Makes what was written last, as on a disk. It is answered only where nothing was refused on the way.
+    /// Makes what was written last, as on a disk. It is answered only where nothing was refused on the way,
+    /// and refused wherever it was refused before.
     fn sync(&mut self) -> Result<(), StoreFault>
         ensures stays { Stays (seen self.old) (seen self.new) }
         ensures synced { OnOk result (IsSynced (seen self.new)) }
         ensures refuses_none { OnOk result ((seen self.new).faults ≡ (seen self.old).faults) }
+        ensures lost { OnErr result (IsTrue (seen self.new).has_lost) }
         ensures unsynced { OnErr result (SameUnsynced (seen self.old) (seen self.new)) }
         ensures cause { OnErr result (Faulted (seen self.old) (seen self.new)) };
 

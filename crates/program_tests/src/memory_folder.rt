@@ -37,6 +37,7 @@ pub(crate) struct MemCopy {
     pages: Vec<[u8; 4096]>,
     faults: Refusals,
     unsynced: Unsynced,
+    has_lost: bool,
     calls: Calls,
     ghost within: { vec_len pages < 2 ^ 32 },
 }
@@ -49,6 +50,7 @@ impl PageStore for MemCopy {
       most = 2 ^ 32 - 1;
       faults = s.faults;
       unsynced = s.unsynced;
+      has_lost = s.has_lost;
       is_faithful = true;
       pages = s.pages.items;
     } };
@@ -92,7 +94,9 @@ impl PageStore for MemCopy {
     }
 
     fn sync(&mut self) -> Result<(), StoreFault> {
-        if self.calls.burns() {
+        let burns = self.calls.burns();
+        if burns || self.has_lost {
+            self.has_lost = true;
             return self.faults.count(Err(StoreFault));
         }
         self.unsynced = Unsynced::Nothing;
@@ -197,6 +201,7 @@ impl Folder for MemFolder {
                     pages,
                     faults: Refusals::none(),
                     unsynced: Unsynced::Others,
+                    has_lost: false,
                     calls: self.calls,
                 })
             }

@@ -32,7 +32,7 @@ use Rattle.register.specs.declared.fault.CatalogueFault.TheVariants.{Memory, Sto
 
 passes_refl : (a : Cache) → Passes a a
 passes_refl a = record {
-  store = record { most = refl; faithful = refl; faults = omega arith };
+  store = record { most = refl; faithful = refl; faults = omega arith; lost = λ l. l };
   capacity = refl;
   count = omega arith;
   asked = omega (arith, clamps);
@@ -45,7 +45,7 @@ pub passes_trans : (a b c : Cache) → Passes a b → Passes b c → Passes a c
 passes_trans a b c p q =
     let more = p.count in
     record {
-      store = record { most = q.store.most ∙ p.store.most; faithful = q.store.faithful ∙ p.store.faithful; faults = omega (arith, p.store.faults, q.store.faults) };
+      store = record { most = q.store.most ∙ p.store.most; faithful = q.store.faithful ∙ p.store.faithful; faults = omega (arith, p.store.faults, q.store.faults); lost = λ l. q.store.lost (p.store.lost l) };
       capacity = q.capacity ∙ p.capacity;
       count = omega (arith, more, q.count);
       asked = omega (arith, clamps, p.asked, q.asked);

@@ -1,7 +1,7 @@
 //! A catalogue is kept in pages.
 ghost use Rattle.std.specs.Prelude.{List, ℕ, ◌≡◌, ◌<◌, ◌≤◌, ◌^◌, ◌++◌, ◌∷◌, [], length, slice_get, unwrap_or, false, All, IfErr, IfOk, IsErrOf, IsOk, IsTrue, OnErr, OnOk, Some};
 ghost use Rattle.std.specs.Int.{div_ceil};
-ghost use Rattle.pages.specs.Store.{IsSynced};
+ghost use Rattle.pages.specs.Store.{IsSynced, NoneUnsynced};
 ghost use Rattle.pagecache.specs.Cache.{is_changed, page_of, payload_of, IsClean, IsWritten, Rests, SameLength, KeepsPayloads};
 ghost use Rattle.pages.specs.declared.payload.Payload.{Payload};
 ghost use Rattle.register.specs.Chain.{most_used, pages_for};
@@ -472,7 +472,7 @@ pub fn keep<S: PageStore>(
         → HasNoRoom cache.old.count cache.old.store.most
         (catalogue_text (contents_of catalogue.now places.now)) pages }
     ensures written { OnOk result (IsWrittenButFirst cache.new) }
-    ensures synced { OnOk result (IsSynced cache.new.store) }
+    ensures synced { OnOk result (NoneUnsynced cache.new.store) }
     ensures only { HasFew catalogue.now → IsTrue cache.old.store.is_faithful
         → 0 < cache.old.count → HasPageZero cache.old → IfErr result IsSavingStop }
     ensures named { HasFew catalogue.now → IsTrue cache.old.store.is_faithful

@@ -11,10 +11,10 @@ use Rattle.tbtree.specs.declared.fault.TreeFault.{TreeFault}
 use Rattle.tbtree.specs.declared.fault.TreeFault.TheVariants.{Cache as OfCache, Malformed, Spent}
 
 store_keeps-refl : (a : Store) → store.Keeps a a
-store_keeps-refl a = record { most = refl; faithful = refl; faults = omega arith }
+store_keeps-refl a = record { most = refl; faithful = refl; faults = omega arith; lost = λ l. l }
 
 store_keeps-trans : (a b c : Store) → store.Keeps a b → store.Keeps b c → store.Keeps a c
-store_keeps-trans a b c k l = record { most = l.most ∙ k.most; faithful = l.faithful ∙ k.faithful; faults = omega (arith, k.faults, l.faults) }
+store_keeps-trans a b c k l = record { most = l.most ∙ k.most; faithful = l.faithful ∙ k.faithful; faults = omega (arith, k.faults, l.faults); lost = λ h. l.lost (k.lost h) }
 
 pub passes_refl : (a : Cache) → Passes a a
 passes_refl a = record {

@@ -68,9 +68,9 @@ written_all i sound lawful =
     ∙ (ap (λ n. take n i.cache.store.pages) (sound.count ∙ sym (lawful.counted sound.faithful)) ∙ take-length i.cache.store.pages)
 
 -- how many pages a store may have, how often it failed, and what of it is synced, is no part of the book that it holds
-pub apart : (s : Store) (most faults : ℕ) (left : Unsynced) (shape : ShapeView) (limits : LimitsView) (book : Book) → HoldsBook s shape limits book → HoldsBook (record s { most = most; faults = faults; unsynced = left }) shape limits book
+pub apart : (s : Store) (most faults : ℕ) (left : Unsynced) (lost : Bool) (shape : ShapeView) (limits : LimitsView) (book : Book) → HoldsBook s shape limits book → HoldsBook (record s { most = most; faults = faults; unsynced = left; has_lost = lost }) shape limits book
 unfolding stored_payload payload_of sealed_payload page_of pages_as_written
-apart s most faults left shape limits book h = record {
+apart s most faults left lost shape limits book h = record {
   catalogue = h.catalogue;
   tree = h.tree;
   places = h.places;
@@ -93,11 +93,11 @@ apart s most faults left shape limits book h = record {
 }
 
 -- two stores of the same pages
-same_but : (was s : Store) → s.pages ≡ was.pages → IsLawful was → IsLawful s → IsTrue was.is_faithful → IsTrue s.is_faithful → s ≡ record was { most = s.most; faults = s.faults; unsynced = s.unsynced }
+same_but : (was s : Store) → s.pages ≡ was.pages → IsLawful was → IsLawful s → IsTrue was.is_faithful → IsTrue s.is_faithful → s ≡ record was { most = s.most; faults = s.faults; unsynced = s.unsynced; has_lost = s.has_lost }
 same_but was s pages was_lawful lawful was_faithful faithful =
     let count : s.count ≡ was.count = sym (lawful.counted faithful) ∙ (ap length pages ∙ was_lawful.counted was_faithful) in
     let alike : s.is_faithful ≡ was.is_faithful = faithful ∙ sym was_faithful in
-    λ i. record { count = count i; most = s.most; faults = s.faults; unsynced = s.unsynced; is_faithful = alike i; pages = pages i }
+    λ i. record { count = count i; most = s.most; faults = s.faults; unsynced = s.unsynced; has_lost = s.has_lost; is_faithful = alike i; pages = pages i }
 
 unchanged : (was : Store) (i : IndexView) → IsUntouched was i → IsLawful i.cache.store → IsUnchanged was i.cache.store
 unchanged was i u lawful =
@@ -107,7 +107,7 @@ unchanged was i u lawful =
       others = ap (drop 1) (sym all) ∙ u.others;
       pages = λ none. sym all ∙ u.pages none;
       holds = λ none shape limits book h.
-          subst (λ (k : Store). HoldsBook k shape limits book) (sym (same_but was s (sym all ∙ u.pages none) u.lawful lawful u.faithful u.sound.faithful)) (apart was s.most s.faults s.unsynced shape limits book h);
+          subst (λ (k : Store). HoldsBook k shape limits book) (sym (same_but was s (sym all ∙ u.pages none) u.lawful lawful u.faithful u.sound.faithful)) (apart was s.most s.faults s.unsynced s.has_lost shape limits book h);
     }
 
 -- the store that is left is safe

@@ -89,6 +89,7 @@ stays_trans a b c p q = record {
     most = q.keeps.most ∙ p.keeps.most;
     faithful = q.keeps.faithful ∙ p.keeps.faithful;
     faults = omega (arith, p.keeps.faults, q.keeps.faults);
+    lost = λ l. q.keeps.lost (p.keeps.lost l);
   };
   count = q.count ∙ p.count;
   pages = λ fa. q.pages (p.keeps.faithful ∙ fa) ∙ p.pages fa;

@@ -196,11 +196,11 @@ pub later_trans : {I : Type 0} (g : Ghosts I) (a b c : I) → IsLater g a b → 
 later_trans g a b c p q = record { plan = q.plan ∙ p.plan; most_pages = q.most_pages ∙ p.most_pages; capacity = q.capacity ∙ p.capacity; others = λ page bytes above is. q.others page bytes above (p.others page bytes above is); fields = λ bytes is. q.fields bytes (p.fields bytes is); faults = (let x = p.faults in let y = q.faults in omega (arith, x, y)); asked = (let x = p.asked in let y = q.asked in omega (arith, x, y)); faithful = λ f. q.faithful (p.faithful f) }
 
 pub stays_refl : (a : Store) → Stays a a
-stays_refl a = record { keeps = record { most = refl; faithful = refl; faults = omega arith }; count = refl; pages = λ f. refl; unsynced = inl refl }
+stays_refl a = record { keeps = record { most = refl; faithful = refl; faults = omega arith; lost = λ l. l }; count = refl; pages = λ f. refl; unsynced = inl refl }
 
 pub stays_trans : (a b c : Store) → Stays a b → Stays b c → Stays a c
 stays_trans a b c p q = record {
-  keeps = record { most = q.keeps.most ∙ p.keeps.most; faithful = q.keeps.faithful ∙ p.keeps.faithful; faults = (let x = p.keeps.faults in let y = q.keeps.faults in omega (arith, x, y)) };
+  keeps = record { most = q.keeps.most ∙ p.keeps.most; faithful = q.keeps.faithful ∙ p.keeps.faithful; faults = (let x = p.keeps.faults in let y = q.keeps.faults in omega (arith, x, y)); lost = λ l. q.keeps.lost (p.keeps.lost l) };
   count = q.count ∙ p.count;
   pages = λ f. q.pages (p.keeps.faithful ∙ f) ∙ p.pages f;
   unsynced = store_unsyncs-trans a b c p.unsynced q.unsynced;

@@ -60,7 +60,7 @@ returns-in_err-first-clause-unreadable g c f =
 
 pub returns-clause-synced : goal.returns-clause-synced
 returns-clause-synced g c =
-    on_ok c.write_fields.result (λ puts. ⊎_elim (λ e. e ∙ c.in_ok-first.ensures.synced) (λ e. e) (puts.lends.unsynced.clean c.in_ok-first.ensures.written)) c.write_fields.ensures.puts
+    on_ok c.write_fields.result (λ puts. ⊎_elim (λ e. e ∙ c.in_ok-first.ensures.synced.none) (λ e. e) (puts.lends.unsynced.clean c.in_ok-first.ensures.written)) c.write_fields.ensures.puts
 
 pub returns-clause-takes : goal.returns-clause-takes
 returns-clause-takes g c = λ fa es are.

@@ -1,4 +1,4 @@
-use Rattle.std.proofs.Common.{ℕ, ◌≡◌, ◌≤◌, subst, sym, None}
+use Rattle.std.proofs.Common.{◌≡◌, ◌≤◌, subst, sym, None}
 use Rattle.pagecache.specs.Cache.{payload_of}
 use Rattle.pagecache.specs.Slots.{seen_of}
 use Rattle.pagecache.proofs.CacheLemmas.{payload_of-above}

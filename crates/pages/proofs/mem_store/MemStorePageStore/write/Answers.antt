@@ -8,7 +8,7 @@ returns-then-place-len-clause-written c =
     let n = c.args.number in
     let p = c.args.page.now in
     let h : n < length xs = omega arith in record {
-      keeps = record { most = refl; faithful = refl; faults = omega arith };
+      keeps = record { most = refl; faithful = refl; faults = omega arith; lost = λ l. l };
       count = omega arith;
       pages = λ _. set_split xs n p h ∙ ap (λ k. take n xs ++ p ∷ drop k xs) (sym (add-one n));
     }
