@@ -6,20 +6,22 @@ use Rattle.legs.specs.Book.{Book, empty_book}
 use Rattle.legs.specs.Costs.{ShapeView}
 use Rattle.legs.specs.Limits.{limits_of, LimitsView}
 use Rattle.outputs.specs.Output.{OutputView}
-use Rattle.pages.specs.Store.{Store, Faulted, IsSynced}
+use Rattle.pages.specs.Sealed.{sealed}
+use Rattle.pages.specs.Store.{Store, IsSynced, Keeps, Writes}
+use Rattle.catalogue.specs.Beginning.{IsLeft}
+use Rattle.header.specs.Fields.{header_payload}
 use Rattle.pages.specs.declared.unsynced.Unsynced.TheVariants.{Others}
 use Rattle.catalogue.specs.Holding.{HoldsBook}
 use Rattle.register.specs.Saving.{IsSavingStop}
-use Rattle.trajdb.specs.Db.{capacity_of, store_of, DbView, HasPages, IsSoundDb}
+use Rattle.trajdb.specs.Db.{capacity_of, store_of, DbView, HasPages, IsCaused, IsSoundDb}
 use Rattle.trajdb.specs.Lasting.{HasBook, IsIdle}
 use Rattle.trajdb.proofs.SafeLemmas.{apart}
 use Rattle.trajdb.specs.Run.{HasRun}
 use Rattle.register.specs.declared.fault.CatalogueFault.{CatalogueFault}
-use Rattle.register.specs.declared.fault.CatalogueFault.TheVariants as opening
 use Rattle.trajdb.specs.declared.RunFault.{RunFault}
-use Rattle.sessions.specs.Answers.{said, Answers, ClosesAfter, Ends, FailsToLoad, RunsOver, SendsFront, new_shape}
+use Rattle.sessions.specs.Answers.{said, Answers, ClosesAfter, Ends, FailsToLoad, RunsOver, SendsFront, new_limits, new_shape}
 use Rattle.sessions.specs.declared.fault.Fault.{Fault}
-use Rattle.sessions.specs.Folder.{BeginsWith, History, HoldsNow, IsRefusedBeside, IsRefusedByFolder, Makes, NameIsKept, RunsBeside, store_in}
+use Rattle.sessions.specs.Folder.{BeginsWith, History, HoldsNow, IsRefusedBeside, IsRefusedByFolder, Makes, NameIsKept, OpensOrMakes, RunsBeside, store_in}
 use Rattle.sessions.proofs.AnswerLemmas.{front_done}
 
 -- what a folder tells of a store's name is faithful
@@ -28,8 +30,8 @@ tells [] = refl
 tells (now ∷ past) = refl
 
 -- how often a store failed, and what of it is synced, is no part of the book that it holds
-pub faults_apart : (s : Store) (shape : ShapeView) (limits : LimitsView) (book : Book) → HoldsBook s shape limits book → HoldsBook (record s { faults = 0; unsynced = Others }) shape limits book
-faults_apart s shape limits book h = apart s s.most 0 Others shape limits book h
+pub faults_apart : (s : Store) (shape : ShapeView) (limits : LimitsView) (book : Book) → HoldsBook s shape limits book → HoldsBook (record s { faults = 0; unsynced = Others; has_lost = false }) shape limits book
+faults_apart s shape limits book h = apart s s.most 0 Others false shape limits book h
 
 -- what a name stands for that was given to a store that holds a book, or that was left to what has its pages
 pub held_now : (s : Store) (shape : ShapeView) (limits : LimitsView) (book : Book) (was is : Option History) → HoldsBook s shape limits book → NameIsKept s was is → HoldsNow shape limits book is
@@ -203,10 +205,16 @@ refused_by_folder first before after said answered (Ok x) later is named = tt
 refused_by_folder first before after said answered (Err fault) later is named = inr (is, widened first before after after said fault later (omega arith) named)
 
 -- a database is made, or it is not, of a store without pages
-pub made_or_not : {S : Type 0} {is_new : Bool} (seen : S → Store) (pages : ℕ) (r : Result DbView (S × CatalogueFault)) (s : Store)
-    → IfOk r (λ db. IsTrue is_new → IsTrue s.is_faithful → s.count ≡ 0 → HasBook new_shape (limits_of 16777216 1048576) empty_book db) → IfOk r (λ db. IsTrue s.is_faithful → HasPages db) → IfOk r (λ db. IsTrue s.is_faithful → IsIdle db)
-    → IfOk r (λ db. db.failed ≡ false) → IfOk r (λ db. capacity_of db ≡ pages) → IfOk r (λ db. IsTrue is_new → s.count ≡ 0 → IsSynced (store_of db))
-    → IfErr r (λ back. IsTrue is_new → IsTrue s.is_faithful → s.count ≡ 0 → IsSavingStop back.1) → IfErr r (λ back. back.1 ≡ opening.Store → Faulted s (seen back.0)) → IfErr r (λ back. back.1 ≡ opening.StoreFull → s.most ≡ 0)
-    → IsTrue is_new → s.count ≡ 0 → Makes seen s pages r
-made_or_not seen most (Ok db) s new pages idle lives capacity synced made caused full n z = (λ f. (new n f z, pages f, idle f), lives, capacity, synced n z)
-made_or_not seen most (Err back) s new pages idle lives capacity synced made caused full n z = (λ f. made n f z, caused, full)
+pub made_or_not : {S : Type 0} (seen : S → Store) (pages : ℕ) (r : Result DbView (S × CatalogueFault)) (s : Store)
+    → IfOk r (λ db. IsTrue s.is_faithful → HasBook new_shape new_limits empty_book db) → IfOk r (λ db. db.book ≡ empty_book) → IfOk r (λ db. db.limits ≡ new_limits) → IfOk r (λ db. IsTrue s.is_faithful → HasPages db) → IfOk r (λ db. db.begun ≡ true)
+    → IfOk r (λ db. db.failed ≡ false) → IfOk r (λ db. capacity_of db ≡ pages) → IfOk r (λ db. Writes 0 (sealed 0 (header_payload new_shape new_limits)) s (store_of db)) → IfOk r (λ db. IsSynced (store_of db))
+    → IfErr r (λ back. IsTrue s.is_faithful → IsSavingStop back.1) → IfErr r (λ back. IsCaused s (seen back.0) back.1) → IfErr r (λ back. Keeps s (seen back.0)) → IfErr r (λ back. IsLeft new_shape new_limits s (seen back.0))
+    → Makes seen s pages r
+made_or_not seen most (Ok db) s new book limits pages begun lives capacity writes synced made caused keeps left = (λ f. (new f, pages f), book, limits, begun, lives, capacity, writes, synced)
+made_or_not seen most (Err back) s new book limits pages begun lives capacity writes synced made caused keeps left = (made, caused, keeps, left)
+
+-- one that is made has the empty book
+pub made_empty : {S : Type 0} (seen : S → Store) (is_new : Bool) (pages : ℕ) (r : Result DbView (S × CatalogueFault)) (s : Store) → OpensOrMakes seen s is_new pages r
+    → IfOk r (λ db. IsTrue is_new → IsTrue s.is_faithful → s.count ≡ 0 → HasBook new_shape new_limits empty_book db)
+made_empty seen is_new pages (Ok db) s o = λ n f z. ((o.makes n z).0 f).0
+made_empty seen is_new pages (Err back) s o = tt

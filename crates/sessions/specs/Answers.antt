@@ -3,7 +3,7 @@ use Rattle.std.specs.Prelude.{ℕ, ◌≡◌, ◌≢◌, ◌⊎◌, ◌<◌, ◌
 use Rattle.std.specs.Io.KnownBytes.{Appends}
 use Rattle.legs.specs.Book.{Book}
 use Rattle.legs.specs.Costs.{ShapeView}
-use Rattle.legs.specs.Limits.{LimitsView}
+use Rattle.legs.specs.Limits.{limits_of, LimitsView}
 use Rattle.outputs.specs.Output.{OutputView}
 use Rattle.pages.specs.Store.{Store, Faulted, IsSynced}
 use Rattle.boxsearch.specs.Index.{written, IndexView, words}
@@ -31,6 +31,10 @@ use Rattle.sessions.specs.declared.fault.Fault.TheVariants.{Run, Open, CannotRea
 -- the shape of the tree of a new database
 abbrev pub new_shape : ShapeView
 new_shape = record { leaf = 50; inner = 72 }
+
+-- and under these limits
+abbrev pub new_limits : LimitsView
+new_limits = limits_of 16777216 1048576
 
 -- what was sent is exactly the text of the run over a book, and the store holds the book after it, in
 -- a tree of that shape

@@ -2,23 +2,25 @@
 use Rattle.std.specs.Prelude.{ℕ, ◌≡◌, ◌<◌, ◌⊎◌, ◌^◌, ◌-◌, List, [], ◌∷◌, length, Bool, Option, Some, None, IfErr, IfSome, IsErr, IsTrue, OnOk, Err, Ok, Result, false, true, ⊤}
 use Rattle.legs.specs.Book.{Book, empty_book}
 use Rattle.legs.specs.Costs.{ShapeView}
-use Rattle.legs.specs.Limits.{limits_of, LimitsView}
+use Rattle.legs.specs.Limits.{LimitsView}
 use Rattle.outputs.specs.Output.{OutputView}
-use Rattle.pages.specs.Store.{Store, Faulted, HasRisen, IsSynced}
+use Rattle.pages.specs.Sealed.{sealed}
+use Rattle.pages.specs.Store.{Store, HasRisen, IsSynced, Keeps, Writes}
 use Rattle.pages.specs.declared.unsynced.Unsynced.TheVariants.{Others}
+use Rattle.catalogue.specs.Beginning.{IsLeft}
 use Rattle.catalogue.specs.Holding.{HoldsBook}
+use Rattle.header.specs.Fields.{header_payload}
 use Rattle.register.specs.Saving.{IsSavingStop}
 use Rattle.trajdb.specs.Calls.{IsLoadFault}
-use Rattle.trajdb.specs.Db.{capacity_of, store_of, DbView, HasPages}
+use Rattle.trajdb.specs.Db.{capacity_of, store_of, DbView, HasPages, IsCaused}
 use Rattle.trajdb.specs.Faults.{IsNotOutput}
-use Rattle.trajdb.specs.Lasting.{HasBook, IsIdle}
+use Rattle.trajdb.specs.Lasting.{HasBook}
 use Rattle.trajdb.specs.Promises.{OpenCall}
 use Rattle.trajdb.specs.Run.{HasRun}
 use Rattle.register.specs.declared.fault.CatalogueFault.{CatalogueFault}
-use Rattle.register.specs.declared.fault.CatalogueFault.TheVariants as opening
 use Rattle.trajdb.specs.declared.RunFault.{RunFault}
 use Rattle.trajdb.specs.declared.RunFault.TheVariants.{Memory, Store as StoreFailed}
-use Rattle.sessions.specs.Answers.{Answers, RunsOver, new_shape}
+use Rattle.sessions.specs.Answers.{Answers, RunsOver, new_limits, new_shape}
 use Rattle.sessions.specs.declared.fault.Fault.{Fault}
 use Rattle.sessions.specs.declared.fault.Fault.TheVariants.{Bounds, CannotRead, CannotWrite, InUse, NoPart, NoStore, NoSuchStore, NotEmpty, Open, Run}
 
@@ -33,6 +35,7 @@ file_store pages = record {
   most = 2 ^ 32 - 1;
   faults = 0;
   unsynced = Others;
+  has_lost = false;
   is_faithful = true;
   pages = pages;
 }
@@ -52,11 +55,11 @@ abbrev pub BeginsWith : Bool → Store → ShapeView → LimitsView → Book →
 BeginsWith is_new store shape limits book =
     HoldsBook store shape limits book
     ⊎ (IsTrue is_new × (store.count ≡ 0) × (shape ≡ new_shape)
-    × (limits ≡ limits_of 16777216 1048576) × (book ≡ empty_book))
+    × (limits ≡ new_limits) × (book ≡ empty_book))
 
--- a store is as another one in all but its count of faults and what is synced
+-- a store is as another one in all but its count of faults, what is synced and whether it may be lost
 abbrev pub HasPagesOf : Store → Store → Type 0
-HasPagesOf store other = record store { faults = 0; unsynced = Others } ≡ other
+HasPagesOf store other = record store { faults = 0; unsynced = Others; has_lost = false } ≡ other
 
 -- a store has the pages of what the name stands for, where a folder tells it
 abbrev pub HasPagesHeld : Store → Option History → Type 0
@@ -80,10 +83,6 @@ IsReplaced store None None = ⊤
 -- the name stands for a file of these pages now: nothing came between, or nothing has changed
 abbrev pub NameIsKept : Store → Option History → Option History → Type 0
 NameIsKept store old new = IsReplaced store old new ⊎ ((new ≡ old) × HasPagesHeld store old)
-
--- the name stands for a file now that was made so, or for what it stood for
-abbrev pub IsKeptOnce : Option History → Option History → Type 0
-IsKeptOnce old new = (store : Store) × NameIsKept store old new
 
 -- what the name stands for now holds the book, where a folder tells it
 abbrev pub HoldsNow : ShapeView → LimitsView → Book → Option History → Type 0
@@ -134,22 +133,31 @@ pub record RunsBeside (shape : ShapeView) (limits : LimitsView) (book : Book)
   pub kept : NameIsKept store old new
   pub held : HoldsNow shape limits answers.after new
 
--- of a copy without pages a database is made that has not failed, with a cache of so many pages, synced, and over a
--- faithful copy with the empty book, its pages as its state says; or it is not: as the copy failed, or may have no
--- page, where that is said, and over a faithful one else for want of memory alone
-abbrev pub Makes : {S : Type 0} (seen : S → Store) (copy : Store) (cache_pages : ℕ)
+-- of a store without pages a database is made with the empty book that has begun and not failed, with a cache of so many
+-- pages: its store has page 0 alone, its header, and is synced; over a faithful store it is sound, and its pages are as its
+-- state says. Or it is not: as the store failed, or may have no page, where that is said, and over a faithful one else for want
+-- of memory alone; what is left has no page, or page 0 alone, which of a faithful one is that header, unless it failed
+abbrev pub Makes : {S : Type 0} (seen : S → Store) (store : Store) (cache_pages : ℕ)
     → Result DbView (S × CatalogueFault) → Type 0
-Makes seen copy cache_pages (Ok db) =
-    (IsTrue copy.is_faithful
-    → HasBook new_shape (limits_of 16777216 1048576) empty_book db × HasPages db × IsIdle db)
-    × (db.failed ≡ false) × (capacity_of db ≡ cache_pages) × IsSynced (store_of db)
-Makes seen copy cache_pages (Err back) =
-    (IsTrue copy.is_faithful → IsSavingStop back.1)
-    × (back.1 ≡ opening.Store → Faulted copy (seen back.0))
-    × (back.1 ≡ opening.StoreFull → copy.most ≡ 0)
+Makes seen store cache_pages (Ok db) =
+    (IsTrue store.is_faithful → HasBook new_shape new_limits empty_book db × HasPages db)
+    × (db.book ≡ empty_book) × (db.limits ≡ new_limits)
+    × (db.begun ≡ true) × (db.failed ≡ false) × (capacity_of db ≡ cache_pages)
+    × Writes 0 (sealed 0 (header_payload new_shape new_limits)) store (store_of db)
+    × IsSynced (store_of db)
+Makes seen store cache_pages (Err back) =
+    (IsTrue store.is_faithful → IsSavingStop back.1) × IsCaused store (seen back.0) back.1
+    × Keeps store (seen back.0) × IsLeft new_shape new_limits store (seen back.0)
 
--- a run on a copy of what the name stood for, whatever that held: a store with pages was opened, and one without them was made
--- a database where that was asked for; it was run over and closed (`RunsOver`). Where that is answered, the name is kept as
+-- a store is opened, or made a database where it has no page and that is asked for, with a cache of so many pages; or it
+-- is not, and why
+pub record OpensOrMakes {S : Type 0} (seen : S → Store) (store : Store) (is_new : Bool)
+    (cache_pages : ℕ) (opened : Result DbView (S × CatalogueFault)) : Type 0 where
+  pub opens : (is_new ≡ false) ⊎ (0 < store.count) → OpenCall seen store cache_pages opened
+  pub makes : IsTrue is_new → store.count ≡ 0 → Makes seen store cache_pages opened
+
+-- a run on a copy of what the name stood for, whatever that held: it was opened, or made a database (`OpensOrMakes`), run over
+-- and closed (`RunsOver`). Where that is answered, the name is kept as
 -- `NameIsKept` says; it is refused as that was, or as the folder did not make it last, or give it the name
 pub record RunsOnCopy {S O : Type 0} (seen : S → Store) (shown : O → OutputView)
     (is_new : Bool) (cache_pages before after : ℕ) (last : Option Fault)
@@ -159,8 +167,7 @@ pub record RunsOnCopy {S O : Type 0} (seen : S → Store) (shown : O → OutputV
   pub copy : Store
   pub copies : IfSome old (λ past. copy ≡ store_in past)
   pub opened : Result DbView (S × CatalogueFault)
-  pub opens : (is_new ≡ false) ⊎ (0 < copy.count) → OpenCall seen copy cache_pages opened
-  pub makes : IsTrue is_new → copy.count ≡ 0 → Makes seen copy cache_pages opened
+  pub opens : OpensOrMakes seen copy is_new cache_pages opened
   pub answered : Result (Unit {0}) Fault
   pub closed : Result (Unit {0}) RunFault
   pub store : Store

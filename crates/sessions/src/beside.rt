@@ -5,7 +5,7 @@ ghost use Rattle.legs.specs.Costs.{ShapeView};
 ghost use Rattle.legs.specs.Limits.{LimitsView};
 ghost use Rattle.trajdb.specs.Script.{lines_of};
 ghost use Rattle.sessions.specs.Answers.{SendsFront};
-ghost use Rattle.sessions.specs.Folder.{BeginsWith, NameIsKept, IsKeptOnce, IsRefusedEarly, IsRefusedByFolder, IsRefusedBeside, IsReplaced, RunsBeside, RunsOnCopy, store_in};
+ghost use Rattle.sessions.specs.Folder.{BeginsWith, NameIsKept, IsRefusedEarly, IsRefusedByFolder, IsRefusedBeside, IsReplaced, RunsBeside, RunsOnCopy, store_in};
 
 use crate::fault::Fault;
 use crate::folder::Folder;
@@ -114,9 +114,7 @@ pub fn run_on_copy<'a, F: Folder, O: Output>(
         (F.held folder.old) (F.held folder.new) files.now out.old out.new (lines_of script.now)
         result }
 
-    // Whatever the store held, the name was given to another file once at most, and that is on the
-    // disk as far as the system can make it so.
-    ensures once { OnOk result (IsKeptOnce (F.held folder.old) (F.held folder.new)) }
+    // The name is on the disk as far as the system can make it so.
     ensures settled { OnOk result (IsTrue (F.is_settled folder.old)
         → IsTrue (F.is_settled folder.new)) }
 

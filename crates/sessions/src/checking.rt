@@ -32,11 +32,10 @@ pub fn check_and_close<S: PageStore>(
         → database.failed ≡ false → HoldsOrNot (S.seen result.0) database }
 
     // Nor does it lose a page that the database counts, be that sound or not: each stays as it was
-    // written; and of one that had failed the store stays.
+    // written.
     ensures stays { IsTrue (store_of database).is_faithful → IsIdle database
         → database.begun ≡ false → database.failed ≡ false
         → HasWritten database (S.seen result.0) }
-    ensures failed { database.failed ≡ true → S.seen result.0 ≡ store_of database }
 
     // Where the database had begun, all of the store is synced where it passes.
     ensures synced { OnOk result.1 (database.begun ≡ true → IsSynced (S.seen result.0)) }

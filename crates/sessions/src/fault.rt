@@ -37,9 +37,7 @@ pub enum Fault<'a> {
 impl Fault<'_> {
     /// The exit status of the program: 2 where its words are wrong, else 1.
     pub fn status(&self) -> u8
-        ensures value { result ≡ status_of self.now }
-        ensures fails { 1 ≤ result }
-        ensures most { result ≤ 2 }
+        ensures { result ≡ status_of self.now }
     {
         match self {
             Fault::NoPart(..) | Fault::Bounds(_) => 2,

@@ -1,5 +1,5 @@
 //! A store that cannot be written.
-ghost use Rattle.std.specs.Prelude.{◌≡◌, ◌<◌, Some, slice_get, IsTrue, IsErr, OnErr, OnOk};
+ghost use Rattle.std.specs.Prelude.{◌≡◌, ◌<◌, false, Some, slice_get, IsTrue, IsErr, OnErr, OnOk};
 ghost use Rattle.pages.specs.Store.{Faulted, MayUnsync, SameUnsynced, Stays, Tears, Unsyncs, Writes};
 ghost use Rattle.pages.specs.declared.unsynced.Unsynced.TheVariants.{Nothing};
 
@@ -20,7 +20,7 @@ impl<S: PageStore> ReadOnly<S> {
     /// The store over that one, of which no call has failed.
     pub fn new(store: S) -> ReadOnly<S>
         ensures { ⟦<ReadOnly<S> as PageStore>⟧.seen result
-            ≡ record (S.seen store) { faults = 0; unsynced = Nothing } }
+            ≡ record (S.seen store) { faults = 0; unsynced = Nothing; has_lost = false } }
     {
         ReadOnly {
             store,
@@ -32,7 +32,7 @@ impl<S: PageStore> ReadOnly<S> {
 impl<S: PageStore> PageStore for ReadOnly<S> {
     ghost use Rattle.pages.specs.Store.{Store, IsLawful};
 
-    ghost seen = { λ s. record (S.seen s.store) { faults = s.faults; unsynced = Nothing } };
+    ghost seen = { λ s. record (S.seen s.store) { faults = s.faults; unsynced = Nothing; has_lost = false } };
 
     ghost lawful = { λ s. let l = S.lawful s.store in
         record { within = l.within; small = l.small; counted = l.counted } };

@@ -1,20 +1,15 @@
 //! A database over a store of any kind: it is made or opened, a script is run, and it is closed.
-ghost use Rattle.std.specs.Prelude.{◌≡◌, ◌<◌, ◌⊎◌, false, IfErr, IfOk, IsErrOf, IsTrue, OnErr, OnOk};
+ghost use Rattle.std.specs.Prelude.{◌≡◌, ◌<◌, ◌⊎◌, false, IfOk, IsErrOf, IsTrue, OnErr, OnOk};
 ghost use Rattle.legs.specs.Costs.{ShapeView};
-ghost use Rattle.legs.specs.Limits.{limits_of, LimitsView};
-ghost use Rattle.legs.specs.Book.{Book, empty_book};
-ghost use Rattle.register.specs.Saving.{IsSavingStop};
-ghost use Rattle.register.specs.Lasting.{IsStop};
+ghost use Rattle.legs.specs.Limits.{LimitsView};
+ghost use Rattle.legs.specs.Book.{Book};
 ghost use Rattle.trajdb.specs.Script.{lines_of};
-ghost use Rattle.catalogue.specs.Beginning.{IsLeft};
 ghost use Rattle.catalogue.specs.Holding.{HoldsBook};
-ghost use Rattle.pages.specs.Sealed.{sealed};
-ghost use Rattle.pages.specs.Store.{Faulted, IsSynced, Keeps, Writes};
-ghost use Rattle.header.specs.Fields.{header_payload};
-ghost use Rattle.trajdb.specs.Db.{capacity_of, shape_of, store_of, HasPages, IsSoundDb};
-ghost use Rattle.trajdb.specs.Lasting.{HasBook, IsIdle, IsSafe};
-ghost use Rattle.trajdb.specs.Promises.{OpenCall};
-ghost use Rattle.sessions.specs.Answers.{new_shape, said, Answers, HasWritten, NoneBegins, OnlyAsks, RunBegins, RunsAndCloses, RunsOver, SendsFront};
+ghost use Rattle.pages.specs.Store.{Faulted, IsSynced};
+ghost use Rattle.trajdb.specs.Db.{shape_of, store_of, HasPages, IsSoundDb};
+ghost use Rattle.trajdb.specs.Lasting.{HasBook, IsIdle};
+ghost use Rattle.sessions.specs.Folder.{OpensOrMakes};
+ghost use Rattle.sessions.specs.Answers.{new_limits, said, Answers, HasWritten, NoneBegins, OnlyAsks, RunBegins, RunsAndCloses, RunsOver, SendsFront};
 
 use crate::fault::Fault;
 use legs::Limits;
@@ -36,7 +31,7 @@ const MOST_FEATURES: u32 = 1 << 20;
 
 /// How much a new database may hold.
 fn limits() -> Limits
-    ensures { result ≡ limits_of 16777216 1048576 }
+    ensures { result ≡ new_limits }
 {
     Limits::new(MOST_LEGS, MOST_FEATURES).unwrap()
 }
@@ -54,49 +49,17 @@ pub fn database<S: PageStore>(
     cache_pages: u32,
 ) -> Result<Db<S>, (S, OpenFault)>
     requires { 0 < cache_pages }
-    ensures new { IfOk result (λ db. IsTrue is_new → IsTrue (S.seen store).is_faithful
-        → (S.seen store).count ≡ 0
-        → HasBook new_shape (limits_of 16777216 1048576) empty_book db) }
+    // A store that has a page, or of which none is to be made, is opened, be what it holds sound or not; any other is made
+    // an empty database, which has page 0 alone, and is synced, or is handed back.
+    ensures opens { OpensOrMakes S.seen (S.seen store) is_new cache_pages result }
+
+    // One that holds a book is a database with that book, and over any faithful store its pages are as its state says.
     ensures kept { IfOk result (λ db. IsTrue (S.seen store).is_faithful
         → (shape : ShapeView) (limits : LimitsView) (book : Book)
         → HoldsBook (S.seen store) shape limits book → HasBook shape limits book db) }
     ensures pages { IfOk result (λ db. IsTrue (S.seen store).is_faithful → HasPages db) }
     ensures idle { IfOk result (λ db. IsTrue (S.seen store).is_faithful → IsIdle db) }
     ensures lives { IfOk result (λ db. db.failed ≡ false) }
-    ensures safe { IfOk result (λ db. IsTrue (S.seen store).is_faithful → IsSoundDb db
-        → IsSafe (S.seen store) db) }
-    ensures capacity { IfOk result (λ db. capacity_of db ≡ cache_pages) }
-
-    // A store that has a page, or of which none is to be made, is opened, be what it holds sound or not.
-    ensures opens { (is_new ≡ false) ⊎ (0 < (S.seen store).count)
-        → OpenCall S.seen (S.seen store) cache_pages result }
-
-    // One that is made has page 0 alone, its header, which is synced.
-    ensures header { IfOk result (λ db. IsTrue is_new → (S.seen store).count ≡ 0
-        → Writes 0 (sealed 0 (header_payload new_shape (limits_of 16777216 1048576)))
-        (S.seen store) (store_of db)) }
-    ensures synced { IfOk result (λ db. IsTrue is_new → (S.seen store).count ≡ 0
-        → IsSynced (store_of db)) }
-
-    // One that holds a book is refused for want of memory and a store that failed alone, and one
-    // that is to be made besides where there is no room for a page.
-    ensures holds { IfErr result (λ back. IsTrue (S.seen store).is_faithful
-        → (shape : ShapeView) (limits : LimitsView) (book : Book)
-        → HoldsBook (S.seen store) shape limits book → IsStop back.1) }
-    ensures made { IfErr result (λ back. IsTrue is_new → IsTrue (S.seen store).is_faithful
-        → (S.seen store).count ≡ 0 → IsSavingStop back.1) }
-
-    // A store is said to have failed, or to have no room, only where it did or has none.
-    ensures caused { IfErr result (λ back. back.1 ≡ OpenFault.Store
-        → Faulted (S.seen store) (S.seen back.0)) }
-    ensures full { IfErr result (λ back. back.1 ≡ OpenFault.StoreFull
-        → (S.seen store).most ≡ 0) }
-
-    // The store that is handed back: where one was to be made, it has no page, or page 0 alone,
-    // which of a faithful one is that header, unless the store failed.
-    ensures keeps { IfErr result (λ back. Keeps (S.seen store) (S.seen back.0)) }
-    ensures left { IfErr result (λ back. IsTrue is_new → (S.seen store).count ≡ 0
-        → IsLeft new_shape (limits_of 16777216 1048576) (S.seen store) (S.seen back.0)) }
 {
     if is_new && store.len() == 0 {
         let shape = Shape::new(50, 72).unwrap();

@@ -9,7 +9,7 @@ use Rattle.trajdb.specs.Lasting.{IsIdle}
 use Rattle.trajdb.specs.Script.{lines_of}
 use Rattle.sessions.specs.Answers.{SendsFront}
 use Rattle.sessions.specs.Folder.{BeginsWith, History, IsRefusedBeside, NameIsKept, RunsBeside, store_in}
-use Rattle.sessions.proofs.FolderLemmas.{begun_with, beside, each, front_answered, front_none, front_opened, if_refused, made_or_not, on_both, only_if, over_ended, over_opened, over_unsent, refused_by_folder, refused_done, refused_run, some_only, tells, under, under_err}
+use Rattle.sessions.proofs.FolderLemmas.{begun_with, beside, each, front_answered, front_none, front_opened, if_refused, made_empty, on_both, only_if, over_ended, over_opened, over_unsent, refused_by_folder, refused_done, refused_run, some_only, tells, under, under_err}
 use Rattle.sessions.proofs.beside.run_on_copy.Goals as goal
 
 pub returns-in-Ok-answered-clause-runs : goal.returns-in-Ok-answered-clause-runs
@@ -31,7 +31,7 @@ returns-in-Ok-answered-clause-runs g c =
     each c.keep.result (λ h. R shape limits book) (λ (h : B past shape limits book).
     beside opened c.answer-store.result.1 c.keep.result c.args.files.now (g.O.Output.seen c.args.out.now).contents (g.O.Output.seen c.answer-store.new.out).contents (lines_of c.args.script.now) first last was is c.database-database.ensures.pages c.database-database.ensures.idle (over_opened g.F.Store.PageStore.seen g.O.Output.seen c.args.files.now c.args.out.now c.answer-store.new.out (lines_of c.args.script.now) (g.F.Store.PageStore.seen c.answer-store.result.0) c.answer-store.result.1 c.answer-store.result.2 c.database-database.result c.answer-store.ensures.over) c.in-Ok-answered.is c.answer-store.ensures.runs kept
     opened refl c.keep.result refl shape limits book faithful
-    (begun_with opened first (store_in past) same c.args.how.is_new shape limits book faithful c.database-database.ensures.new c.database-database.ensures.kept h))))))
+    (begun_with opened first (store_in past) same c.args.how.is_new shape limits book faithful (made_empty g.F.Store.PageStore.seen c.args.how.is_new c.args.how.cache_pages c.database-database.result (g.F.Store.PageStore.seen c.in-Ok.store) c.database-database.ensures.opens) c.database-database.ensures.kept h))))))
 
 pub returns-in-Err-answered-clause-sent : goal.returns-in-Err-answered-clause-sent
 returns-in-Err-answered-clause-sent g c =
@@ -45,7 +45,7 @@ returns-in-Err-answered-clause-sent g c =
     let faithful = subst (λ (s : Store). IsTrue s.is_faithful) (sym same) (tells past) in
     front_opened opened c.answer-store.result.1 c.args.files.now (g.O.Output.seen c.args.out.now).contents (g.O.Output.seen c.answer-store.new.out).contents lines shape limits book c.in-Err-answered.fault c.in-Err-answered.is
     c.database-database.ensures.lives c.answer-store.ensures.sent (over_unsent g.F.Store.PageStore.seen g.O.Output.seen c.args.files.now c.args.out.now c.answer-store.new.out (lines_of c.args.script.now) (g.F.Store.PageStore.seen c.answer-store.result.0) c.answer-store.result.1 c.answer-store.result.2 c.database-database.result c.answer-store.ensures.over)
-    (begun_with opened first (store_in past) same c.args.how.is_new shape limits book faithful c.database-database.ensures.new c.database-database.ensures.kept h))
+    (begun_with opened first (store_in past) same c.args.how.is_new shape limits book faithful (made_empty g.F.Store.PageStore.seen c.args.how.is_new c.args.how.cache_pages c.database-database.result (g.F.Store.PageStore.seen c.in-Ok.store) c.database-database.ensures.opens) c.database-database.ensures.kept h))
 
 pub returns-in-Ok-answered-clause-sent : goal.returns-in-Ok-answered-clause-sent
 returns-in-Ok-answered-clause-sent g c =
@@ -62,7 +62,7 @@ returns-in-Ok-answered-clause-sent g c =
     let idle = only_if (λ (db : DbView). IsTrue first.is_faithful → IsIdle db) IsIdle opened (λ db f. f faithful) c.database-database.ensures.idle in
     front_answered opened c.answer-store.result.1 c.args.files.now (g.O.Output.seen c.args.out.now).contents (g.O.Output.seen c.answer-store.new.out).contents lines last shape limits book c.in-Ok-answered.is
     pages idle (over_opened g.F.Store.PageStore.seen g.O.Output.seen c.args.files.now c.args.out.now c.answer-store.new.out (lines_of c.args.script.now) (g.F.Store.PageStore.seen c.answer-store.result.0) c.answer-store.result.1 c.answer-store.result.2 c.database-database.result c.answer-store.ensures.over) c.answer-store.ensures.runs
-    (begun_with opened first (store_in past) same c.args.how.is_new shape limits book faithful c.database-database.ensures.new c.database-database.ensures.kept h))
+    (begun_with opened first (store_in past) same c.args.how.is_new shape limits book faithful (made_empty g.F.Store.PageStore.seen c.args.how.is_new c.args.how.cache_pages c.database-database.result (g.F.Store.PageStore.seen c.in-Ok.store) c.database-database.ensures.opens) c.database-database.ensures.kept h))
 
 pub returns-in-Err-clause-sent : goal.returns-in-Err-clause-sent
 returns-in-Err-clause-sent g c =
@@ -94,7 +94,7 @@ returns-in-Err-answered-clause-refused g c =
     let idle = only_if (λ (db : DbView). IsTrue first.is_faithful → IsIdle db) IsIdle opened (λ db f. f faithful) c.database-database.ensures.idle in
     refused_run c.args.files.now sent sent' lines last opened c.answer-store.result.1 shape limits book c.in-Err-answered.fault c.in-Err-answered.is
     (over_unsent g.F.Store.PageStore.seen g.O.Output.seen c.args.files.now c.args.out.now c.answer-store.new.out (lines_of c.args.script.now) (g.F.Store.PageStore.seen c.answer-store.result.0) c.answer-store.result.1 c.answer-store.result.2 c.database-database.result c.answer-store.ensures.over) (over_ended g.F.Store.PageStore.seen g.O.Output.seen c.args.files.now c.args.out.now c.answer-store.new.out (lines_of c.args.script.now) (g.F.Store.PageStore.seen c.answer-store.result.0) c.answer-store.result.1 c.answer-store.result.2 c.database-database.result c.answer-store.ensures.over) c.database-database.ensures.lives pages idle
-    (begun_with opened first (store_in past) same c.args.how.is_new shape limits book faithful c.database-database.ensures.new c.database-database.ensures.kept h))
+    (begun_with opened first (store_in past) same c.args.how.is_new shape limits book faithful (made_empty g.F.Store.PageStore.seen c.args.how.is_new c.args.how.cache_pages c.database-database.result (g.F.Store.PageStore.seen c.in-Ok.store) c.database-database.ensures.opens) c.database-database.ensures.kept h))
 
 pub returns-in-Ok-answered-clause-refused : goal.returns-in-Ok-answered-clause-refused
 returns-in-Ok-answered-clause-refused g c =
@@ -112,7 +112,7 @@ returns-in-Ok-answered-clause-refused g c =
     let idle = only_if (λ (db : DbView). IsTrue first.is_faithful → IsIdle db) IsIdle opened (λ db f. f faithful) c.database-database.ensures.idle in
     refused_done c.args.files.now sent sent' lines last opened c.answer-store.result.1 shape limits book fault c.in-Ok-answered.is
     pages idle (over_opened g.F.Store.PageStore.seen g.O.Output.seen c.args.files.now c.args.out.now c.answer-store.new.out (lines_of c.args.script.now) (g.F.Store.PageStore.seen c.answer-store.result.0) c.answer-store.result.1 c.answer-store.result.2 c.database-database.result c.answer-store.ensures.over) c.answer-store.ensures.runs
-    (begun_with opened first (store_in past) same c.args.how.is_new shape limits book faithful c.database-database.ensures.new c.database-database.ensures.kept h))
+    (begun_with opened first (store_in past) same c.args.how.is_new shape limits book faithful (made_empty g.F.Store.PageStore.seen c.args.how.is_new c.args.how.cache_pages c.database-database.result (g.F.Store.PageStore.seen c.in-Ok.store) c.database-database.ensures.opens) c.database-database.ensures.kept h))
 
 pub returns-in-Err-clause-over : goal.returns-in-Err-clause-over
 returns-in-Err-clause-over g c =
@@ -126,8 +126,6 @@ returns-in-Err-answered-clause-over g c = inr (record {
   copies = c.in-Ok.ensures.copies;
   opened = c.database-database.result;
   opens = c.database-database.ensures.opens;
-  makes = made_or_not g.F.Store.PageStore.seen c.args.how.cache_pages c.database-database.result (g.F.Store.PageStore.seen c.in-Ok.store) c.database-database.ensures.new c.database-database.ensures.pages c.database-database.ensures.idle c.database-database.ensures.lives c.database-database.ensures.capacity c.database-database.ensures.synced
-      c.database-database.ensures.made c.database-database.ensures.caused c.database-database.ensures.full;
   answered = c.answer-store.result.1;
   closed = c.answer-store.result.2;
   store = g.F.Store.PageStore.seen c.answer-store.result.0;
@@ -148,8 +146,6 @@ returns-in-Ok-answered-clause-over g c =
       copies = c.in-Ok.ensures.copies;
       opened = c.database-database.result;
       opens = c.database-database.ensures.opens;
-      makes = made_or_not g.F.Store.PageStore.seen c.args.how.cache_pages c.database-database.result (g.F.Store.PageStore.seen c.in-Ok.store) c.database-database.ensures.new c.database-database.ensures.pages c.database-database.ensures.idle c.database-database.ensures.lives c.database-database.ensures.capacity c.database-database.ensures.synced
-          c.database-database.ensures.made c.database-database.ensures.caused c.database-database.ensures.full;
       answered = answered;
       closed = c.answer-store.result.2;
       store = last;

@@ -7,7 +7,7 @@ use Rattle.trajdb.specs.Calls.{IsLoadFault}
 use Rattle.trajdb.specs.Lasting.{IsClosingFault, IsIdle}
 use Rattle.sessions.proofs.AnswerLemmas.{checks, err_of, keeps, not_refused}
 use Rattle.sessions.proofs.CheckLemmas.{check_fault, close_fault, left_book, no_page, of_load}
-use Rattle.sessions.proofs.WrittenLemmas.{checked_failed, checked_stays}
+use Rattle.sessions.proofs.WrittenLemmas.{checked_stays}
 use Rattle.sessions.proofs.checking.check_and_close.Goals as goal
 
 pub returns-in-Ok-closed-clause-checks : goal.returns-in-Ok-closed-clause-checks
@@ -131,35 +131,17 @@ returns-in-Ok-closed-clause-stays g c =
     let d = c.close-store.ensures in
     checked_stays c.args.database c.check-checked.new.self (g.S.PageStore.seen c.close-store.result.0) e.leaves (λ l b. (d.idle l b).1)
 
-pub returns-in-Ok-closed-clause-failed : goal.returns-in-Ok-closed-clause-failed
-returns-in-Ok-closed-clause-failed g c =
-    let e = c.check-checked.ensures.call in
-    let d = c.close-store.ensures in
-    checked_failed c.args.database c.check-checked.new.self (g.S.PageStore.seen c.close-store.result.0) (λ f. (e.was_failed f).1) (λ f. (d.failed f).1)
-
 pub returns-in-Err-closed-clause-stays : goal.returns-in-Err-closed-clause-stays
 returns-in-Err-closed-clause-stays g c =
     let e = c.check-checked.ensures.call in
     let d = c.close-store.ensures in
     checked_stays c.args.database c.check-checked.new.self (g.S.PageStore.seen c.close-store.result.0) e.leaves (λ l b. (d.idle l b).1)
 
-pub returns-in-Err-closed-clause-failed : goal.returns-in-Err-closed-clause-failed
-returns-in-Err-closed-clause-failed g c =
-    let e = c.check-checked.ensures.call in
-    let d = c.close-store.ensures in
-    checked_failed c.args.database c.check-checked.new.self (g.S.PageStore.seen c.close-store.result.0) (λ f. (e.was_failed f).1) (λ f. (d.failed f).1)
-
 pub returns-in-Err-clause-stays : goal.returns-in-Err-clause-stays
 returns-in-Err-clause-stays g c =
     let e = c.check-checked.ensures.call in
     let d = c.close-store.ensures in
     checked_stays c.args.database c.check-checked.new.self (g.S.PageStore.seen c.close-store.result.0) e.leaves (λ l b. (d.idle l b).1)
-
-pub returns-in-Err-clause-failed : goal.returns-in-Err-clause-failed
-returns-in-Err-clause-failed g c =
-    let e = c.check-checked.ensures.call in
-    let d = c.close-store.ensures in
-    checked_failed c.args.database c.check-checked.new.self (g.S.PageStore.seen c.close-store.result.0) (λ f. (e.was_failed f).1) (λ f. (d.failed f).1)
 
 pub returns-in-Ok-closed-clause-synced : goal.returns-in-Ok-closed-clause-synced
 returns-in-Ok-closed-clause-synced g c = λ begun.
