@@ -12,10 +12,12 @@ use Rattle.trajdb.specs.Promises.{RunCall}
 use Rattle.trajdb.specs.Script.{lines_of}
 use Rattle.trajdb.specs.declared.RunFault.{RunFault}
 use Rattle.sessions.specs.Answers.{RunsAndCloses, RunsOver}
-use Rattle.sessions.specs.Folder.{History, IsOfFolder, IsRefusedByFolder, IsRefusedEarly, NameIsKept, RunsOnCopy}
+use Rattle.sessions.specs.Folder.{History, IsOfFolder, IsRefusedByFolder, IsRefusedEarly, NameIsKept, OpensOrMakes, RunsOnCopy}
 use Rattle.sessions.specs.declared.fault.Fault.{Fault}
+use Rattle.sessions.specs.declared.fault.Fault.TheVariants as faults
 use Rattle.mftb.specs.RunAsked.{RunsAsAsked}
-use Rattle.mftb.specs.Running.{IsRefusedUnsent, IsRun, IsRunInPlace, IsLeftUnsaid, IsUnrun, OpensOrMakes, RunsInPlace, RunsSome}
+use Rattle.mftb.specs.Sending.{IsRefusedFor}
+use Rattle.mftb.specs.Running.{IsRun, IsRunInPlace, IsLeftUnsaid, RunsInPlace, RunsSome}
 use Rattle.mftb.specs.Unopened.{IsUnheld}
 use Rattle.mftb.specs.declared.run.Work.{Work}
 use Rattle.mftb.proofs.OpeningLemmas.{opens_shown, refuses_shown}
@@ -99,14 +101,26 @@ module _ {O : Type 0} (shown : O → OutputView) (work : Work) (out out' : O) wh
   }
 
 -- a store that is not held is why nothing was run over
-unheld : (result : Result (Unit {0}) Fault) → IfErr result IsUnheld → IfErr result IsUnrun
+of_folder : (fault : Fault) → IsUnheld fault → IsOfFolder fault
+of_folder (faults.Run why) is = inl is
+of_folder (faults.Open why) is = absurd is
+of_folder (faults.CannotRead name) is = absurd is
+of_folder (faults.CannotWrite name) is = absurd is
+of_folder faults.NotEmpty is = absurd is
+of_folder (faults.NoPart part parts) is = absurd is
+of_folder faults.InUse is = tt
+of_folder (faults.NoStore cause) is = tt
+of_folder faults.NoSuchStore is = absurd is
+of_folder (faults.Bounds code) is = absurd is
+
+unheld : (result : Result (Unit {0}) Fault) → IfErr result IsUnheld → IfErr result IsOfFolder
 unheld (Ok x) why = tt
-unheld (Err fault) why = inl why
+unheld (Err fault) why = of_folder fault why
 
 -- a store that was run over as it lies there was run over
 pub in_place_is_run : (work : Work) (sent sent' : OutputView) (result : Result (Unit {0}) Fault) (left : Option RunFault)
     → IsRunInPlace work sent sent' result left → IsRun work sent sent' result
-in_place_is_run work sent sent' result left (inl (unsent, why, none)) = inl (unsent, unheld result why)
+in_place_is_run work sent sent' result left (inl ((same, ends, why), none)) = inl (same, ends, unheld result why)
 in_place_is_run work sent sent' result left (inr (was, store, r)) = inr (record {
   was = was;
   opened = r.opened;
@@ -132,9 +146,9 @@ answers_of N before after last answered (Err fault) kept (inl is) = inl is
 answers_of N before after last answered (Err fault) kept (inr (is, why)) = inr (is, tt, why.0)
 
 unsent : {O : Type 0} (shown : O → OutputView) (out out' : O) (before after : ℕ) (last : Option Fault) (result : Result (Unit {0}) Fault)
-    → IsRefusedEarly before after last result → shown out' ≡ shown out → IsRefusedUnsent (shown out) (shown out') result × IfErr result IsUnrun
+    → IsRefusedEarly before after last result → shown out' ≡ shown out → IsRefusedFor IsOfFolder (shown out) (shown out') result
 unsent shown out out' before after last (Ok x) (e, early) same = absurd cc
-unsent shown out out' before after last (Err fault) (e, early) same = ((same, tt), inr early.0)
+unsent shown out out' before after last (Err fault) (e, early) same = (same, tt, early.0)
 
 -- so it was with a run over a copy, or it was refused before
 pub run_beside : {S O : Type 0} (seen : S → Store) (shown : O → OutputView) (work : Work) (script : List ℕ) (before after : ℕ) (last : Option Fault) (old new : Option History) (out out' : O) (result : Result (Unit {0}) Fault)
@@ -143,6 +157,6 @@ pub run_beside : {S O : Type 0} (seen : S → Store) (shown : O → OutputView) 
     → IsRun work (shown out) (shown out') result
 run_beside seen shown work script before after last old new out out' result is (inl (early, same)) = inl (unsent shown out out' before after last result early same)
 run_beside seen shown work script before after last old new out out' result is (inr r) =
-    inr (runs_some shown work out out' seen r.copy r.opened r.answered r.closed r.store result (record { opens = r.opens; makes = r.makes })
+    inr (runs_some shown work out out' seen r.copy r.opened r.answered r.closed r.store result r.opens
     (subst (λ (text : List ℕ). RunsOver seen shown r.opened work.files out out' (lines_of text) r.answered r.closed r.store) is r.run)
     (answers_of (NameIsKept r.store old new) before after last r.answered result r.kept r.refused))

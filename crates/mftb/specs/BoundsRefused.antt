@@ -1,5 +1,5 @@
 -- What a rectangle and a period ask for, and why they are refused.
-use Rattle.std.specs.Prelude.{ℕ, ◌≡◌, ◌⊎◌, ◌&&◌, Bool, false, not, List, Option, Some, None, Ok, Err}
+use Rattle.std.specs.Prelude.{ℕ, ◌≡◌, ◌⊎◌, ◌&&◌, Bool, true, false, not, List, Option, Some, None, Ok, Err}
 use Rattle.std.specs.Char.{is_ascii_whitespace}
 use Rattle.std.specs.List.{list_all, list_any}
 use Rattle.words.specs.Words.{is_empty}
@@ -33,21 +33,24 @@ box_of (Features predicate rect period) = None
 box_of (Trajectory name) = None
 box_of Write = None
 
--- the line of these texts asks for a `box` of this rectangle and this period
+-- these texts are words, and their line asks for a `box` of this rectangle and this period
 abbrev pub SaysBox : List (List ℕ) → List (List ℕ) → RectView → PeriodView → Type 0
-SaysBox corners times rect period = line_of (box_line corners times) ≡ Ok (Some (Box rect period))
+SaysBox corners times rect period =
+    (are_words corners times ≡ true)
+    × (line_of (box_line corners times) ≡ Ok (Some (Box rect period)))
 
--- that line is refused by a code; or that is Q3, and some text is no word, or the line asks nothing, or asks for no `box`
+-- that line is refused by a code; or that is Q3, and the line asks nothing, or asks for no `box`
 abbrev pub RefusesLine : List (List ℕ) → List (List ℕ) → LineCode → Type 0
 RefusesLine corners times code =
     (line_of (box_line corners times) ≡ Err code)
-    ⊎ ((code ≡ Q3) × ((are_words corners times ≡ false)
-    ⊎ ((line_of (box_line corners times) ≡ Ok None)
+    ⊎ ((code ≡ Q3) × ((line_of (box_line corners times) ≡ Ok None)
     ⊎ ((command : Command) × (line_of (box_line corners times) ≡ Ok (Some command))
-    × (box_of command ≡ None)))))
+    × (box_of command ≡ None))))
 
--- why a rectangle and a period are refused: memory ran out, or a code
+-- why a rectangle and a period are refused: some text is no word, and then that is Q3; or each is one, and memory ran out,
+-- or their line is refused by a code
 abbrev pub RefusesBounds : List (List ℕ) → List (List ℕ) → Fault → Type 0
 RefusesBounds corners times fault =
-    (fault ≡ Run run.Memory)
-    ⊎ ((code : LineCode) × (fault ≡ Bounds code) × RefusesLine corners times code)
+    ((are_words corners times ≡ false) × (fault ≡ Bounds Q3))
+    ⊎ ((are_words corners times ≡ true) × ((fault ≡ Run run.Memory)
+    ⊎ ((code : LineCode) × (fault ≡ Bounds code) × RefusesLine corners times code)))

@@ -26,7 +26,7 @@ use Rattle.reports.specs.StayTexts.{dwells_text, stays_text, visits_text}
 use Rattle.reports.specs.declared.moments_text.Frame.{Frame}
 use Rattle.sessions.specs.declared.fault.Fault.{Fault}
 use Rattle.sessions.specs.declared.fault.Fault.TheVariants.{Run}
-use Rattle.mftb.specs.BoundsRefused.{are_words, RefusesBounds, SaysBox}
+use Rattle.mftb.specs.BoundsRefused.{RefusesBounds, SaysBox}
 use Rattle.mftb.specs.Sending.{IsRefusedFor, SendsAll}
 use Rattle.mftb.specs.Unopened.{IsOpened, IsUnasked, IsUnopened}
 
@@ -109,8 +109,6 @@ abbrev pub PerformsMoments : Moments → OutputView → OutputView → Result (U
 PerformsMoments task sent sent' result =
     IsRefusedFor (IsMomentsRefused task) sent sent' result
     ⊎ ((store left : Store) × (rect : RectView) × (period : PeriodView)
-    × (are_words (map (λ text. text.now) task.bounds.corners)
-    (map (λ text. text.now) task.bounds.times) ≡ true)
     × SaysBox (map (λ text. text.now) task.bounds.corners)
     (map (λ text. text.now) task.bounds.times) rect period
     × AsksStore task rect period store left sent sent' result)

@@ -1,12 +1,11 @@
 -- What the program sends of a part of a file, and what it answers then.
-use Rattle.std.specs.Prelude.{ℕ, ◌≡◌, ◌⊎◌, ◌<◌, ◌≤◌, ◌+◌, List, length, Result, Some, IfErr, OnErr, OnOk}
-use Rattle.arguments.specs.declared.task.Parts.{Parts}
+use Rattle.std.specs.Prelude.{ℕ, ◌≡◌, ◌⊎◌, ◌<◌, ◌≤◌, List, length, Result, IfErr, OnErr, OnOk}
 use Rattle.outputs.specs.Output.{OutputView, HasRefused, IsFlushed}
 use Rattle.trajdb.specs.declared.RunFault.TheVariants as run
 use Rattle.sessions.specs.Parts.{SendsPart, SendsSome}
 use Rattle.sessions.specs.Reading.{IsUnreadFile}
 use Rattle.sessions.specs.declared.fault.Fault.{Fault}
-use Rattle.sessions.specs.declared.fault.Fault.TheVariants.{Run, Open, CannotRead, CannotWrite, NotEmpty, NoPart, InUse, NoStore, NoSuchStore, Bounds}
+use Rattle.sessions.specs.declared.fault.Fault.TheVariants.{Run, NoPart}
 
 -- the output refused a call; or memory ran out, and nothing was sent
 abbrev pub IsPartUnsent : OutputView → OutputView → Fault → Type 0
@@ -14,9 +13,11 @@ IsPartUnsent sent sent' fault =
     ((fault ≡ Run run.Output) × HasRefused sent sent')
     ⊎ ((fault ≡ Run run.Memory) × (sent' ≡ sent))
 
--- of some bytes, of which there are not too many, part k of n is sent, and passed on; or a front of it, and why that is all
+-- of some bytes, of which there are not too many, part k of n, which there is, is sent, and passed on; or a front of it, and
+-- why that is all
 pub record PrintsPart (k n : ℕ) (sent sent' : OutputView) (result : Result (Unit {0}) Fault)
     : Type 0 where
+  pub there : k < n
   pub bytes : List ℕ
   pub few : length bytes ≤ 1073741824
   pub sends : OnOk result (SendsPart k n bytes sent.contents sent'.contents)
@@ -28,26 +29,3 @@ pub record PrintsPart (k n : ℕ) (sent sent' : OutputView) (result : Result (Un
 abbrev pub IsPartFault : (k n : ℕ) → List ℕ → Fault → Type 0
 IsPartFault k n name fault =
     ((n ≤ k) × (fault ≡ NoPart k n)) ⊎ ((k < n) × IsUnreadFile name fault)
-
--- so it is refused, and nothing was sent
-abbrev pub IsPartRefused : (k n : ℕ) → List ℕ → OutputView → OutputView
-    → Result (Unit {0}) Fault → Type 0
-IsPartRefused k n name sent sent' result =
-    (sent' ≡ sent) × OnOk result ⊥ × IfErr result (IsPartFault k n name)
-
--- why the files of some parts are not all made: some of these parts are not there; or the file is not read; or memory ran
--- out, or a file could not be written into the folder
-abbrev pub IsPartsFault : Parts → Fault → Type 0
-IsPartsFault task (Run why) = why ≡ run.Memory
-IsPartsFault task (Open why) = ⊥
-IsPartsFault task (CannotRead name) = name.now ≡ task.file.now
-IsPartsFault task (CannotWrite name) = name.now ≡ task.folder.now
-IsPartsFault task NotEmpty = ⊥
-IsPartsFault task (NoPart part parts) = (parts ≡ task.parts)
-    × (((part ≡ task.first) × (task.parts ≤ task.first))
-    ⊎ ((part ≡ task.parts)
-    × ((count : ℕ) × (task.count ≡ Some count) × (task.parts < task.first + count))))
-IsPartsFault task InUse = ⊥
-IsPartsFault task (NoStore cause) = ⊥
-IsPartsFault task NoSuchStore = ⊥
-IsPartsFault task (Bounds code) = ⊥

@@ -8,11 +8,13 @@ use Rattle.sessions.specs.Reading.{IsUnreadFile}
 use Rattle.sessions.specs.declared.fault.Fault.{Fault}
 use Rattle.sessions.specs.declared.fault.Fault.TheVariants.{Run, CannotWrite, NoPart}
 
--- a task asks for so many parts: as many as it says, or it says none, and all from its first one on
-abbrev pub AsksFor : Parts → ℕ → Type 0
-AsksFor task count =
-    (task.count ≡ Some count)
-    ⊎ ((task.count ≡ None) × (count ≡ task.parts - task.first))
+-- a task asks for so many parts, which are there: as many as it says, or it says none, and all from
+-- its first one on
+pub record AsksFor (task : Parts) (count : ℕ) : Type 0 where
+  pub counts : (task.count ≡ Some count)
+      ⊎ ((task.count ≡ None) × (count ≡ task.parts - task.first))
+  pub there : task.first < task.parts
+  pub within : task.first + count ≤ task.parts
 
 -- some of the parts that it asks for are not there: its first one; or that is, and some behind it
 abbrev pub IsNoPart : Parts → Fault → Type 0
@@ -35,23 +37,21 @@ pub record PutsCount (task : Parts) (count : ℕ) (bytes : List ℕ) (old new : 
   pub some : OnErr result (HasFirst task.first count task.parts bytes old new)
   pub fault : IfErr result (IsUnput task before after)
 
--- of some bytes, of which there are not too many, as many parts are put as the task asks for, which
--- are there; or not all of them
+-- of some bytes, of which there are not too many, as many parts are put as the task asks for; or not
+-- all of them
 pub record PutsParts (task : Parts) (old new : Option Puts) (before after : ℕ)
     (result : Result (Unit {0}) Fault) : Type 0 where
   pub bytes : List ℕ
   pub few : length bytes ≤ 1073741824
   pub count : ℕ
   pub asked : AsksFor task count
-  pub within : task.first + count ≤ task.parts
   pub puts : PutsCount task count bytes old new before after result
 
 -- why a task is refused before: some of its parts are not there; or they are, and its file is not
 -- read
 abbrev pub IsPartsRefused : Parts → Fault → Type 0
 IsPartsRefused task fault = IsNoPart task fault
-    ⊎ ((count : ℕ) × AsksFor task count × (task.first + count ≤ task.parts)
-    × IsUnreadFile task.file.now fault)
+    ⊎ ((count : ℕ) × AsksFor task count × IsUnreadFile task.file.now fault)
 
 -- it is refused so, and nothing is put into a folder; or its parts are, or not all of them
 abbrev pub PutsAsked : Parts → (old new : Option Puts) → (before after : ℕ)

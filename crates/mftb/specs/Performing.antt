@@ -1,5 +1,5 @@
 -- What the program does, by its words, and how it ends.
-use Rattle.std.specs.Prelude.{ℕ, ◌≡◌, ◌≢◌, ◌⊎◌, ◌≤◌, ◌↔◌, [], Any, Bool, codes, false, List, Result, Ok, Err, String, IfErr, IfOk, IsTrue}
+use Rattle.std.specs.Prelude.{ℕ, ◌≡◌, ◌≢◌, ◌⊎◌, ◌↔◌, [], Any, Bool, codes, false, List, Result, Ok, Err, String, IfOk, IsTrue}
 use Rattle.std.specs.Global.{Global}
 use Rattle.std.specs.String.{string_bytes}
 use Rattle.clap.specs.Words.{HasKind, kind_of}
@@ -12,16 +12,15 @@ use Rattle.arguments.specs.Tasks.{IsAsked}
 use Rattle.arguments.specs.declared.task.Task.{Task}
 use Rattle.arguments.specs.declared.task.Task.TheVariants.{Run, Check, Migrate, Part, Parts, Moments, Info}
 use Rattle.outputs.specs.Output.{OutputView}
-use Rattle.trajdb.specs.Db.{DbView}
 use Rattle.sessions.specs.declared.fault.Fault.{Fault}
-use Rattle.sessions.specs.declared.fault.Fault.TheVariants.{NoPart}
 use Rattle.mftb.specs.BroughtOver.{PerformsMigrate}
 use Rattle.mftb.specs.InfoPrinted.{PerformsInfo}
 use Rattle.mftb.specs.MomentsPrinted.{PerformsMoments}
-use Rattle.mftb.specs.PartPrinted.{IsPartRefused, IsPartsFault, PrintsPart}
+use Rattle.mftb.specs.PartPrinted.{IsPartFault, PrintsPart}
 use Rattle.mftb.specs.CheckPrinted.{PerformsCheck}
 use Rattle.mftb.specs.PartsPut.{PerformsParts}
 use Rattle.mftb.specs.RunAsked.{IsRunBy}
+use Rattle.mftb.specs.Sending.{IsRefusedFor}
 use Rattle.mftb.specs.Status.{exit_status}
 use Rattle.mftb.specs.declared.outcome.Outcome.{Outcome}
 use Rattle.mftb.specs.declared.outcome.Outcome.TheVariants.{Done, Refused}
@@ -44,13 +43,11 @@ Performs (Migrate migrate) sent sent' result =
     × PerformsMigrate sent sent' ended
 Performs (Part part) sent sent' result =
     (ended : Result (Unit {0}) Fault) × (result ≡ ends_as ended)
-    × (part.parts ≤ part.part → ended ≡ Err (NoPart part.part part.parts))
-    × (IsPartRefused part.part part.parts part.file.now sent sent' ended
+    × (IsRefusedFor (IsPartFault part.part part.parts part.file.now) sent sent' ended
     ⊎ PrintsPart part.part part.parts sent sent' ended)
 Performs (Parts parts) sent sent' result =
     (ended : Result (Unit {0}) Fault) × (result ≡ ends_as ended) × (sent' ≡ sent)
-    × (parts.parts ≤ parts.first → ended ≡ Err (NoPart parts.first parts.parts))
-    × IfErr ended (IsPartsFault parts) × PerformsParts parts ended
+    × PerformsParts parts ended
 Performs (Moments moments) sent sent' result =
     (ended : Result (Unit {0}) Fault) × (result ≡ ends_as ended)
     × PerformsMoments moments sent sent' ended

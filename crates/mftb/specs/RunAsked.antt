@@ -1,5 +1,5 @@
 -- What the program answers of a run that it is asked for, and why it is refused before.
-use Rattle.std.specs.Prelude.{◌≡◌, ◌⊎◌, false, true, max, [], map, Option, Result, IfErr, IsTrue}
+use Rattle.std.specs.Prelude.{◌≡◌, ◌⊎◌, false, true, max, [], map, Option, Result, IsTrue}
 use Rattle.arguments.specs.declared.task.Run.{Run}
 use Rattle.outputs.specs.Output.{OutputView}
 use Rattle.trajdb.specs.Calls.{HasLoad}
@@ -9,7 +9,8 @@ use Rattle.sessions.specs.Reading.{IsUnreadFile}
 use Rattle.sessions.specs.declared.fault.Fault.{Fault}
 use Rattle.sessions.specs.declared.fault.Fault.TheVariants.{NoSuchStore}
 use Rattle.mftb.specs.Reading.{AreRead, IsOneUnread}
-use Rattle.mftb.specs.Running.{AnswersRun, IsRefusedUnsent, IsRun, IsRunInPlace}
+use Rattle.mftb.specs.Running.{AnswersRun, IsRun, IsRunInPlace}
+use Rattle.mftb.specs.Sending.{IsRefusedFor}
 use Rattle.mftb.specs.declared.run.Work.{Work}
 
 -- why a run is refused before its store is opened: memory ran out, or its script, or one of its
@@ -44,6 +45,6 @@ pub record RunsAsAsked (run : Run) (work : Work) (sent sent' : OutputView)
 -- program answers what that came to
 abbrev pub IsRunBy : {T : Type 0} → Run → OutputView → OutputView → Result T Fault → Type 0
 IsRunBy run sent sent' result =
-    (IsRefusedUnsent sent sent' result × IfErr result (IsRunRefused run))
+    IsRefusedFor (IsRunRefused run) sent sent' result
     ⊎ ((work : Work) × IsWorkOf run work × (ran : Result (Unit {0}) Fault)
     × RunsAsAsked run work sent sent' ran × AnswersRun ran result)

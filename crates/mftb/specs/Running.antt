@@ -1,31 +1,20 @@
 -- What the program sends where it runs a script, and what it answers then.
-use Rattle.std.specs.Prelude.{ℕ, ◌≡◌, ◌≢◌, ◌⊎◌, ◌<◌, false, Bool, Option, Some, None, Result, Ok, Err, IfErr, IsTrue, OnErr, OnOk}
+use Rattle.std.specs.Prelude.{◌≡◌, ◌≢◌, ◌⊎◌, ◌<◌, Option, Some, None, Result, Ok, Err, IfErr, OnErr, OnOk}
 use Rattle.outputs.specs.Output.{OutputView}
 use Rattle.pages.specs.Store.{Store}
 use Rattle.register.specs.declared.fault.CatalogueFault.{CatalogueFault}
 use Rattle.trajdb.specs.Db.{DbView}
-use Rattle.trajdb.specs.Promises.{OpenCall}
 use Rattle.trajdb.specs.Script.{lines_of}
 use Rattle.trajdb.specs.declared.RunFault.{RunFault}
 use Rattle.trajdb.specs.declared.RunFault.TheVariants.{Failed}
 use Rattle.sessions.specs.Answers.{RunsOver}
-use Rattle.sessions.specs.Folder.{IsOfFolder, Makes}
+use Rattle.sessions.specs.Folder.{IsOfFolder, OpensOrMakes}
 use Rattle.sessions.specs.Texts.{IsOfStore}
 use Rattle.sessions.specs.declared.fault.Fault.{Fault}
 use Rattle.sessions.specs.declared.fault.Fault.TheVariants.{Run}
+use Rattle.mftb.specs.Sending.{IsRefusedFor}
 use Rattle.mftb.specs.Unopened.{IsUnheld}
 use Rattle.mftb.specs.declared.run.Work.{Work}
-
--- it is refused, and nothing was sent
-abbrev pub IsRefusedUnsent : {T : Type 0} → OutputView → OutputView → Result T Fault → Type 0
-IsRefusedUnsent sent sent' result = (sent' ≡ sent) × OnOk result ⊥
-
--- a store is opened, or made a database where it has no page and that is asked for, with a cache of
--- so many pages; or it is not, and why (`OpenCall`, `Makes`)
-pub record OpensOrMakes {S : Type 0} (seen : S → Store) (store : Store) (is_new : Bool)
-    (cache_pages : ℕ) (opened : Result DbView (S × CatalogueFault)) : Type 0 where
-  pub opens : (is_new ≡ false) ⊎ (0 < store.count) → OpenCall seen store cache_pages opened
-  pub makes : IsTrue is_new → store.count ≡ 0 → Makes seen store cache_pages opened
 
 -- some store, or a copy of it, was opened or made as what was read for a run says (`Work`), the
 -- database, or none, was run over with the files and the script that were read, and closed
@@ -44,15 +33,11 @@ pub record RunsSome (work : Work) (sent sent' : OutputView) (result : Result (Un
   pub answers : (answered ≡ result)
       ⊎ ((answered ≡ Ok tt) × OnOk result ⊥ × IfErr result IsOfFolder)
 
--- why nothing is run over: the store is not held (`IsUnheld`), or its folder refuses it
--- (`IsOfFolder`)
-abbrev pub IsUnrun : Fault → Type 0
-IsUnrun fault = IsUnheld fault ⊎ IsOfFolder fault
-
--- it was refused so, and nothing was sent, or a database, or none, was run over
+-- nothing is run over, as the store is not held, or its folder refuses it, and nothing was sent, or a database, or none,
+-- was run over
 abbrev pub IsRun : Work → OutputView → OutputView → Result (Unit {0}) Fault → Type 0
 IsRun work sent sent' result =
-    (IsRefusedUnsent sent sent' result × IfErr result IsUnrun)
+    IsRefusedFor IsOfFolder sent sent' result
     ⊎ RunsSome work sent sent' result
 
 -- what an answer leaves unsaid of a closing: why that failed, where the answer is not this very fault; and nothing where it
@@ -80,7 +65,7 @@ pub record RunsInPlace (work : Work) (was store : Store) (sent sent' : OutputVie
 abbrev pub IsRunInPlace : Work → OutputView → OutputView → Result (Unit {0}) Fault
     → Option RunFault → Type 0
 IsRunInPlace work sent sent' result unsaid =
-    (IsRefusedUnsent sent sent' result × IfErr result IsUnheld × (unsaid ≡ None))
+    (IsRefusedFor IsUnheld sent sent' result × (unsaid ≡ None))
     ⊎ ((was store : Store) × RunsInPlace work was store sent sent' result unsaid)
 
 -- what is said where that is why a run was refused: that very fault, or where it is that a store failed, that one did

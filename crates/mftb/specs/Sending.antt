@@ -14,6 +14,6 @@ pub record SendsAll (text : List ℕ) (sent sent' : OutputView) (result : Result
       × ((n : ℕ) × Appends sent.contents sent'.contents (take n text)))
 
 -- it is refused for such a fault, and nothing was sent
-abbrev pub IsRefusedFor : (Fault → Type 0) → OutputView → OutputView → Result (Unit {0}) Fault
-    → Type 0
+abbrev pub IsRefusedFor : {T : Type 0} → (Fault → Type 0) → OutputView → OutputView
+    → Result T Fault → Type 0
 IsRefusedFor why sent sent' result = (sent' ≡ sent) × OnOk result ⊥ × IfErr result why

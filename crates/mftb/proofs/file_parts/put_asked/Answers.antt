@@ -1,12 +1,11 @@
 use Rattle.std.proofs.Common.{arith, inr}
 use Rattle.mftb.proofs.file_parts.put_asked.Goals as goal
 
-pub returns-clause-put : goal.returns-clause-put
-returns-clause-put g c = inr (record {
+pub returns : goal.returns
+returns g c = inr (record {
   bytes = c.deref.result.now;
   few = (let l = c.deref.ensures.len in let m = c.in_ok-bytes.ensures.most in omega (arith, l, m));
   count = c.in-Ok.count;
   asked = c.in-Ok.ensures.asked;
-  within = c.in-Ok.ensures.within;
-  puts = c.put_count.ensures.puts;
+  puts = c.put_count.ensures;
 })

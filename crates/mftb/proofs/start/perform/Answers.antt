@@ -6,8 +6,8 @@ pub returns : goal.returns
 returns g c = elim c.match-task.branch [
   | in-Check w ↦ rw (c.done.ensures, w.out-is, w.ended-is, w.in-Check.is) (w.check-ended.result, refl, w.check-ended.ensures)
   | in-Migrate w ↦ rw (c.done.ensures, w.out-is, w.ended-is, w.in-Migrate.is) (w.migrate-ended.result, refl, w.migrate-ended.ensures)
-  | in-Part w ↦ rw (c.done.ensures, w.out-is, w.ended-is, w.in-Part.is) (w.print_part-ended.result, refl, w.print_part-ended.ensures.none, w.print_part-ended.ensures.printed)
-  | in-Parts w ↦ rw (c.done.ensures, w.out-is, w.ended-is, w.in-Parts.is) (w.write_parts-ended.result, refl, refl, w.write_parts-ended.ensures.first, w.write_parts-ended.ensures.fault, w.write_parts-ended.ensures.put)
+  | in-Part w ↦ rw (c.done.ensures, w.out-is, w.ended-is, w.in-Part.is) (w.print_part-ended.result, refl, w.print_part-ended.ensures)
+  | in-Parts w ↦ rw (c.done.ensures, w.out-is, w.ended-is, w.in-Parts.is) (w.write_parts-ended.result, refl, refl, w.write_parts-ended.ensures)
   | in-Moments w ↦ rw (c.done.ensures, w.out-is, w.ended-is, w.in-Moments.is) (w.print_moments-ended.result, refl, w.print_moments-ended.ensures)
   | in-Info w ↦ rw (c.done.ensures, w.out-is, w.ended-is, w.in-Info.is) (w.print_info-ended.result, refl, w.print_info-ended.ensures)
 ]
