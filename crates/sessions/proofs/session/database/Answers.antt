@@ -29,11 +29,11 @@ returns-then-len-eq0-clause-opens g c =
     let shape : IfOk r (λ (db : DbView). words.plan db.index ≡ Some new_shape) = subst (λ (k : ShapeView). IfOk r (λ (db : DbView). words.plan db.index ≡ Some k)) same_shape e.shape in
     let limits : IfOk r (λ (db : DbView). db.limits ≡ new_limits) = subst (λ (l : LimitsView). IfOk r (λ (db : DbView). db.limits ≡ l)) c.limits.ensures e.limits in
     let writes : IfOk r (λ (db : DbView). Writes 0 (sealed 0 (header_payload new_shape new_limits)) s db.index.cache.store) =
-        subst (λ (l : LimitsView). IfOk r (λ (db : DbView). Writes 0 (sealed 0 (header_payload new_shape l)) s db.index.cache.store)) c.limits.ensures
-        (subst (λ (k : ShapeView). IfOk r (λ (db : DbView). Writes 0 (sealed 0 (header_payload k c.limits.result)) s db.index.cache.store)) same_shape e.stored) in
+    subst (λ (l : LimitsView). IfOk r (λ (db : DbView). Writes 0 (sealed 0 (header_payload new_shape l)) s db.index.cache.store)) c.limits.ensures
+    (subst (λ (k : ShapeView). IfOk r (λ (db : DbView). Writes 0 (sealed 0 (header_payload k c.limits.result)) s db.index.cache.store)) same_shape e.stored) in
     let left : IfErr r (λ back. IsLeft new_shape new_limits s (seen back.0)) =
-        subst (λ (l : LimitsView). IfErr r (λ back. IsLeft new_shape l s (seen back.0))) c.limits.ensures
-        (subst (λ (k : ShapeView). IfErr r (λ back. IsLeft k c.limits.result s (seen back.0))) same_shape e.left) in
+    subst (λ (l : LimitsView). IfErr r (λ back. IsLeft new_shape l s (seen back.0))) c.limits.ensures
+    (subst (λ (k : ShapeView). IfErr r (λ back. IsLeft k c.limits.result s (seen back.0))) same_shape e.left) in
     record {
       opens = neither (OpenCall seen s c.args.cache_pages r) c.args.is_new s.count c.if-is_new.true none;
       makes = λ n z. made_or_not seen c.args.cache_pages r s (created r new_shape new_limits (IsTrue s.is_faithful) shape e.sound e.book limits) e.book limits e.pages e.begun e.lives e.capacity writes e.synced e.only e.caused e.kept left;
@@ -41,4 +41,3 @@ returns-then-len-eq0-clause-opens g c =
 
 pub returns-clause-opens : goal.returns-clause-opens
 returns-clause-opens g c = record { opens = λ h. c.open.ensures; makes = λ n z. search rules }
-

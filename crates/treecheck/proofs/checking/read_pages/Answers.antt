@@ -21,7 +21,7 @@ loop-page-preserved g c =
       held = λ fa p lt none.
           ⊎_elim (λ (h : p < page). was.held fa p h none)
           (λ (h : page ≤ p).
-              let same : p ≡ page = omega (arith, lt, h) in
-              c.in_ok-read_page.ensures.held (was.reads.store.faithful ∙ fa) (ap (λ n. (pages_of_cache now).at n) (sym same) ∙ ap (option_map node_of) (was.reads.payloads fa p) ∙ none))
+          let same : p ≡ page = omega (arith, lt, h) in
+          c.in_ok-read_page.ensures.held (was.reads.store.faithful ∙ fa) (ap (λ n. (pages_of_cache now).at n) (sym same) ∙ ap (option_map node_of) (was.reads.payloads fa p) ∙ none))
           (cases_lt p page);
     }
