@@ -13,7 +13,7 @@ use Rattle.header.specs.Fields.{header_payload}
 use Rattle.pages.specs.declared.unsynced.Unsynced.TheVariants.{Others}
 use Rattle.catalogue.specs.Holding.{HoldsBook}
 use Rattle.register.specs.Saving.{IsSavingStop}
-use Rattle.trajdb.specs.Db.{capacity_of, store_of, DbView, HasPages, IsCaused, IsSoundDb}
+use Rattle.trajdb.specs.Db.{capacity_of, shape_of, store_of, DbView, HasPages, IsCaused, IsSoundDb}
 use Rattle.trajdb.specs.Lasting.{HasBook, IsIdle}
 use Rattle.trajdb.proofs.SafeLemmas.{apart}
 use Rattle.trajdb.specs.Run.{HasRun}
@@ -206,12 +206,12 @@ refused_by_folder first before after said answered (Err fault) later is named = 
 
 -- a database is made, or it is not, of a store without pages
 pub made_or_not : {S : Type 0} (seen : S → Store) (pages : ℕ) (r : Result DbView (S × CatalogueFault)) (s : Store)
-    → IfOk r (λ db. IsTrue s.is_faithful → HasBook new_shape new_limits empty_book db) → IfOk r (λ db. db.book ≡ empty_book) → IfOk r (λ db. db.limits ≡ new_limits) → IfOk r (λ db. IsTrue s.is_faithful → HasPages db) → IfOk r (λ db. db.begun ≡ true)
+    → IfOk r (λ db. IsTrue s.is_faithful → HasBook new_shape new_limits empty_book db) → IfOk r (λ db. db.book ≡ empty_book) → IfOk r (λ db. db.limits ≡ new_limits) → IfOk r (λ db. shape_of db ≡ new_shape) → IfOk r (λ db. IsTrue s.is_faithful → HasPages db) → IfOk r (λ db. db.begun ≡ true)
     → IfOk r (λ db. db.failed ≡ false) → IfOk r (λ db. capacity_of db ≡ pages) → IfOk r (λ db. Writes 0 (sealed 0 (header_payload new_shape new_limits)) s (store_of db)) → IfOk r (λ db. IsSynced (store_of db))
     → IfErr r (λ back. IsTrue s.is_faithful → IsSavingStop back.1) → IfErr r (λ back. IsCaused s (seen back.0) back.1) → IfErr r (λ back. Keeps s (seen back.0)) → IfErr r (λ back. IsLeft new_shape new_limits s (seen back.0))
     → Makes seen s pages r
-made_or_not seen most (Ok db) s new book limits pages begun lives capacity writes synced made caused keeps left = (λ f. (new f, pages f), book, limits, begun, lives, capacity, writes, synced)
-made_or_not seen most (Err back) s new book limits pages begun lives capacity writes synced made caused keeps left = (made, caused, keeps, left)
+made_or_not seen most (Ok db) s new book limits shape pages begun lives capacity writes synced made caused keeps left = (λ f. (new f, pages f), book, limits, shape, begun, lives, capacity, writes, synced)
+made_or_not seen most (Err back) s new book limits shape pages begun lives capacity writes synced made caused keeps left = (made, caused, keeps, left)
 
 -- one that is made has the empty book
 pub made_empty : {S : Type 0} (seen : S → Store) (is_new : Bool) (pages : ℕ) (r : Result DbView (S × CatalogueFault)) (s : Store) → OpensOrMakes seen s is_new pages r

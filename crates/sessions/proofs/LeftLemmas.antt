@@ -210,16 +210,7 @@ on_said P (Ok x) (Ok y) r is h = subst (λ k. OnOk k P) (sym is) h
 on_said P (Ok x) (Err e) r is h = subst (λ k. OnOk k P) (sym is) tt
 on_said P (Err e) closed r is h = subst (λ k. OnOk k P) (sym is) tt
 
--- what is said of each refusal says another thing of it
-pub err_more : {T E : Type 0} (P Q : E → Type 0) (r : Result T E) → ((e : E) → P e → Q e) → IfErr r P → IfErr r Q
-err_more P Q (Ok x) f h = tt
-err_more P Q (Err e) f h = f e h
-
 -- a store without pages of which one is to be made is none that is opened
 pub neither : (P : Type 0) (b : Bool) (n : ℕ) → b ≡ true → n ≡ 0 → (b ≡ false) ⊎ (0 < n) → P
 neither P b n is none (inl not) = let w : true ≡ false = sym is ∙ not in absurd cc
 neither P b n is none (inr some) = absurd (omega (arith, some, none))
-
--- a store without pages holds no book
-pub none_held : (store : Store) → store.count ≡ 0 → (shape : ShapeView) (limits : LimitsView) (book : Book) → HoldsBook store shape limits book → ⊥
-none_held store none shape limits book h = let root = h.kept.within.root in omega (arith, none, root)

@@ -37,11 +37,6 @@ pub checked_stays : (old new : DbView) (s : Store) → LeavesBook words old new 
 checked_stays old new s leaves same faithful idle unbegun lives =
     left_written old new s leaves (same (leaves.failed ∙ lives) (leaves.begun ∙ unbegun)) faithful idle unbegun lives
 
-pub checked_failed : (old new : DbView) (s : Store) → (old.failed ≡ true → new ≡ old) → (new.failed ≡ true → s ≡ new.index.cache.store) → old.failed ≡ true → s ≡ old.index.cache.store
-checked_failed old new s same left failed =
-    let is = same failed in
-    left (ap (λ (d : DbView). d.failed) is ∙ failed) ∙ ap (λ (d : DbView). d.index.cache.store) is
-
 -- and a run that begins nothing
 pub ran_stays : (old new : DbView) (s : Store) (files : List (List ℕ × List ℕ)) (lines : List (List ℕ)) (ran : Result (Unit {0}) RunFault) → OnOk ran (new.failed ≡ false)
     → BeginsOnly words old new (AcceptsSome old.limits files old.book lines) → BeginsBy old new (LoadsWholeSome files lines) → KeepsPages words old new → (new.failed ≡ false → new.begun ≡ false → s ≡ new.index.cache.store)

@@ -12,7 +12,7 @@ use Rattle.catalogue.specs.Holding.{HoldsBook}
 use Rattle.header.specs.Fields.{header_payload}
 use Rattle.register.specs.Saving.{IsSavingStop}
 use Rattle.trajdb.specs.Calls.{IsLoadFault}
-use Rattle.trajdb.specs.Db.{capacity_of, store_of, DbView, HasPages, IsCaused}
+use Rattle.trajdb.specs.Db.{capacity_of, shape_of, store_of, DbView, HasPages, IsCaused}
 use Rattle.trajdb.specs.Faults.{IsNotOutput}
 use Rattle.trajdb.specs.Lasting.{HasBook}
 use Rattle.trajdb.specs.Promises.{OpenCall}
@@ -134,14 +134,14 @@ pub record RunsBeside (shape : ShapeView) (limits : LimitsView) (book : Book)
   pub held : HoldsNow shape limits answers.after new
 
 -- of a store without pages a database is made with the empty book that has begun and not failed, with a cache of so many
--- pages: its store has page 0 alone, its header, and is synced; over a faithful store it is sound, and its pages are as its
--- state says. Or it is not: as the store failed, or may have no page, where that is said, and over a faithful one else for want
+-- pages: its store has page 0 alone, which of a faithful one is its header, and is synced; over a faithful one it is sound,
+-- and its pages are as its state says. Or it is not: as the store failed, or may have no page, where that is said, and over a faithful one else for want
 -- of memory alone; what is left has no page, or page 0 alone, which of a faithful one is that header, unless it failed
 abbrev pub Makes : {S : Type 0} (seen : S → Store) (store : Store) (cache_pages : ℕ)
     → Result DbView (S × CatalogueFault) → Type 0
 Makes seen store cache_pages (Ok db) =
     (IsTrue store.is_faithful → HasBook new_shape new_limits empty_book db × HasPages db)
-    × (db.book ≡ empty_book) × (db.limits ≡ new_limits)
+    × (db.book ≡ empty_book) × (db.limits ≡ new_limits) × (shape_of db ≡ new_shape)
     × (db.begun ≡ true) × (db.failed ≡ false) × (capacity_of db ≡ cache_pages)
     × Writes 0 (sealed 0 (header_payload new_shape new_limits)) store (store_of db)
     × IsSynced (store_of db)

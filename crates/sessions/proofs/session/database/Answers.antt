@@ -3,14 +3,14 @@ use Rattle.std.specs.Prelude.{IfErr, IfOk}
 use Rattle.boxsearch.specs.Index.{words}
 use Rattle.legs.specs.Costs.{ShapeView}
 use Rattle.legs.specs.Limits.{LimitsView}
-use Rattle.trajdb.specs.Db.{DbView}
+use Rattle.trajdb.specs.Db.{shape_of, DbView}
 use Rattle.trajdb.specs.Promises.{OpenCall}
 use Rattle.sessions.specs.Answers.{new_limits, new_shape}
 use Rattle.header.specs.Fields.{header_payload}
 use Rattle.pages.specs.Sealed.{sealed}
 use Rattle.pages.specs.Store.{Writes}
 use Rattle.catalogue.specs.Beginning.{IsLeft}
-use Rattle.sessions.proofs.AnswerLemmas.{created, no_pages, the_same}
+use Rattle.sessions.proofs.AnswerLemmas.{created, more_known, no_pages, the_same}
 use Rattle.sessions.proofs.FolderLemmas.{made_or_not}
 use Rattle.sessions.proofs.LeftLemmas.{neither}
 use Rattle.sessions.proofs.session.database.Goals as goal
@@ -36,7 +36,7 @@ returns-then-len-eq0-clause-opens g c =
     (subst (λ (k : ShapeView). IfErr r (λ back. IsLeft k c.limits.result s (seen back.0))) same_shape e.left) in
     record {
       opens = neither (OpenCall seen s c.args.cache_pages r) c.args.is_new s.count c.if-is_new.true none;
-      makes = λ n z. made_or_not seen c.args.cache_pages r s (created r new_shape new_limits (IsTrue s.is_faithful) shape e.sound e.book limits) e.book limits e.pages e.begun e.lives e.capacity writes e.synced e.only e.caused e.kept left;
+      makes = λ n z. made_or_not seen c.args.cache_pages r s (created r new_shape new_limits (IsTrue s.is_faithful) shape e.sound e.book limits) e.book limits (more_known (λ (db : DbView). words.plan db.index ≡ Some new_shape) (λ db. shape_of db ≡ new_shape) r (λ db h. the_same (shape_of db) new_shape h) shape) e.pages e.begun e.lives e.capacity writes e.synced e.only e.caused e.kept left;
     }
 
 pub returns-clause-opens : goal.returns-clause-opens
