@@ -331,6 +331,8 @@ enum Checked {
     Passed,
     /// The store failed, and, asked again, it found the example, or the store had failed for good.
     Again,
+    /// A store that fails once failed to sync, and is refused when it is asked again: no sync is answered behind that.
+    Lost,
     /// Neither.
     Wrong,
 }
@@ -341,12 +343,14 @@ fn check_twice<S: PageStore>(db: &mut Db<S>, pages: u32, once: bool) -> Checked 
     if report == found(pages, 5, 3) {
         return Checked::Passed;
     }
-    let again = if once {
-        found(pages, 5, 3)
-    } else {
-        Err(RunFault::Store)
-    };
-    if report == Err(RunFault::Store) && check(db) == again {
+    if report != Err(RunFault::Store) {
+        return Checked::Wrong;
+    }
+    let again = check(db);
+    if again == Err(RunFault::Store) {
+        return if once { Checked::Lost } else { Checked::Again };
+    }
+    if once && again == found(pages, 5, 3) {
         Checked::Again
     } else {
         Checked::Wrong
@@ -392,27 +396,31 @@ fn checked_over(
     }
 }
 
-/// How often of 60 calls a check is asked again, and how often it passes at once; `None` where one goes wrong.
-fn count(alloc: Global, keys: RandomState, how: (bool, bool)) -> Option<(u32, u32)> {
-    let (mut again, mut passed) = (0u32, 0u32);
+/// How often of 60 calls a check is asked again and goes well, is lost, and passes at once; `None` where one goes wrong.
+fn count(alloc: Global, keys: RandomState, how: (bool, bool)) -> Option<(u32, u32, u32)> {
+    let (mut again, mut lost, mut passed) = (0u32, 0u32, 0u32);
     for calls in 0..60 {
         match checked_over(alloc, keys, calls, how) {
             Checked::Nothing => {}
             Checked::Passed => passed = passed.saturating_add(1),
             Checked::Again => again = again.saturating_add(1),
+            Checked::Lost => lost = lost.saturating_add(1),
             Checked::Wrong => return None,
         }
     }
-    Some((again, passed))
+    Some((again, lost, passed))
 }
 
 /// Whether both ways go so. Loaded, the three leaves are as they were added; the root, which has had its third entry since,
-/// is written, and all is made to last. Opened, the six pages are read for their seals, then page 0, the three leaves and
-/// the root.
+/// is written, and all is made to last. Opened, all is made to last, and the six pages are read for their seals, then page
+/// 0, the three leaves and the root. A `sync` that failed once is the one call after which no check passes.
 fn is_asked_again(alloc: Global, keys: RandomState, once: bool) -> Option<bool> {
-    let (again, passed) = count(alloc, keys, (true, once))?;
-    let (more, as_well) = count(alloc, keys, (false, once))?;
-    Some(again == 2 && passed > 0 && more > 10 && as_well > 0)
+    let (again, lost, passed) = count(alloc, keys, (true, once))?;
+    let (more, as_lost, as_well) = count(alloc, keys, (false, once))?;
+    let (wanted, syncs) = if once { (1, 1) } else { (2, 0) };
+    let is_loaded = again == wanted && lost == syncs && passed > 0;
+    let is_opened = more > 10 && as_lost == syncs && as_well > 0;
+    Some(is_loaded && is_opened)
 }
 
 #[test]
