@@ -1,4 +1,5 @@
 """What the measurements share: the programs, the least of several runs, and the greatest memory of a process."""
+import os
 import subprocess
 import sys
 import time
@@ -15,6 +16,12 @@ import resource, subprocess, sys
 subprocess.run(sys.argv[1:], check=True, stdout=subprocess.DEVNULL)
 print(resource.getrusage(resource.RUSAGE_CHILDREN).ru_maxrss)
 """
+
+
+def build_program():
+    """Proves and builds the program, if it has to be."""
+    words = {**os.environ, "MFTB_PROOF": "wait"}
+    subprocess.run([ROOT / "mftb", "--version"], check=True, stdout=subprocess.DEVNULL, env=words)
 
 
 def benches():

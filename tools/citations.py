@@ -9,7 +9,7 @@ from dataclasses import dataclass, field
 
 SPAN = re.compile(r"`([^`]+)`")
 NAME = re.compile(r"[A-Za-z_]\w*(?:::\w+)*$")
-TOPS = ("crates/", "tools/", "docs/", "examples/", "bench/", ".ci/")
+TOPS = ("crates/", "tools/", "python/", "docs/", "examples/", "bench/", ".ci/")
 LINK = re.compile(r"\]\(([^)\s]+)\)")
 ITS = re.compile(r"(?:, `[^`]+`)*:? ?\(?(?:its clause|their clauses)")
 
@@ -26,10 +26,8 @@ class Fault:
 
 @dataclass
 class Cited:
-    """What documents cite: clauses by their functions, functions, tests, and the faults met."""
+    """The faults met among what documents cite."""
 
-    clauses: set = field(default_factory=set)
-    functions: set = field(default_factory=set)
     faults: list = field(default_factory=list)
 
 
@@ -91,17 +89,13 @@ class Reader:
             self.targets = []
             return self.file(said)
         self.targets = self.targets + [target] if goes_on else [target]
-        if target.functions:
-            self.cited.functions |= {function.said() for function in target.functions}
-            if ITS.match(" ".join(behind.split())):
-                self.own(target)
+        if target.functions and ITS.match(" ".join(behind.split())):
+            self.own(target)
         return 1 if target.functions or target.file or target.parts else 0
 
     def own(self, target):
         """All clauses of a function, which says so in words."""
-        having = [function for function in target.functions if function.clauses]
-        self.cited.clauses |= {(function.said(), clause) for function in having for clause in function.clauses}
-        if not having:
+        if not any(function.clauses for function in target.functions):
             self.fault(f"{target.said} has no clause")
 
     def target(self, said, is_next):
@@ -119,15 +113,10 @@ class Reader:
             for place in (self.targets[-1].parts[:-1] + parts, parts):
                 if crate.has(place):
                     return self.resolved(said, crate, place)
-            if self.strict and said not in crate.definitions:
-                return self.resolved(f"{crate.name}::{said}", crate, parts)
             return None
         if self.home and self.home.at(said.split("::")):
             return self.resolved(said, self.home, tuple(said.split("::")))
         return None
-
-    # Whether a name that follows a citation has to be one: in the list of promises, not in prose.
-    strict = False
 
     def resolved(self, said, crate, parts):
         if not crate.has(parts):
@@ -146,9 +135,7 @@ class Reader:
             if not re.search(rf"def {re.escape(name)}\b", target.file.read_text()):
                 self.fault(f"{target.said} has no test {name}")
         elif target.functions:
-            having = [function for function in target.functions if name in function.clauses | function.conditions]
-            self.cited.clauses |= {(function.said(), name) for function in having}
-            if not having:
+            if not any(name in function.clauses | function.conditions for function in target.functions):
                 self.fault(f"{target.said} has no clause {name}{elsewhere(self.crates, target.parts, name)}")
         elif not target.parts:
             if name not in target.crate.edits:
@@ -161,10 +148,7 @@ class Reader:
 
     def cite_in(self, target, name):
         """A test of a module, or a method of a type."""
-        inside = target.crate.at((*target.parts, name))
-        if inside:
-            self.cited.functions |= {function.said() for function in inside}
-        elif not target.crate.has((*target.parts, name)):
+        if not target.crate.has((*target.parts, name)):
             self.fault(f"{target.said} has no {name}{elsewhere(self.crates, (name,))}")
 
     def file(self, said):

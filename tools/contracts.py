@@ -7,7 +7,10 @@ import re
 from dataclasses import dataclass, field
 from pathlib import Path
 
+from definitions import plain
+
 OWNER = re.compile(r"(?:pub(?:\([a-z ]+\))? )?(impl|trait)\b(.*)")
+HEAD = re.compile(r"(ensures|requires|decreases|measure)\b")
 FUNCTION = re.compile(r"(pub(?:\([a-z ]+\))? )?(?:const )?(?:unsafe )?fn (\w+)")
 TYPE = re.compile(r"(?:pub(?:\([a-z ]+\))? )?(?:struct|enum|trait|type|const|static|mod) (\w+)")
 CLAUSE = re.compile(r"(ensures|requires)\*?(?: (\w+))? \{(?: (\w+))?")
@@ -19,9 +22,21 @@ PROMISES = "Promises.antt"
 
 
 @dataclass
+class Clause:
+    """A clause of a function as it stands, with its name or '', its first word, and the comment right above it."""
+
+    kind: str
+    name: str
+    word: str
+    comment: str
+    text: str
+
+
+@dataclass
 class Function:
     """A function or a method: its crate, its modules, its type or trait if any, the names of its clauses, and those of
-    the conditions that it asks for; one without a name has the name ''. The words are the first ones of the clauses."""
+    the conditions that it asks for; one without a name has the name ''. The words are the first ones of the clauses.
+    Its comment is what stands above it in `///` lines, and its head the lines before its body."""
 
     crate: str
     modules: tuple
@@ -35,6 +50,9 @@ class Function:
     clauses: set = field(default_factory=set)
     conditions: set = field(default_factory=set)
     words: dict = field(default_factory=dict)
+    comment: str = ""
+    head: list = field(default_factory=list)
+    stated: list = field(default_factory=list)
 
     def places(self):
         """The paths by which a document may name it, in its crate."""
@@ -75,9 +93,47 @@ def owner_of(rest):
     return found[1] if found else ""
 
 
+def closes(text):
+    """Whether the braces of a text close as often as they open."""
+    return text.count("{") <= text.count("}")
+
+
+def comment_of(lines, at):
+    """What the `///` lines above a line say, without the attributes between."""
+    start = at
+    while start and lines[start - 1].strip().startswith(("///", "#[")):
+        start -= 1
+    return plain([line for line in lines[start:at] if line.strip().startswith("///")], "///")
+
+
+def head_of(lines, at):
+    """The lines of a function from its first one to its body, and the clauses in them."""
+    depth, clauses, end, above = len(lines[at]) - len(lines[at].lstrip()), [], at, []
+    while end < len(lines):
+        text = lines[end].strip()
+        if HEAD.match(text):
+            start = end
+            while not closes("\n".join(lines[start : end + 1])):
+                end += 1
+            if found := CLAUSE.match(text):
+                stated = "\n".join(line[depth:] for line in lines[start : end + 1])
+                clauses.append(Clause(found[1], found[2] or "", found[3] or "", plain(above, "//"), stated))
+            is_last = lines[end].endswith(";")
+        else:
+            is_last = text.endswith(("{", "{}", "}", ";")) and not text.startswith(("ghost ", "//"))
+        above = [*above, text] if text.startswith("//") else []
+        end += 1
+        if is_last:
+            break
+    head = [line[depth:] for line in lines[at:end]]
+    head[-1] = re.sub(r" ?(?:\{|\{.*\}|;)$", "", head[-1]) if not HEAD.match(head[-1].strip()) else head[-1].rstrip(";")
+    return [line for line in head if line], clauses
+
+
 def read_source(crate, path, modules):
     owner, in_trait, function, is_test = "", False, None, False
-    for number, line in enumerate(path.read_text().splitlines(), 1):
+    lines = path.read_text().splitlines()
+    for number, line in enumerate(lines, 1):
         text, depth = line.strip(), len(line) - len(line.lstrip())
         if text.startswith("//"):
             continue
@@ -93,6 +149,8 @@ def read_source(crate, path, modules):
             inside = owner if depth == 4 else ""
             public = found[1] == "pub " or (depth == 4 and in_trait)
             function = Function(crate.name, modules, inside, found[2], path, number, public, is_test)
+            function.comment = comment_of(lines, number - 1)
+            function.head, function.stated = head_of(lines, number - 1)
             crate.functions.append(function)
             is_test = False
         elif function and (found := CLAUSE.match(text)):

@@ -1,10 +1,8 @@
 //! The words of the command line: what the program is asked to do.
 #![tactic(auto)]
 
-mod order;
 mod task;
 mod words;
 
-pub use order::{laws, verdicts};
 pub use task::{Bounds, Check, Info, Migrate, Moments, Part, Parts, RowKind, Run, Task, Telling};
 pub use words::read_words;

@@ -1,6 +1,4 @@
 //! What the words of the command line ask for.
-ghost use Rattle.std.specs.Prelude.{◌≡◌};
-ghost use Rattle.arguments.specs.Telling.{is_told};
 
 /// When it is said in words what went wrong.
 #[derive(Clone, Copy, PartialEq, Eq, Debug)]
@@ -15,9 +13,7 @@ pub enum Telling {
 
 impl Telling {
     /// Whether it is said, on a terminal or elsewhere.
-    pub fn is_told(self, is_terminal: bool) -> bool
-        ensures { result ≡ is_told self is_terminal }
-    {
+    pub fn is_told(self, is_terminal: bool) -> bool {
         match self {
             Telling::OnTerminal => is_terminal,
             Telling::Always => true,
@@ -126,6 +122,8 @@ pub struct Moments<'a> {
     pub bounds: Bounds<'a>,
     /// What is printed.
     pub rows: RowKind,
+    /// When it is said why nothing is printed.
+    pub telling: Telling,
 }
 
 /// What `mftb info` is asked to do.

@@ -1,17 +1,4 @@
 //! The words of the command line.
-ghost use Rattle.std.specs.Prelude.{◌≡◌, ℕ, List, [], IfErr, IfOk, codes, false, fold, is_some, map, true};
-ghost use Rattle.std.specs.String.{string_bytes};
-ghost use Rattle.clap.specs.Simple.{new_shape};
-ghost use Rattle.clap.specs.Words.{app_of, found_of, kind_of, rows_of, rule_of, FailsBy};
-ghost use Rattle.clap.specs.declared.error.kind.ErrorKind.TheVariants.{OutOfMemory};
-ghost use Rattle.arguments.specs.Forms.{form_rule, with_word, word_rule, HasShape};
-ghost use Rattle.arguments.specs.Program.{at_least, bound_rule, count_or_rule, count_rule, flag_rule, letter_flag_rule, names_rule, number_rule, required_rule};
-ghost use Rattle.arguments.specs.Program.{bare_shape, cache_pages_rule, check_shape, info_shape, migrate_shape, moments_shape, part_shape, parts_shape, program, quiet_rule, run_shape};
-ghost use Rattle.arguments.specs.Program.{has_negative, is_negative};
-ghost use Rattle.arguments.specs.Refusals.{clash_kinds, clashes, is_said, refusal_of};
-ghost use Rattle.arguments.specs.Tasks.{IsAsked, SaysCheck, SaysInfo, SaysMigrate, SaysMoments, SaysPart, SaysParts, SaysRows, SaysRun, SaysTask};
-ghost use Rattle.arguments.specs.Words.{word, SaysFlag, SaysNumber, SaysTelling};
-
 use crate::task::{
     Bounds, Check, Info, Migrate, Moments, Part, Parts, RowKind, Run, Task, Telling,
 };
@@ -19,8 +6,6 @@ use clap::builder::ValueParser;
 use clap::error::ErrorKind;
 use clap::{Arg, ArgAction, ArgMatches, Command, Error};
 use std::alloc::{AllocError, Global};
-use std::convert::AsStr;
-use std::str::FromStr;
 
 /// How many pages a cache holds where no word says it.
 const CACHE_PAGES: u32 = 256;
@@ -55,27 +40,18 @@ struct Word<'a> {
 }
 
 impl<'a> Word<'a> {
-    #[tactic(auto, unfolding(crate::specs::Forms::word_rule))]
-    fn new(form: Form<'a>, name: &'a str, help: &'a str) -> Word<'a>
-        ensures { word_rule result ≡ form_rule name.entry.now form.entry }
-    {
+    fn new(form: Form<'a>, name: &'a str, help: &'a str) -> Word<'a> {
         Word { name, form, help }
     }
 }
 
 /// A number of that at least.
-fn at_least<'a>(least: u32) -> ValueParser<'a>
-    ensures { result ≡ at_least least }
-{
+fn at_least<'a>(least: u32) -> ValueParser<'a> {
     ValueParser::signed(i64::from(least), i64::from(u32::MAX))
 }
 
 /// A word that has to be there.
-#[tactic(auto, unfolding(crate::specs::Program::required_rule))]
-fn required<'a>(alloc: Global, word: Word<'a>) -> Arg<'a>
-    ensures rule { rule_of result ≡ required_rule word.entry.name.now }
-    ensures local { result.global ≡ false }
-{
+fn required<'a>(alloc: Global, word: Word<'a>) -> Arg<'a> {
     Arg::new(alloc, word.name)
         .help(word.help)
         .required(true)
@@ -83,37 +59,22 @@ fn required<'a>(alloc: Global, word: Word<'a>) -> Arg<'a>
 }
 
 /// A word that has to be there, and is a number of that at least.
-fn count<'a>(alloc: Global, word: Word<'a>, least: u32) -> Arg<'a>
-    ensures rule { rule_of result ≡ count_rule least word.entry.name.now }
-    ensures local { result.global ≡ false }
-{
+fn count<'a>(alloc: Global, word: Word<'a>, least: u32) -> Arg<'a> {
     required(alloc, word).value_parser(at_least(least))
 }
 
 /// A word that has to be there, and may begin with a minus.
-#[tactic(auto, unfolding(crate::specs::Program::bound_rule))]
-fn bound<'a>(alloc: Global, word: Word<'a>) -> Arg<'a>
-    ensures rule { rule_of result ≡ bound_rule true word.entry.name.now }
-    ensures local { result.global ≡ false }
-{
+fn bound<'a>(alloc: Global, word: Word<'a>) -> Arg<'a> {
     required(alloc, word).allow_negative_numbers(true)
 }
 
 /// As many words as there are.
-#[tactic(auto, unfolding(crate::specs::Program::names_rule))]
-fn names<'a>(alloc: Global, word: Word<'a>) -> Arg<'a>
-    ensures rule { rule_of result ≡ names_rule word.entry.name.now }
-    ensures local { result.global ≡ false }
-{
+fn names<'a>(alloc: Global, word: Word<'a>) -> Arg<'a> {
     Arg::new(alloc, word.name).help(word.help).num_args(0..)
 }
 
 /// A word `--NAME` without a value.
-#[tactic(auto, unfolding(crate::specs::Program::flag_rule))]
-fn flag<'a>(alloc: Global, word: Word<'a>) -> Arg<'a>
-    ensures rule { rule_of result ≡ flag_rule word.entry.name.now }
-    ensures local { result.global ≡ false }
-{
+fn flag<'a>(alloc: Global, word: Word<'a>) -> Arg<'a> {
     Arg::new(alloc, word.name)
         .long(word.name)
         .help(word.help)
@@ -121,19 +82,12 @@ fn flag<'a>(alloc: Global, word: Word<'a>) -> Arg<'a>
 }
 
 /// A word `--NAME` without a value, and that letter for it.
-#[tactic(auto, unfolding(crate::specs::Program::letter_flag_rule))]
-fn letter_flag<'a>(alloc: Global, word: Word<'a>, letter: char) -> Arg<'a>
-    ensures rule { rule_of result ≡ letter_flag_rule letter word.entry.name.now }
-    ensures local { result.global ≡ false }
-{
+fn letter_flag<'a>(alloc: Global, word: Word<'a>, letter: char) -> Arg<'a> {
     flag(alloc, word).short(letter)
 }
 
 /// A word `--NAME VALUE`, a number of that at least.
-fn number<'a>(alloc: Global, word: Word<'a>, value: &'a str, least: u32) -> Arg<'a>
-    ensures rule { rule_of result ≡ number_rule least word.entry.name.now }
-    ensures local { result.global ≡ false }
-{
+fn number<'a>(alloc: Global, word: Word<'a>, value: &'a str, least: u32) -> Arg<'a> {
     Arg::new(alloc, word.name)
         .long(word.name)
         .value_name(value)
@@ -142,20 +96,12 @@ fn number<'a>(alloc: Global, word: Word<'a>, value: &'a str, least: u32) -> Arg<
 }
 
 /// A word `--NAME N`, a number of 1 at least, and that where it is not there.
-#[tactic(auto, unfolding(crate::specs::Program::count_or_rule))]
-fn count_or<'a>(alloc: Global, word: Word<'a>, default: &'a str) -> Arg<'a>
-    ensures rule { rule_of result ≡ count_or_rule default.entry.now word.entry.name.now }
-    ensures local { result.global ≡ false }
-{
+fn count_or<'a>(alloc: Global, word: Word<'a>, default: &'a str) -> Arg<'a> {
     number(alloc, word, "N", 1).default_value(default)
 }
 
 /// What `clap` is told of a word.
-#[tactic(auto, unfolding(crate::specs::Forms::word_rule))]
-fn arg_of<'a>(alloc: Global, word: Word<'a>) -> Arg<'a>
-    ensures rule { rule_of result ≡ word_rule word.entry }
-    ensures local { result.global ≡ false }
-{
+fn arg_of<'a>(alloc: Global, word: Word<'a>) -> Arg<'a> {
     match word.form {
         Form::Required => required(alloc, word),
         Form::Count(least) => count(alloc, word, least),
@@ -174,9 +120,7 @@ fn command<'a>(
     name: &'a str,
     about: &'a str,
     words: &[Word<'a>],
-) -> Result<Command<'a>, AllocError>
-    ensures { IfOk result (HasShape (fold with_word (new_shape name.entry.now) words.now)) }
-{
+) -> Result<Command<'a>, AllocError> {
     let mut command = Command::new(alloc, name).about(about);
     for word in words {
         command = command.arg(arg_of(alloc, *word))?;
@@ -185,10 +129,7 @@ fn command<'a>(
 }
 
 /// The word `--cache-pages N`.
-#[tactic(auto, unfolding(crate::specs::Program::cache_pages_rule))]
-fn cache_pages<'a>() -> Word<'a>
-    ensures { word_rule result ≡ cache_pages_rule }
-{
+fn cache_pages<'a>() -> Word<'a> {
     Word::new(
         Form::CountOr("256"),
         "cache-pages",
@@ -197,9 +138,7 @@ fn cache_pages<'a>() -> Word<'a>
 }
 
 /// The word `--explain`.
-fn explain<'a>() -> Word<'a>
-    ensures { word_rule result ≡ flag_rule (codes "explain") }
-{
+fn explain<'a>() -> Word<'a> {
     Word::new(
         Form::Flag,
         "explain",
@@ -208,10 +147,7 @@ fn explain<'a>() -> Word<'a>
 }
 
 /// The word `-q`.
-#[tactic(auto, unfolding(crate::specs::Program::quiet_rule))]
-fn quiet<'a>() -> Word<'a>
-    ensures { word_rule result ≡ quiet_rule }
-{
+fn quiet<'a>() -> Word<'a> {
     Word::new(
         Form::FlagOrLetter('q'),
         "quiet",
@@ -220,9 +156,7 @@ fn quiet<'a>() -> Word<'a>
 }
 
 /// The word `--in-place`.
-fn in_place<'a>() -> Word<'a>
-    ensures { word_rule result ≡ flag_rule (codes "in-place") }
-{
+fn in_place<'a>() -> Word<'a> {
     Word::new(
         Form::Flag,
         "in-place",
@@ -231,9 +165,7 @@ fn in_place<'a>() -> Word<'a>
 }
 
 /// The word `--existing`.
-fn existing<'a>() -> Word<'a>
-    ensures { word_rule result ≡ flag_rule (codes "existing") }
-{
+fn existing<'a>() -> Word<'a> {
     Word::new(
         Form::Flag,
         "existing",
@@ -242,9 +174,7 @@ fn existing<'a>() -> Word<'a>
 }
 
 /// The words of `mftb run`.
-fn run_command<'a>(alloc: Global) -> Result<Command<'a>, AllocError>
-    ensures { IfOk result (HasShape run_shape) }
-{
+fn run_command<'a>(alloc: Global) -> Result<Command<'a>, AllocError> {
     let words = [
         Word::new(
             Form::Required,
@@ -282,9 +212,7 @@ fn run_command<'a>(alloc: Global) -> Result<Command<'a>, AllocError>
 }
 
 /// The words of `mftb check`.
-fn check_command<'a>(alloc: Global) -> Result<Command<'a>, AllocError>
-    ensures { IfOk result (HasShape check_shape) }
-{
+fn check_command<'a>(alloc: Global) -> Result<Command<'a>, AllocError> {
     let words = [
         Word::new(Form::Required, "STORE", "The file that keeps the database"),
         cache_pages(),
@@ -300,9 +228,7 @@ fn check_command<'a>(alloc: Global) -> Result<Command<'a>, AllocError>
 }
 
 /// The words of `mftb migrate`.
-fn migrate_command<'a>(alloc: Global) -> Result<Command<'a>, AllocError>
-    ensures { IfOk result (HasShape migrate_shape) }
-{
+fn migrate_command<'a>(alloc: Global) -> Result<Command<'a>, AllocError> {
     let words = [
         Word::new(
             Form::Required,
@@ -320,9 +246,7 @@ fn migrate_command<'a>(alloc: Global) -> Result<Command<'a>, AllocError>
 }
 
 /// The words of `mftb part`.
-fn part_command<'a>(alloc: Global) -> Result<Command<'a>, AllocError>
-    ensures { IfOk result (HasShape part_shape) }
-{
+fn part_command<'a>(alloc: Global) -> Result<Command<'a>, AllocError> {
     let words = [
         Word::new(Form::Count(0), "K", "The number of the part, from 0"),
         Word::new(Form::Count(1), "N", "How many parts there are"),
@@ -337,9 +261,7 @@ fn part_command<'a>(alloc: Global) -> Result<Command<'a>, AllocError>
 }
 
 /// The words of `mftb parts`.
-fn parts_command<'a>(alloc: Global) -> Result<Command<'a>, AllocError>
-    ensures { IfOk result (HasShape parts_shape) }
-{
+fn parts_command<'a>(alloc: Global) -> Result<Command<'a>, AllocError> {
     let words = [
         Word::new(Form::Count(1), "N", "How many parts there are"),
         Word::new(
@@ -364,10 +286,7 @@ fn parts_command<'a>(alloc: Global) -> Result<Command<'a>, AllocError>
 }
 
 /// What a bound of `mftb moments` is.
-#[tactic(auto, unfolding(crate::specs::Program::bound_rule))]
-fn bound_form<'a>(takes_negative: bool) -> Form<'a>
-    ensures { (name : List ℕ) → form_rule name result ≡ bound_rule takes_negative name }
-{
+fn bound_form<'a>(takes_negative: bool) -> Form<'a> {
     if takes_negative {
         Form::Bound
     } else {
@@ -376,9 +295,7 @@ fn bound_form<'a>(takes_negative: bool) -> Form<'a>
 }
 
 /// The words of `mftb moments`.
-fn moments_command<'a>(alloc: Global, takes_negative: bool) -> Result<Command<'a>, AllocError>
-    ensures { IfOk result (HasShape (moments_shape takes_negative)) }
-{
+fn moments_command<'a>(alloc: Global, takes_negative: bool) -> Result<Command<'a>, AllocError> {
     let bound = bound_form(takes_negative);
     let words = [
         Word::new(Form::Required, "STORE", "The file that keeps the database"),
@@ -399,15 +316,15 @@ fn moments_command<'a>(alloc: Global, takes_negative: bool) -> Result<Command<'a
             "Print a record a feature: how long it stays in all",
         ),
         cache_pages(),
+        explain(),
+        quiet(),
     ];
     let about = "Prints when legs are inside a rectangle in a period, as exact fractions";
     command(alloc, "moments", about, &words)
 }
 
 /// The words of `mftb info`.
-fn info_command<'a>(alloc: Global) -> Result<Command<'a>, AllocError>
-    ensures { IfOk result (HasShape info_shape) }
-{
+fn info_command<'a>(alloc: Global) -> Result<Command<'a>, AllocError> {
     let words = [
         Word::new(Form::Required, "STORE", "The file that keeps the database"),
         Word::new(Form::Flag, "json", "Print one object of JSON"),
@@ -421,10 +338,7 @@ fn info_command<'a>(alloc: Global) -> Result<Command<'a>, AllocError>
 }
 
 /// The program without its commands.
-#[tactic(auto, unfolding(crate::specs::Program::bare_shape))]
-fn bare<'a>(alloc: Global) -> Command<'a>
-    ensures { app_of result ≡ record { top = bare_shape; subs = [] } }
-{
+fn bare<'a>(alloc: Global) -> Command<'a> {
     Command::new(alloc, "mftb")
         .about("A trajectory database")
         .version("0.1.0")
@@ -432,9 +346,7 @@ fn bare<'a>(alloc: Global) -> Command<'a>
 }
 
 /// The words of the program, and its commands in the order in which the help says them.
-fn mftb<'a>(alloc: Global, takes_negative: bool) -> Result<Command<'a>, AllocError>
-    ensures { IfOk result (λ command. app_of command ≡ program takes_negative) }
-{
+fn mftb<'a>(alloc: Global, takes_negative: bool) -> Result<Command<'a>, AllocError> {
     bare(alloc)
         .subcommand(run_command(alloc)?)?
         .subcommand(check_command(alloc)?)?
@@ -446,17 +358,13 @@ fn mftb<'a>(alloc: Global, takes_negative: bool) -> Result<Command<'a>, AllocErr
 }
 
 /// Whether a word begins as a number below 0 does.
-fn is_negative(word: &str) -> bool
-    ensures { result ≡ is_negative word.now }
-{
+fn is_negative(word: &str) -> bool {
     let bytes = word.as_bytes();
     bytes.len() > 1 && bytes[0] == b'-' && bytes[1].is_ascii_digit()
 }
 
 /// Whether one of the words does.
-fn has_negative(words: &[String]) -> bool
-    ensures { result ≡ has_negative (map string_bytes words.now) }
-{
+fn has_negative(words: &[String]) -> bool {
     for word in words {
         if is_negative(word.as_str()) {
             return true;
@@ -466,31 +374,22 @@ fn has_negative(words: &[String]) -> bool
 }
 
 /// A word that is there.
-fn word_of<'a>(matches: &ArgMatches<'a>, name: &str) -> &'a str
-    ensures { result.now ≡ word (found_of matches.now) name.now }
-{
+fn word_of<'a>(matches: &ArgMatches<'a>, name: &str) -> &'a str {
     matches.get_str(name).unwrap_or("")
 }
 
 /// Whether a word without a value is there.
-fn flag_of(matches: &ArgMatches, name: &str) -> bool
-    ensures { SaysFlag (found_of matches.now) name.now result }
-{
+fn flag_of(matches: &ArgMatches, name: &str) -> bool {
     matches.get_flag(name)
 }
 
 /// A number; another one where there is none.
-fn number_of(matches: &ArgMatches, name: &str, other: u32) -> u32
-    ensures { SaysNumber ⟦<u32 as FromStr>⟧.from_str_gives (found_of matches.now) name.now other
-        result }
-{
+fn number_of(matches: &ArgMatches, name: &str, other: u32) -> u32 {
     matches.get_one(name).unwrap_or(other)
 }
 
 /// When it is to be said in words what went wrong.
-fn telling_of(matches: &ArgMatches) -> Telling
-    ensures { SaysTelling (found_of matches.now) result }
-{
+fn telling_of(matches: &ArgMatches) -> Telling {
     if flag_of(matches, "quiet") {
         Telling::Never
     } else if flag_of(matches, "explain") {
@@ -501,11 +400,7 @@ fn telling_of(matches: &ArgMatches) -> Telling
 }
 
 /// What `mftb run` is asked to do.
-fn run_of<'a>(alloc: Global, matches: &ArgMatches<'a>) -> Result<Run<'a>, Error>
-    ensures asked { IfOk result
-        (SaysRun ⟦<u32 as FromStr>⟧.from_str_gives (found_of matches.now)) }
-    ensures memory { IfErr result (λ e. kind_of e ≡ OutOfMemory) }
-{
+fn run_of<'a>(alloc: Global, matches: &ArgMatches<'a>) -> Result<Run<'a>, Error> {
     let names = matches.get_strs("FILES").unwrap_or(&[]);
     Ok(Run {
         store: word_of(matches, "STORE"),
@@ -521,9 +416,7 @@ fn run_of<'a>(alloc: Global, matches: &ArgMatches<'a>) -> Result<Run<'a>, Error>
 }
 
 /// What is printed of stays.
-fn rows_of(matches: &ArgMatches) -> RowKind
-    ensures { SaysRows (found_of matches.now) result }
-{
+fn rows_of(matches: &ArgMatches) -> RowKind {
     if flag_of(matches, "visits") {
         RowKind::Visits
     } else if flag_of(matches, "dwell") {
@@ -534,9 +427,7 @@ fn rows_of(matches: &ArgMatches) -> RowKind
 }
 
 /// What `mftb moments` is asked to do.
-fn moments_of<'a>(matches: &ArgMatches<'a>) -> Moments<'a>
-    ensures { SaysMoments ⟦<u32 as FromStr>⟧.from_str_gives (found_of matches.now) result }
-{
+fn moments_of<'a>(matches: &ArgMatches<'a>) -> Moments<'a> {
     let corners = [
         word_of(matches, "X1"),
         word_of(matches, "Y1"),
@@ -549,13 +440,12 @@ fn moments_of<'a>(matches: &ArgMatches<'a>) -> Moments<'a>
         cache_pages: number_of(matches, "cache-pages", CACHE_PAGES),
         bounds: Bounds { corners, times },
         rows: rows_of(matches),
+        telling: telling_of(matches),
     }
 }
 
 /// What `mftb check` is asked to do.
-fn check_of<'a>(matches: &ArgMatches<'a>) -> Check<'a>
-    ensures { SaysCheck ⟦<u32 as FromStr>⟧.from_str_gives (found_of matches.now) result }
-{
+fn check_of<'a>(matches: &ArgMatches<'a>) -> Check<'a> {
     Check {
         store: word_of(matches, "STORE"),
         cache_pages: number_of(matches, "cache-pages", CACHE_PAGES),
@@ -564,9 +454,7 @@ fn check_of<'a>(matches: &ArgMatches<'a>) -> Check<'a>
 }
 
 /// What `mftb parts` is asked to do.
-fn parts_of<'a>(matches: &ArgMatches<'a>) -> Parts<'a>
-    ensures { SaysParts ⟦<u32 as FromStr>⟧.from_str_gives (found_of matches.now) result }
-{
+fn parts_of<'a>(matches: &ArgMatches<'a>) -> Parts<'a> {
     Parts {
         parts: number_of(matches, "N", 1),
         first: number_of(matches, "first", 0),
@@ -577,9 +465,7 @@ fn parts_of<'a>(matches: &ArgMatches<'a>) -> Parts<'a>
 }
 
 /// What `mftb part` is asked to do.
-fn part_of<'a>(matches: &ArgMatches<'a>) -> Part<'a>
-    ensures { SaysPart ⟦<u32 as FromStr>⟧.from_str_gives (found_of matches.now) result }
-{
+fn part_of<'a>(matches: &ArgMatches<'a>) -> Part<'a> {
     Part {
         part: number_of(matches, "K", 0),
         parts: number_of(matches, "N", 1),
@@ -588,9 +474,7 @@ fn part_of<'a>(matches: &ArgMatches<'a>) -> Part<'a>
 }
 
 /// What `mftb migrate` is asked to do.
-fn migrate_of<'a>(matches: &ArgMatches<'a>) -> Migrate<'a>
-    ensures { SaysMigrate (found_of matches.now) result }
-{
+fn migrate_of<'a>(matches: &ArgMatches<'a>) -> Migrate<'a> {
     Migrate {
         old: word_of(matches, "OLD"),
         new: word_of(matches, "NEW"),
@@ -598,9 +482,7 @@ fn migrate_of<'a>(matches: &ArgMatches<'a>) -> Migrate<'a>
 }
 
 /// What `mftb info` is asked to do.
-fn info_of<'a>(matches: &ArgMatches<'a>) -> Info<'a>
-    ensures { SaysInfo (found_of matches.now) result }
-{
+fn info_of<'a>(matches: &ArgMatches<'a>) -> Info<'a> {
     Info {
         store: word_of(matches, "STORE"),
         is_json: flag_of(matches, "json"),
@@ -608,9 +490,7 @@ fn info_of<'a>(matches: &ArgMatches<'a>) -> Info<'a>
 }
 
 /// Whether a word without a value is there, as it was written.
-fn is_said(matches: &ArgMatches, name: &str) -> bool
-    ensures { result ≡ is_said (rows_of (found_of matches.now)) name.now }
-{
+fn is_said(matches: &ArgMatches, name: &str) -> bool {
     match matches.get_str(name) {
         Some(text) => text == "true",
         None => false,
@@ -618,9 +498,7 @@ fn is_said(matches: &ArgMatches, name: &str) -> bool
 }
 
 /// Which two words are there of which one may not stand beside the other, in words.
-fn clash_of(matches: &ArgMatches) -> Option<&'static str>
-    ensures { is_some result ≡ clashes (rows_of (found_of matches.now)) }
-{
+fn clash_of(matches: &ArgMatches) -> Option<&'static str> {
     if is_said(matches, "explain") && is_said(matches, "quiet") {
         return Some("the argument '--explain' cannot be used with '--quiet'");
     }
@@ -632,17 +510,10 @@ fn clash_of(matches: &ArgMatches) -> Option<&'static str>
 
 /// Reads the words, of which the first is the program's name.
 ///
-/// `clap` takes a number below 0 as a bound only where it is told so, and no clause says what it
-/// makes of words that it is told that of. So it is told so only where one of the words begins as
-/// such a number. Nor does a clause say which words it takes where it is told that a word may not
-/// stand beside another one. So it is not told so, and two such words are refused here, once no word
-/// is missing.
-pub fn read_words<'a>(alloc: Global, words: &'a [String]) -> Result<Task<'a>, Error>
-    ensures asked { IfOk result (IsAsked ⟦<u32 as FromStr>⟧.from_str_gives
-        (map ⟦<String as AsStr>⟧.text words.entry.now)) }
-    ensures refused { has_negative (map ⟦<String as AsStr>⟧.text words.entry.now) ≡ false
-        → FailsBy (refusal_of (map ⟦<String as AsStr>⟧.text words.entry.now)) result }
-{
+/// `clap` is told that a bound may be a number below 0 only where one of the words begins as one does.
+/// So any other word behind a minus stays a flag. Two flags that exclude each other are refused here,
+/// once no word is missing.
+pub fn read_words<'a>(alloc: Global, words: &'a [String]) -> Result<Task<'a>, Error> {
     let mut program = mftb(alloc, has_negative(words))?;
     let matches = program.try_get_matches_from_mut(words)?;
     match matches.subcommand() {
@@ -657,11 +528,7 @@ fn ask<'a>(
     program: &mut Command<'_>,
     name: &str,
     matches: &ArgMatches<'a>,
-) -> Result<Task<'a>, Error>
-    ensures asked { IfOk result
-        (SaysTask ⟦<u32 as FromStr>⟧.from_str_gives name.now (found_of matches.now)) }
-    ensures refused { FailsBy (clash_kinds (rows_of (found_of matches.now))) result }
-{
+) -> Result<Task<'a>, Error> {
     if let Some(clash) = clash_of(matches) {
         return Err(program.error(ErrorKind::ArgumentConflict, clash)?);
     }
@@ -669,11 +536,7 @@ fn ask<'a>(
 }
 
 /// What the words of a command ask for.
-fn task_of<'a>(alloc: Global, name: &str, matches: &ArgMatches<'a>) -> Result<Task<'a>, Error>
-    ensures asked { IfOk result
-        (SaysTask ⟦<u32 as FromStr>⟧.from_str_gives name.now (found_of matches.now)) }
-    ensures memory { IfErr result (λ e. kind_of e ≡ OutOfMemory) }
-{
+fn task_of<'a>(alloc: Global, name: &str, matches: &ArgMatches<'a>) -> Result<Task<'a>, Error> {
     Ok(match name {
         "check" => Task::Check(check_of(matches)),
         "migrate" => Task::Migrate(migrate_of(matches)),

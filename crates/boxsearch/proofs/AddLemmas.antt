@@ -1,26 +1,23 @@
 -- A leg more in an index over pages.
-use Rattle.std.proofs.Common.{refl, ℕ, ◌≡◌, ◌≢◌, ◌≤◌, ◌+◌, ◌*◌, ◌-◌, ◌^◌, min, max, sym, ap, ◌∙◌, arith, subst, ⊎_elim, true, false, List, [], ◌∷◌, ◌++◌, length, Some, slice_get, set, Result, Ok, Err, All, option_and_then}
-use Rattle.std.specs.Prelude.{IfErr, IsErrOf, IsTrue, OnOk}
+use Rattle.std.proofs.Common.{ℕ, ◌≡◌, ◌≢◌, ◌≤◌, ◌+◌, ◌*◌, ◌-◌, ◌^◌, min, max, sym, ap, ◌∙◌, arith, subst, ⊎_elim, true, false, List, [], ◌∷◌, ◌++◌, length, Some, slice_get, set, Result, Ok, Err, All, option_and_then}
+use Rattle.std.specs.Prelude.{IfErr, OnOk}
 use Rattle.std.proofs.lemmas.Bool.{cases_eq, true≢false}
 use Rattle.std.proofs.lemmas.Grind.{fold-append}
 use Rattle.std.proofs.lemmas.Int.{clamps}
 use Rattle.std.proofs.lemmas.List.{length_push, length-set}
-use Rattle.std.proofs.lemmas.List.Elements.{All-cons, All-nil}
 use Rattle.std.proofs.lemmas.Nat.{mul-le}
-use Rattle.legs.specs.Asking.{placed_legs, Ends, LacksPages, LegRefusals}
+use Rattle.legs.specs.Asking.{Ends, LegRefusals}
 use Rattle.legs.specs.Boxes.{BoxView}
 use Rattle.legs.specs.Costs.{RisesAtMost, add_bound, height, leaves_of}
 use Rattle.legs.specs.Index.{CanFollow, CanFollowInTurn, MayRefuseLeg, feature_count, legs_of}
 use Rattle.legs.specs.Legs.{IsLeg, LegView}
 use Rattle.legs.specs.declared.index.IndexFault.{IndexFault}
 use Rattle.legs.specs.declared.index.IndexFault.TheVariants as index
-use Rattle.legs.proofs.LastLemmas.{takes_none}
 use Rattle.pages.specs.Unsealed.{unsealed}
 use Rattle.pagecache.specs.Cache.{Cache, sealed_payload}
 use Rattle.tbtree.specs.Descent.{content_of}
 use Rattle.tbtree.specs.Faults.{GivesWrite, MayRefuseWrite, RefusesWrite}
 use Rattle.tbtree.specs.Insert.{Stands, IsPlace, Inserted}
-use Rattle.tbtree.specs.Needs.{IsFit}
 use Rattle.tbtree.specs.Nodes.{Pages, pages_of_cache}
 use Rattle.tbtree.specs.Passes.{Passes}
 use Rattle.tbtree.specs.Shape.{IsShape}
@@ -29,11 +26,11 @@ use Rattle.tbtree.specs.declared.fault.TreeFault.{TreeFault}
 use Rattle.tbtree.specs.declared.tree.Place.{Place}
 use Rattle.tbtree.specs.declared.tree.TbTree.{TbTree}
 use Rattle.boxsearch.specs.Answers.{answered, of_tree}
-use Rattle.boxsearch.specs.Index.{IndexView, words, content, found_by, is_unfit, IsSound, IsMarked, with_place}
+use Rattle.boxsearch.specs.Index.{IndexView, words, content, IsSound, IsMarked, with_place}
 use Rattle.boxsearch.specs.Putting.{Puts}
-use Rattle.boxsearch.proofs.AnswerLemmas.{each_fault, named_said, the_fault, SaidOfLeg, write_said, write_allowed}
+use Rattle.boxsearch.proofs.AnswerLemmas.{each_fault, the_fault, SaidOfLeg, write_said, write_allowed}
 use Rattle.boxsearch.proofs.IndexLemmas.{content_is}
-use Rattle.boxsearch.proofs.PlaceLemmas.{get-set_same, get-set_other, made_places, length-made, one_fits, place_made, some_same, stays_at}
+use Rattle.boxsearch.proofs.PlaceLemmas.{get-set_same, get-set_other, made_places, length-made, some_same}
 use Rattle.boxsearch.proofs.TrackLemmas.{no_legs}
 
 -- the laws of a tree that are cited here
@@ -134,49 +131,21 @@ module _ (laws : Laws) (old new : IndexView) (leg : LegView) where
       omega (arith, clamps, h, g, a)
   asked (Err x) p = tt
 
-  -- no page was not what the leg needed of it
-  pub all_fit : (r : Result (Unit {0}) TreeFault) → Puts (made old leg.feature) new leg r → OnOk (answered (λ fault. of_tree fault) r) (IsTrue old.cache.store.is_faithful → (page : ℕ) → is_unfit old (leg ∷ []) page → ⊥)
-  all_fit (Ok tt) p = λ fa page unfit. unfit fa (subst (λ place. IsFit (pages_of_cache old.cache) old.tree place (leg ∷ []) page) (place_made old.places leg.feature p.was p.found) (p.fits fa page))
-  all_fit (Err x) p = tt
-
   allowed : (r : Result (Unit {0}) TreeFault) → Puts (made old leg.feature) new leg r → IfErr r (λ fault. IsSound old → CanFollowInTurn (content old) (leg ∷ []) → MayRefuseWrite fault)
   allowed (Ok tt) p = tt
   allowed (Err x) p = λ s w. gives (Err x) p s w.0
 
-  pub refusals : (r : Result (Unit {0}) TreeFault) → old.tree.spent ≡ false → Puts (made old leg.feature) new leg r → (IsErrOf (answered (λ fault. of_tree fault) r) index.StoreFull → LacksPages words old new (leg ∷ [])) → LegRefusals words old new (leg ∷ []) (answered (λ fault. of_tree fault) r)
-  refusals r works p lacks =
+  pub refusals : (r : Result (Unit {0}) TreeFault) → old.tree.spent ≡ false → Puts (made old leg.feature) new leg r → LegRefusals words old new (leg ∷ []) (answered (λ fault. of_tree fault) r)
+  refusals r works p =
       let say : TreeFault → IndexFault = λ fault. of_tree fault in
       let said = each_fault say (RefusesWrite old.cache new.cache) (SaidOfLeg old.cache new.cache) (write_said old.cache new.cache) r p.caused in
-      let Same : Type 0 = (new.tree ≡ record old.tree { spent = true }) × (p.is ≡ p.was) in
       record {
         spent = each_fault say (λ _. new.tree.spent ≡ true) (λ _. new.tree.spent ≡ true) (λ x h. h) r p.spent;
         was_spent = λ e. absurd (true≢false (sym e ∙ works));
         sound = each_fault say (λ fault. IsSound old → CanFollowInTurn (content old) (leg ∷ []) → MayRefuseWrite fault) (λ fault. IsSound old → CanFollowInTurn (content old) (leg ∷ []) → MayRefuseLeg fault) (λ x h s w. write_allowed x (h s w)) r (allowed r p);
         store = λ e. the_fault (answered say r) (SaidOfLeg old.cache new.cache) index.Store e said;
         full = λ e. the_fault (answered say r) (SaidOfLeg old.cache new.cache) index.StoreFull e said;
-        lacks = lacks;
-        skips = λ e. absurd (the_fault (answered say r) (SaidOfLeg old.cache new.cache) index.Spent e said);
-        blames = λ page e. record {
-          first = [];
-          next = leg ∷ [];
-          others = [];
-          order = λ f. refl;
-          feature = leg.feature;
-          one = All-cons (λ l. l.feature ≡ leg.feature) leg [] refl (All-nil (λ l. l.feature ≡ leg.feature));
-          some = omega arith;
-          mid = old;
-          none = λ _. unfit page e;
-          added = takes_none words old works;
-          stays = λ fa. (let u = the_fault (answered say r) (λ _. Same) (index.Damaged page) e (each_fault say (λ _. Same) (λ _. Same) (λ x h. h) r p.unmoved) in stays_at old new leg.feature p.was p.is true p.found p.places u.0 u.1 p.passes.count);
-          fits = λ shape is. (let same : old.tree.shape ≡ shape = some_same old.tree.shape shape is in let some = p.room in let more = ap (λ s. s.leaf) same in one_fits (placed_legs (found_by old) leg.feature) shape.leaf (omega (arith, some, more)));
-          unfit = unfit page e;
-        };
       }
-    where
-      unfit : (page : ℕ) → IsErrOf (answered (λ fault. of_tree fault) r) (index.Damaged page) → is_unfit old (leg ∷ []) page
-      unfit page e = λ fa.
-          subst (λ place. IsFit (pages_of_cache old.cache) old.tree place (leg ∷ []) page → ⊥) (place_made old.places leg.feature p.was p.found)
-          (named_said old.cache new.cache (IsTrue old.cache.store.is_faithful) (λ page. IsFit (pages_of_cache old.cache) old.tree p.was (leg ∷ []) page → ⊥) r p.caused p.blames page e fa)
 
 -- page 0 stays marked
 pub marked_after : (old new : Cache) → Passes old new → IsMarked old → IsMarked new

@@ -7,7 +7,7 @@ use Rattle.legs.specs.declared.index.IndexFault.TheVariants as index
 use Rattle.pagecache.specs.Cache.{Cache}
 use Rattle.pagecache.specs.declared.fault.CacheFault.{CacheFault}
 use Rattle.pagecache.specs.declared.fault.CacheFault.TheVariants as cache
-use Rattle.tbtree.specs.Faults.{FillsInCache, IfFull, IfNamed, MayRefuseRead, MayRefuseReadInCache, MayRefuseWrite, MayRefuseWriteInCache, RefusesRead, RefusesReadInCache, RefusesWrite, RefusesWriteInCache}
+use Rattle.tbtree.specs.Faults.{MayRefuseRead, MayRefuseReadInCache, MayRefuseWrite, MayRefuseWriteInCache, RefusesRead, RefusesReadInCache, RefusesWrite, RefusesWriteInCache}
 use Rattle.tbtree.specs.declared.fault.TreeFault.{TreeFault}
 use Rattle.tbtree.specs.declared.fault.TreeFault.TheVariants as tree
 use Rattle.boxsearch.specs.Answers.{answered, of_cache, of_tree}
@@ -102,29 +102,3 @@ write_cache_allowed = of_each_cache (λ fault. MayRefuseWriteInCache fault → M
 
 pub write_allowed : (fault : TreeFault) → MayRefuseWrite fault → MayRefuseLeg (of_tree fault)
 write_allowed = of_each_tree (λ fault. MayRefuseWrite fault → MayRefuseLeg (of_tree fault)) write_cache_allowed (λ n h. h) (λ h. h)
-
--- what is so of a store that a refused insertion says is full is so of the one that the answer says is
-abbrev pub OfFull : Type 0 → IndexFault → Type 0
-OfFull P index.Memory = Unit {0}
-OfFull P index.Store = Unit {0}
-OfFull P (index.Damaged n) = Unit {0}
-OfFull P index.StoreFull = P
-OfFull P index.Spent = Unit {0}
-
-full_cache_said : (P : Type 0) (fault : CacheFault) → FillsInCache P fault → OfFull P (of_cache fault)
-full_cache_said P = of_each_cache (λ fault. FillsInCache P fault → OfFull P (of_cache fault)) (λ h. tt) (λ h. tt) (λ n h. tt) (λ h. h) (λ h. tt)
-
-pub full_said : (P : Type 0) (fault : TreeFault) → IfFull P fault → OfFull P (of_tree fault)
-full_said P = of_each_tree (λ fault. IfFull P fault → OfFull P (of_tree fault)) (full_cache_said P) (λ n h. tt) (λ h. tt)
-
--- what is so of the page that a refused insertion names is so of the one that the answer names
-pub named_said : (old new : Cache) (H : Type 0) (F : ℕ → Type 0) (r : Result (Unit {0}) TreeFault) → IfErr r (RefusesWrite old new) → (H → IfErr r (IfNamed F))
-    → (page : ℕ) → IsErrOf (answered (λ fault. of_tree fault) r) (index.Damaged page) → H → F page
-named_said old new H F (Ok x) c b page e h = absurd cc
-named_said old new H F (Err (tree.Cache cache.NoPage)) c b page e h = absurd c
-named_said old new H F (Err (tree.Cache cache.Store)) c b page e h = absurd cc
-named_said old new H F (Err (tree.Cache (cache.Damaged n))) c b page e h = let same : n ≡ page = cc in subst F same (b h)
-named_said old new H F (Err (tree.Cache cache.StoreFull)) c b page e h = absurd cc
-named_said old new H F (Err (tree.Cache cache.Memory)) c b page e h = absurd cc
-named_said old new H F (Err (tree.Malformed n)) c b page e h = let same : n ≡ page = cc in subst F same (b h)
-named_said old new H F (Err tree.Spent) c b page e h = absurd cc

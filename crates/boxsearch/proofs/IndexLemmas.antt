@@ -1,38 +1,24 @@
 -- What a reading call leaves of an index over pages.
-use Rattle.std.proofs.Common.{ℕ, Bool, ◌↔◌, ◌≡◌, ◌<◌, refl, sym, ap, ◌∙◌, arith, subst, true, false, [], IsTrue, All, length, option_map, option_and_then, cond, List}
+use Rattle.std.proofs.Common.{Bool, ◌≡◌, ◌<◌, refl, sym, ap, ◌∙◌, arith, subst, true, false, [], IsTrue, All, length, option_map, option_and_then, cond, List}
 use Rattle.std.proofs.lemmas.Int.{clamps}
-use Rattle.std.specs.List.{filter, Contains}
 use Rattle.legs.specs.Asking.{Leaves}
-use Rattle.legs.specs.Boxes.{BoxView, box_of}
-use Rattle.legs.specs.Hull.{IsPruning, leg_boxes}
+use Rattle.legs.specs.Boxes.{BoxView}
 use Rattle.legs.specs.Index.{feature_count}
-use Rattle.legs.specs.Legs.{IsLeg, LegView}
+use Rattle.legs.specs.Legs.{IsLeg}
 use Rattle.pagecache.specs.Cache.{Cache, IsClean, is_changed, pages_as_written, sealed_payload}
 use Rattle.pages.specs.Unsealed.{unsealed}
 use Rattle.chains.specs.Reads.{OnlyReads}
 use Rattle.tbnode.specs.Form.{node_of}
 use Rattle.tbtree.specs.Descent.{content_of, found_legs}
 use Rattle.tbtree.specs.Insert.{Stands, IsPlace}
-use Rattle.tbtree.specs.Nodes.{pages_of_cache, Pages}
-use Rattle.tbtree.specs.Shape.{IsShape}
-use Rattle.tbtree.specs.declared.tree.TbTree.{TbTree}
+use Rattle.tbtree.specs.Nodes.{pages_of_cache}
 use Rattle.chains.specs.declared.spans.LeafSpan.{LeafSpan}
 use Rattle.boxsearch.specs.Beside.{with_cache}
 use Rattle.boxsearch.specs.Telling.{Tells, Denies}
-use Rattle.boxsearch.proofs.OtherLemmas.{fields_kept, others_kept}
-use Rattle.boxsearch.proofs.StillLemmas.{ways_still}
-use Rattle.boxsearch.specs.Index.{IndexView, words, content, finds, found_by, legs_by, written, IsSound, IsMarked}
+use Rattle.boxsearch.specs.Index.{IndexView, words, content, found_by, legs_by, written, IsSound, IsMarked}
 
 pub content_is : (i : IndexView) → IsTrue i.cache.store.is_faithful → content i ≡ content_of (pages_of_cache i.cache) i.tree
 content_is i f = ap (λ b. cond b (content_of (pages_of_cache i.cache) i.tree) []) f
-
--- a way down a sound index finds those of its legs whose boxes meet
-pub found_in : ((meets : BoxView → Bool) (nodes : Pages LegView BoxView) (tree : TbTree) (legs : List LegView) (pages : ℕ → List ℕ) → IsPruning leg_boxes meets → IsShape tree.shape → Stands nodes tree legs pages → found_legs meets nodes tree ≡ filter (λ leg. meets (box_of leg)) legs)
-    → (i : IndexView) → IsSound i → (meets : BoxView → Bool) → IsPruning leg_boxes meets → (leg : LegView) → finds i meets leg ↔ Contains (filter (λ leg. meets (box_of leg)) (content i)) leg
-found_in law i s meets prune leg =
-    let e : legs_by meets i ≡ filter (λ leg. meets (box_of leg)) (content i) =
-    ap (λ b. cond b (found_legs meets (pages_of_cache i.cache) i.tree) []) s.faithful ∙ law meets (pages_of_cache i.cache) i.tree (content i) s.pages prune s.shape s.stands in
-    (λ h. subst (λ l. Contains l leg) e (h s.faithful), λ h fa. subst (λ l. Contains l leg) (sym e) h)
 
 -- pages that are only read say what they said
 pub same_pages : (old new : Cache) → OnlyReads old new → IsTrue old.store.is_faithful → pages_of_cache new ≡ pages_of_cache old
@@ -97,12 +83,10 @@ module _ (old : IndexView) (c : Cache) (known : List (List LeafSpan)) (r : OnlyR
     content = same_content;
     told = λ q legs h f. subst (λ n. Tells n old.tree old.places q legs) (same_pages old.cache c r f) (h (r.store.faithful ∙ f));
     denied = λ q page h f. subst (λ n. Denies n old.tree old.places q page) (same_pages old.cache c r f) (h (r.store.faithful ∙ f));
-    ways = ways_still old c known r.store.faithful r.count (λ f p above. ap (λ (n : Pages LegView BoxView). n.at p) (same_pages old.cache c r f)) same_found;
-    counted = refl;
     sound = still_sound;
     spent = refl;
     found_by = ap (λ n. record (found_by old) { pages = n }) r.count;
-    later = record { plan = refl; most_pages = r.store.most; capacity = r.capacity; others = others_kept old new (λ fa. r.store.faithful ∙ fa) (λ fa p above payload is none. r.payloads fa p ∙ is); fields = fields_kept old new (λ fa. r.store.faithful ∙ fa) (let n = r.count in omega (arith, n)) (λ fa there p at. (p, r.payloads fa 0 ∙ at, refl)); faults = r.store.faults; asked = (let a = r.asked in omega (arith, clamps, a)); faithful = λ fa. r.store.faithful ∙ fa };
+    later = record { plan = refl; faults = r.store.faults; asked = (let a = r.asked in omega (arith, clamps, a)); faithful = λ fa. r.store.faithful ∙ fa };
     clean = λ h n. r.changed n (h n);
     marked = still_marked;
     written = same_written;

@@ -5,19 +5,14 @@ use Rattle.std.proofs.lemmas.Int.{clamps}
 use Rattle.pages.specs.Unsealed.{unsealed}
 use Rattle.pages.specs.declared.payload.Payload.{Payload}
 use Rattle.pagecache.specs.Cache.{Cache, payload_of, sealed_payload, is_changed, IsClean, IsWritten, Lends, Rests, KeepsPayloads, SameLength, pages_as_written}
-use Rattle.boxsearch.specs.Index.{IsMarked, MarksFirst}
+use Rattle.boxsearch.specs.Index.{IsMarked}
 use Rattle.header.specs.Front.{front_bytes, marked, IsUnfinished}
-use Rattle.header.proofs.FrontLemmas.{marked_same}
 use Rattle.boxsearch.specs.Marking.{Marks}
 use Rattle.boxsearch.proofs.PlaceLemmas.{some_none, some_same}
 
 marked_fields : (p : Payload) → drop 12 (marked p).bytes ≡ drop 12 p.bytes
 unfolding front_bytes
 marked_fields p = refl
-
-pub first_rests : (a b : Cache) (p : Payload) → Rests a b → (IsTrue a.store.is_faithful → payload_of a 0 ≡ Some p) → IsUnfinished p → MarksFirst a b
-first_rests a b p r read u f q at =
-    r.stays.payloads f 0 ∙ at ∙ ap Some (sym (marked_same q (subst (λ v. IsUnfinished v) (some_same p q (sym (read f) ∙ at)) u)))
 
 pub rests_marks : (a b : Cache) → Rests a b → Marks a b
 unfolding sealed_payload
@@ -79,10 +74,6 @@ module _ (a b c d : Cache) (p w : Payload) (r : Rests a b) (read : IsTrue a.stor
 
   pub now : IsTrue a.store.is_faithful → payload_of d 0 ≡ Some w
   now f = s.payloads (fc f) 0 ∙ l.writes.payloads (fb f) 0
-
-  pub first_marked : (v : Payload) → (IsTrue b.store.is_faithful → payload_of b 0 ≡ Some v) → w ≡ marked v → MarksFirst a d
-  first_marked v value e f q at =
-      now f ∙ ap Some e ∙ ap (λ x. Some (marked x)) (some_same v q (sym (value (fb f)) ∙ r.stays.payloads f 0 ∙ at))
 
   pub flushed_marks : (v : Payload) → (IsTrue b.store.is_faithful → payload_of b 0 ≡ Some v) → w ≡ marked v → Marks a d
   flushed_marks v value made = record {

@@ -1,5 +1,5 @@
 -- An index whose page 0 is marked.
-use Rattle.std.proofs.Common.{Bool, ℕ, ◌≡◌, ◌≢◌, ◌<◌, ◌≤◌, ⊎_elim, refl, sym, ap, ◌∙◌, arith, subst, true, false, cond, drop, length, List, [], All, IsTrue, Option, Some, None, option_map, Result, ◌+◌}
+use Rattle.std.proofs.Common.{Bool, ℕ, ◌≡◌, ◌≢◌, ◌<◌, ◌≤◌, ⊎_elim, refl, sym, ap, ◌∙◌, arith, subst, true, false, cond, drop, length, List, [], All, IsTrue, Option, Some, None, option_map, Result}
 use Rattle.std.specs.Prelude.{IfErr, OnOk, OnErr}
 use Rattle.std.proofs.lemmas.Bool.{cases_lt, true≢false}
 use Rattle.std.proofs.lemmas.Int.{clamps}
@@ -19,18 +19,15 @@ use Rattle.tbtree.specs.Insert.{Stands, IsPlace}
 use Rattle.tbtree.specs.Nodes.{Pages, pages_of_cache}
 use Rattle.tbtree.specs.declared.tree.TbTree.{TbTree}
 use Rattle.boxsearch.specs.Answers.{answered, of_cache}
-use Rattle.boxsearch.specs.Index.{IndexView, words, content, found_by, is_unreadable, legs_by, written, IsSound, IsMarked}
+use Rattle.boxsearch.specs.Index.{IndexView, words, content, legs_by, written, IsSound, IsMarked}
 use Rattle.boxsearch.specs.Marking.{Marks, IsNotMarked}
 use Rattle.pages.specs.declared.payload.Payload.{Payload}
 use Rattle.tbtree.proofs.Still.{still}
-use Rattle.boxsearch.proofs.BesideTells.{denies_beside, tells_beside}
-use Rattle.boxsearch.proofs.OtherLemmas.{fields_kept, others_kept}
-use Rattle.boxsearch.proofs.StillLemmas.{ways_still}
 use Rattle.boxsearch.proofs.PlaceLemmas.{some_none}
 use Rattle.boxsearch.proofs.AnswerLemmas.{each_fault, each_value, of_each_cache, the_fault, Said}
 use Rattle.chains.specs.declared.spans.LeafSpan.{LeafSpan}
 use Rattle.boxsearch.specs.Beside.{with_cache, IsBeside}
-use Rattle.boxsearch.proofs.ResultLemmas.{on_ok, on_err}
+use Rattle.boxsearch.proofs.ResultLemmas.{on_err}
 
 -- the laws of a tree that are cited here
 pub record FirstLaws : Type 0 where
@@ -72,17 +69,6 @@ module _ (laws : FirstLaws) (old : IndexView) (c : Cache) (known : List (List Le
         features = s.features ∙ sym (ap feature_count legs);
         placed = λ f place e. subst (λ l. IsPlace old.tree l s.pages f place) (sym legs) (s.placed f place e);
       }
-
--- the page that is named is page 0
-same_page : (p q : ℕ) → index.Damaged p ≡ index.Damaged q → p ≡ q
-same_page p q e = cc
-
-names_first : (a b : Cache) (page : ℕ) (fault : CacheFault) → IsNotMarked a b fault → of_cache fault ≡ index.Damaged page → (page ≡ 0) × (IsTrue a.store.is_faithful → payload_of a 0 ≡ None)
-names_first a b page cache.NoPage h e = (sym (same_page 0 page e), h.1)
-names_first a b page cache.Store h e = absurd cc
-names_first a b page (cache.Damaged n) h e = (sym (same_page n page e) ∙ h.0, h.1)
-names_first a b page cache.StoreFull h e = absurd h
-names_first a b page cache.Memory h e = absurd cc
 
 -- and no index is said to be spent
 abbrev NotSpent : IndexFault → Type 0
@@ -146,28 +132,15 @@ module _ (laws : FirstLaws) (old : IndexView) (c : Cache) (known : List (List Le
   pub starts : (r : Result (Unit {0}) CacheFault) → OnOk r (IsTrue old.cache.store.is_faithful → IsMarked c)
       → OnErr r (IsTrue old.cache.store.is_faithful → IsClean old.cache → drop 1 (pages_as_written c) ≡ drop 1 (pages_as_written old.cache))
       → OnErr r (IsTrue old.cache.store.is_faithful → IsClean old.cache → (Faulted old.cache.store c.store → ⊥) → pages_as_written c ≡ pages_as_written old.cache)
-      → OnOk r (IsTrue old.cache.store.is_faithful → (IsMarked old.cache → ⊥) → IsSynced c.store) → OnOk r (IsTrue old.cache.store.is_faithful → payload_of old.cache 0 ≡ None → ⊥) → IfErr r (IsNotMarked old.cache c) → c.asked ≤ old.cache.asked + 2 → Starts words old new (answered (λ fault. of_cache fault) r)
-  starts r marked others first synced there caused most = record {
+      → OnOk r (IsTrue old.cache.store.is_faithful → (IsMarked old.cache → ⊥) → IsSynced c.store) → IfErr r (IsNotMarked old.cache c) → Starts words old new (answered (λ fault. of_cache fault) r)
+  starts r marked others first synced caused = record {
     content = same_content;
-    says = λ question.
-        let same : IsTrue c.store.is_faithful → (p : ℕ) → 0 < p → (pages_of_cache c).at p ≡ (pages_of_cache old.cache).at p = λ fa p above. ap (option_map node_of) (m.rest (was_faithful fa) p above) in
-        record {
-          told = λ legs h fa. tells_beside (pages_of_cache old.cache) (pages_of_cache c) (same fa) m.count old.tree old.places question legs (h (was_faithful fa));
-          denied = λ page h fa. denies_beside (pages_of_cache old.cache) (pages_of_cache c) (same fa) m.count old.tree old.places question page (h (was_faithful fa));
-        };
-    ways = ways_still old c known m.store.faithful m.count (λ fa p above. ap (option_map node_of) (m.rest fa p above)) (beside_found laws old c known beside);
-    counted = refl;
-    found_by = ap (λ n. record (found_by old) { pages = n }) m.count;
     sound = still_sound;
     spent = refl;
-    later = record { plan = refl; most_pages = m.store.most; capacity = m.capacity; others = others_kept old new (λ fa. m.store.faithful ∙ fa) (λ fa p above payload is none. m.rest fa p above ∙ is); fields = fields_kept old new (λ fa. m.store.faithful ∙ fa) (let n = m.count in omega (arith, n)) (λ fa there. m.fields fa); faults = m.store.faults; asked = (let a = m.asked in omega (arith, clamps, a)); faithful = λ fa. m.store.faithful ∙ fa };
-    asks = omega (arith, clamps, most);
+    later = record { plan = refl; faults = m.store.faults; asked = (let a = m.asked in omega (arith, clamps, a)); faithful = λ fa. m.store.faithful ∙ fa };
     marks = each_value (λ fault. of_cache fault) (λ _. IsTrue old.cache.store.is_faithful → IsMarked c) r marked;
     marked = m.stays;
     synced = each_value (λ fault. of_cache fault) (λ _. IsTrue old.cache.store.is_faithful → (IsMarked old.cache → ⊥) → IsSynced c.store) r synced;
-    named = λ page e. the_fault (answered (λ fault. of_cache fault) r) (λ fault. fault ≡ index.Damaged page → (page ≡ 0) × is_unreadable old 0) (index.Damaged page) e
-        (each_fault (λ fault. of_cache fault) (IsNotMarked old.cache c) (λ fault. fault ≡ index.Damaged page → (page ≡ 0) × is_unreadable old 0) (names_first old.cache c page) r caused) refl;
-    there = each_value (λ fault. of_cache fault) (λ _. IsTrue old.cache.store.is_faithful → is_unreadable old 0 → ⊥) r (on_ok r (λ h fa none. h fa (none fa)) there);
     works = λ e. absurd (the_fault (answered (λ fault. of_cache fault) r) NotSpent index.Spent e (each_fault (λ fault. of_cache fault) (IsNotMarked old.cache c) NotSpent (never_spent old.cache c) r caused));
     roomy = λ e. the_fault (answered (λ fault. of_cache fault) r) NotFull index.StoreFull e (each_fault (λ fault. of_cache fault) (IsNotMarked old.cache c) NotFull (never_full old.cache c) r caused);
     others = each_fault (λ fault. of_cache fault) (λ _. IsTrue old.cache.store.is_faithful → IsClean old.cache → drop 1 (written new) ≡ drop 1 (written old)) (λ _. IsTrue old.cache.store.is_faithful → IsClean old.cache → drop 1 (written new) ≡ drop 1 (written old)) (λ x h. h) r

@@ -1,44 +1,33 @@
 -- Legs put into an index in any order in which each feature's ordinals rise.
 use Rattle.std.proofs.Common.{ℕ, zero, suc, All, drop, take, get_or, ◌≡◌, ◌≢◌, ◌≤◌, ◌<◌, ◌+◌, ◌*◌, ◌-◌, ◌^◌, min, max, refl, sym, ap, ◌∙◌, arith, subst, ⊎_elim, true, false, List, [], ◌∷◌, ◌++◌, length, set, Some, slice_get, Result, Ok, Err, OnOk, OnErr, append_assoc}
-use Rattle.std.specs.Prelude.{Bool, IfErr, IsErrOf, IsTrue}
-use Rattle.std.specs.List.{Contains}
+use Rattle.std.specs.Prelude.{IfErr}
 use Rattle.std.proofs.lemmas.Bool.{cases_eq}
 use Rattle.std.proofs.lemmas.Int.{clamps}
 use Rattle.std.proofs.lemmas.List.{length-append, length-drop, length-set, append-nil, take_all}
-use Rattle.std.proofs.lemmas.List.Elements.{Contains-append_cases, filter-append}
 use Rattle.std.proofs.lemmas.Nat.{mul-le}
-use Rattle.legs.specs.Asking.{planted, Blames, FitsLeg, HasAdded, IsLater}
+use Rattle.legs.specs.Asking.{IsLater}
 use Rattle.legs.specs.Boxes.{BoxView}
-use Rattle.legs.specs.Costs.{leg_feature}
-use Rattle.legs.specs.Growing.{LacksRoom, Planted}
-use Rattle.legs.specs.Index.{MayRefuseLeg, feature_count, is_of, legs_of}
+use Rattle.legs.specs.Index.{MayRefuseLeg, feature_count, legs_of}
 use Rattle.legs.specs.Legs.{LegView}
 use Rattle.legs.specs.Places.{no_leg}
 use Rattle.legs.specs.declared.index.IndexFault.{IndexFault}
 use Rattle.legs.specs.declared.index.IndexFault.TheVariants as index
-use Rattle.legs.proofs.GrowingLemmas.{lacks_more, lacks_then}
-use Rattle.legs.proofs.LastLemmas.{takes_none, takes_then}
-use Rattle.tbtree.specs.Faults.{GivesWrite, IfFull, MayRefuseWrite, RefusesWrite}
+use Rattle.tbtree.specs.Faults.{GivesWrite, MayRefuseWrite, RefusesWrite}
 use Rattle.tbtree.specs.Insert.{IsPlace}
 use Rattle.tbtree.specs.Joining.{AllJoined, CanJoinInTurn, CanTakeInTurn, Holds}
-use Rattle.tbtree.specs.Needs.{BlamesNext}
 use Rattle.tbtree.specs.Nodes.{Pages, pages_of_cache}
-use Rattle.tbtree.specs.Planting.{HasLacked}
 use Rattle.tbtree.specs.Shape.{IsShape}
-use Rattle.tbtree.specs.Stands.{no_place, owner}
+use Rattle.tbtree.specs.Stands.{no_place}
 use Rattle.tbtree.specs.declared.fault.TreeFault.{TreeFault}
 use Rattle.tbtree.specs.declared.tree.Place.{Place}
 use Rattle.tbtree.specs.declared.tree.TbTree.{TbTree}
-use Rattle.tbtree.proofs.PlantedPages.{owner_of}
 use Rattle.boxsearch.specs.Answers.{answered, of_tree}
-use Rattle.boxsearch.specs.Index.{IndexView, is_unfit, words, IsMarked, with_place}
+use Rattle.boxsearch.specs.Index.{IndexView, words, IsMarked, with_place}
 use Rattle.boxsearch.specs.Putting.{PutsAll, spent_from}
 use Rattle.boxsearch.specs.Taking.{HoldsLegs, Taking, taken}
 use Rattle.boxsearch.specs.declared.turns.Turn.{Turn}
 use Rattle.boxsearch.proofs.AddLemmas.{made, marked_after, feature_count-push}
-use Rattle.boxsearch.proofs.AnswerLemmas.{each_fault, named_said, the_fault, SaidOfLeg, write_said, write_allowed}
-use Rattle.boxsearch.proofs.BlameLemmas.{blames_run, blames_unfaithful}
-use Rattle.boxsearch.proofs.EndLemmas.{lacks_put}
+use Rattle.boxsearch.proofs.AnswerLemmas.{each_fault, the_fault, SaidOfLeg, write_said, write_allowed}
 use Rattle.boxsearch.proofs.PlaceLemmas.{get-set_same, get-set_other, made_places, length-made, some_same}
 use Rattle.boxsearch.proofs.TrackLemmas.{no_legs}
 
@@ -145,23 +134,6 @@ module _ (laws : OrderLaws) (old new : IndexView) (feature : ℕ) (legs : List L
   allowed (Ok tt) p = tt
   allowed (Err x) p = λ before s w. gives laws old new feature legs before some one (Err x) p s w
 
-  -- a page that is named was not what the next of them needed of it
-  blamed : (r : Result (Unit {0}) TreeFault) → PutsAll (made old feature) new feature legs r → old.tree.spent ≡ false → (page : ℕ) → IsErrOf (answered (λ fault. of_tree fault) r) (index.Damaged page) → Blames words old new legs page
-  blamed r p works page e = by_store old.cache.store.is_faithful refl
-    where
-      by_store : (b : Bool) → old.cache.store.is_faithful ≡ b → Blames words old new legs page
-      by_store true is =
-          blames_run old new feature legs p.was p.is page some one p.found p.places works p.room
-          (named_said old.cache new.cache (IsTrue old.cache.store.is_faithful) (BlamesNext old.cache new.cache old.tree new.tree p.was p.is legs) r p.caused p.blames page e is)
-      by_store false is = blames_unfaithful old new feature legs page some one works p.room is
-
-  -- the feature of the legs is theirs
-  all_own : All (λ leg. leg.feature ≡ owner leg_feature legs) legs
-  all_own = subst (λ f. All (λ leg. leg.feature ≡ f) legs) (sym (owner_of feature legs some one)) one
-
-  lacked : (r : Result (Unit {0}) TreeFault) (n : Pages LegView BoxView) (tree : TbTree) (place : Place) (most : ℕ) → IfErr r (IfFull (HasLacked (owner leg_feature legs) n tree place most legs)) → IfErr r (IfFull (HasLacked feature n tree place most legs))
-  lacked r n tree place most h = subst (λ f. IfErr r (IfFull (HasLacked f n tree place most legs))) (owner_of feature legs some one) h
-
   pub joined : (r : Result (Unit {0}) TreeFault) → PutsAll (made old feature) new feature legs r → old.tree.spent ≡ false → Taking old new legs (answered (λ fault. of_tree fault) r)
   joined r p works =
       let say : TreeFault → IndexFault = λ fault. of_tree fault in
@@ -175,40 +147,13 @@ module _ (laws : OrderLaws) (old new : IndexView) (feature : ℕ) (legs : List L
             (λ fault. (before : List LegView) → HoldsLegs old before → CanTakeInTurn before legs → MayRefuseLeg fault) (λ x h before s w. write_allowed x (h before s w)) r (allowed r p);
         store = λ e. the_fault (answered say r) (SaidOfLeg old.cache new.cache) index.Store e said;
         full = λ e. the_fault (answered say r) (SaidOfLeg old.cache new.cache) index.StoreFull e said;
-        lacks = lacks_put old new feature legs p.was p.found r (λ fa. lacked r (pages_of_cache old.cache) old.tree p.was new.cache.count (p.lacks fa all_own));
         works_on = λ e. the_fault (answered say r) (SaidOfLeg old.cache new.cache) index.Spent e said;
-        blames = blamed r p works;
         marked = marked_after old.cache new.cache p.passes;
       }
 
 take_front : (b xs ys : List LegView) → CanTakeInTurn b (xs ++ ys) → CanTakeInTurn b xs
 take_front b [] ys w = tt
 take_front b (x ∷ xs) ys w = (w.0, take_front (b ++ x ∷ []) xs ys w.1)
-
-take_back : (b xs ys : List LegView) → CanTakeInTurn b (xs ++ ys) → CanTakeInTurn (b ++ xs) ys
-take_back b [] ys w = subst (λ l. CanTakeInTurn l ys) (sym (append-nil b)) w
-take_back b (x ∷ xs) ys w = subst (λ l. CanTakeInTurn l ys) (append_assoc b (x ∷ []) xs) (take_back (b ++ x ∷ []) xs ys w.1)
-
-nil_left : (xs ys : List LegView) → xs ++ ys ≡ [] → xs ≡ []
-nil_left [] ys e = refl
-nil_left (x ∷ xs) ys e = absurd cc
-
-nil_right : (xs ys : List LegView) → xs ++ ys ≡ [] → ys ≡ []
-nil_right [] ys e = e
-nil_right (x ∷ xs) ys e = absurd cc
-
-some_run : (xs run : List LegView) → 0 < length run → xs ++ run ≡ [] → ⊥
-some_run xs run some e = let none : length run ≡ 0 = ap length (nil_right xs run e) in omega (arith, some, none)
-
--- the legs before a run, those of the run in whatever order of their features, and those behind it
-after_run : (f : ℕ) (done run left first next others all : List LegView) → done ++ (run ++ left) ≡ all → legs_of f (first ++ next ++ others) ≡ legs_of f run → legs_of f (done ++ first ++ next ++ (others ++ left)) ≡ legs_of f all
-after_run f done run left first next others all are same =
-    let whole : done ++ first ++ next ++ (others ++ left) ≡ done ++ (first ++ next ++ others ++ left) =
-    ap (λ l. l ++ (others ++ left)) (append_assoc done first next) ∙ append_assoc done (first ++ next) (others ++ left) ∙ ap (λ l. done ++ l) (sym (append_assoc (first ++ next) others left)) in
-    let behind : legs_of f (first ++ next ++ others ++ left) ≡ legs_of f (run ++ left) =
-    filter-append (is_of f) (first ++ next ++ others) left ∙ ap (λ l. l ++ legs_of f left) same ∙ sym (filter-append (is_of f) run left) in
-    ap (legs_of f) whole ∙ filter-append (is_of f) done (first ++ next ++ others ++ left) ∙ ap (λ l. legs_of f done ++ l) behind
-    ∙ sym (filter-append (is_of f) done (run ++ left)) ∙ ap (legs_of f) are
 
 -- as far as a loop over legs has come, from an index to what it is now
 pub record IsTaking (old now : IndexView) (all left : List LegView) : Type 0 where
@@ -218,11 +163,6 @@ pub record IsTaking (old now : IndexView) (all left : List LegView) : Type 0 whe
   pub shape : now.tree.shape ≡ old.tree.shape
   pub marked : IsMarked old.cache → IsMarked now.cache
   pub faults : old.cache.store.faults ≤ now.cache.store.faults
-  pub done : List LegView
-  pub added : HasAdded words old now done
-  pub are : done ++ left ≡ all
-  pub start : done ≡ [] → now ≡ old
-  pub fits : IsTrue old.cache.store.is_faithful → (leg : LegView) → Contains done leg → FitsLeg words old all leg
 
 pub taking_start : (old : IndexView) (all : List LegView) → old.tree.spent ≡ false → IsTaking old old all all
 taking_start old all works = record {
@@ -231,33 +171,14 @@ taking_start old all works = record {
   shape = refl;
   marked = λ m. m;
   faults = omega arith;
-  done = [];
-  added = takes_none words old works;
-  are = refl;
-  start = λ _. refl;
-  fits = λ fa leg h. absurd (let l = h.1 in omega (arith, l));
 }
 
--- each page was what a leg of the run needed, behind those before it
-fits_behind : (old now : IndexView) (all left run : List LegView) (leg : LegView) → IsTaking old now all (run ++ left) → FitsLeg words now run leg → FitsLeg words old all leg
-fits_behind old now all left run leg so_far n = record {
-  first = so_far.done ++ n.first;
-  next = n.next;
-  others = n.others ++ left;
-  order = λ f. after_run f so_far.done run left n.first n.next n.others all so_far.are (n.order f);
-  feature = n.feature;
-  one = n.one;
-  own = n.own;
-  mid = n.mid;
-  none = λ e page u. n.none (nil_right so_far.done n.first e) page (subst (λ i. is_unfit i n.next page) (sym (so_far.start (nil_left so_far.done n.first e))) u);
-  added = takes_then words old now n.mid so_far.done n.first so_far.added n.added;
-  fits = λ shape is. n.fits shape (ap Some so_far.shape ∙ is);
-  fit = n.fit;
-}
+take_back : (b xs ys : List LegView) → CanTakeInTurn b (xs ++ ys) → CanTakeInTurn (b ++ xs) ys
+take_back b [] ys w = subst (λ l. CanTakeInTurn l ys) (sym (append-nil b)) w
+take_back b (x ∷ xs) ys w = subst (λ l. CanTakeInTurn l ys) (append_assoc b (x ∷ []) xs) (take_back (b ++ x ∷ []) xs ys w.1)
 
-pub taking_more : (old now new : IndexView) (all left run : List LegView) → IsTaking old now all (run ++ left) → Taking now new run (Ok tt) → IsLater words now new → 0 < length run → HasAdded words now new run
-    → (IsTrue now.cache.store.is_faithful → (leg : LegView) → Contains run leg → FitsLeg words now run leg) → IsTaking old new all left
-taking_more old now new all left run so_far more later some added fits = record {
+pub taking_more : (old now new : IndexView) (all left run : List LegView) → IsTaking old now all (run ++ left) → Taking now new run (Ok tt) → IsLater words now new → IsTaking old new all left
+taking_more old now new all left run so_far more later = record {
   going = λ before s w.
       let at = so_far.going before s w in
       let done = at.0 in
@@ -271,19 +192,7 @@ taking_more old now new all left run so_far more later some added fits = record 
   shape = more.shape ∙ so_far.shape;
   marked = λ m. more.marked (so_far.marked m);
   faults = let a = so_far.faults in let b = later.faults in omega (arith, a, b);
-  done = so_far.done ++ run;
-  added = takes_then words old now new so_far.done run so_far.added added;
-  are = append_assoc so_far.done run left ∙ so_far.are;
-  start = λ e. absurd (some_run so_far.done run some e);
-  fits = λ fa leg h. ⊎_elim
-      (λ (before : Contains so_far.done leg). so_far.fits fa leg before)
-      (λ (now_there : Contains run leg). fits_behind old now all left run leg so_far (fits (so_far.added.room fa).0 leg now_there))
-      (Contains-append_cases so_far.done run leg h);
 }
-
--- all of them are done
-pub taking_fits : (old now : IndexView) (all left : List LegView) → left ≡ [] → IsTaking old now all left → IsTrue old.cache.store.is_faithful → (leg : LegView) → Contains all leg → FitsLeg words old all leg
-taking_fits old now all left none so_far fa leg h = so_far.fits fa leg (subst (λ l. Contains l leg) (sym so_far.are ∙ ap (λ l. so_far.done ++ l) none ∙ append-nil so_far.done) h)
 
 pub taking_refused : (old now new : IndexView) (all left run : List LegView) (fault : IndexFault) → IsTaking old now all (run ++ left) → Taking now new run (Err fault) → Taking old new all (Err fault)
 taking_refused old now new all left run fault so_far more = record {
@@ -294,31 +203,7 @@ taking_refused old now new all left run fault so_far more = record {
   refused = λ before s w. (let at = so_far.going before s w in more.refused (before ++ at.0) at.1 (take_front (before ++ at.0) run left at.2));
   store = λ e. (let a = so_far.faults in let b = more.store e in omega (arith, clamps, a, b));
   full = more.full;
-  lacks = λ e fa shape is.
-      let from : Planted = planted words old in
-      let mid : Planted = planted words now in
-      let pages = new.cache.count in
-      subst (λ l. LacksRoom shape from pages l) (append_assoc so_far.done run left ∙ so_far.are)
-      (lacks_more shape from pages (so_far.done ++ run) left
-      (lacks_then shape from mid pages so_far.done run (so_far.added.grown fa shape is) (more.lacks e (so_far.added.room fa).0 shape (ap Some so_far.shape ∙ is))));
   works_on = more.works_on;
-  blames = λ page e.
-      let n = more.blames page e in
-      record {
-        first = so_far.done ++ n.first;
-        next = n.next;
-        others = n.others ++ left;
-        order = λ f. after_run f so_far.done run left n.first n.next n.others all so_far.are (n.order f);
-        feature = n.feature;
-        one = n.one;
-        some = n.some;
-        mid = n.mid;
-        none = λ e. subst (λ i. is_unfit i n.next page) (so_far.start (nil_left so_far.done n.first e)) (n.none (nil_right so_far.done n.first e));
-        added = takes_then words old now n.mid so_far.done n.first so_far.added n.added;
-        stays = λ fa. n.stays (so_far.added.room fa).0;
-        fits = λ shape is. n.fits shape (ap Some so_far.shape ∙ is);
-        unfit = n.unfit;
-      };
   marked = λ m. more.marked (so_far.marked m);
 }
 
@@ -334,9 +219,7 @@ taking_none old mid new legs is same =
       refused = λ before s w. tt;
       store = λ e. absurd cc;
       full = λ e. absurd cc;
-      lacks = λ e. absurd cc;
       works_on = λ e. absurd cc;
-      blames = λ page e. absurd cc;
       marked = λ m. subst (λ c. IsMarked c) (sym cache) m;
     }
 
@@ -373,3 +256,8 @@ taken_next legs turns k d leg l within is =
     let next : k + 1 ≡ suc k = omega arith in
     let here : get_or legs p no_leg ≡ leg = get_any legs p no_leg leg (within k d l) ∙ sym is in
     ap (taken legs) (drop_next turns k d l) ∙ ap (λ x. x ∷ taken legs (drop (suc k) turns)) here ∙ ap (λ n. leg ∷ taken legs (drop n turns)) (sym next)
+
+-- one leg more is taken
+pub taken_more : (legs : List LegView) (turns : List Turn) (k : ℕ) (d : Turn) (leg : LegView) (run : List LegView) → k < length turns → All (λ (turn : Turn). turn.place < length legs) turns → leg ≡ get_or legs (get_or turns k d).place leg
+    → taken legs turns ≡ run ++ taken legs (drop k turns) → taken legs turns ≡ (run ++ leg ∷ []) ++ taken legs (drop (k + 1) turns)
+taken_more legs turns k d leg run l within is so_far = so_far ∙ ap (λ rest. run ++ rest) (taken_next legs turns k d leg l within is) ∙ sym (append_assoc run (leg ∷ []) (taken legs (drop (k + 1) turns)))

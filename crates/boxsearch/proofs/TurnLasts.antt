@@ -5,8 +5,7 @@ use Rattle.std.specs.List.{filter}
 use Rattle.std.specs.List.Sorted.{IsPermutation, IsNonDecreasingBy}
 use Rattle.std.proofs.lemmas.Bool.{cases_eq, cases_lt}
 use Rattle.std.proofs.lemmas.Bool.Decides.{nat_tests}
-use Rattle.std.proofs.lemmas.List.{append-nil, length-map, length_push, length-set}
-use Rattle.std.proofs.lemmas.List.Sorted.{length_permutation}
+use Rattle.std.proofs.lemmas.List.{append-nil, length_push, length-set}
 use Rattle.legs.specs.Costs.{leg_feature}
 use Rattle.legs.specs.Index.{is_of, legs_of}
 use Rattle.legs.specs.Legs.{LegView}
@@ -19,7 +18,7 @@ use Rattle.boxsearch.specs.Turns.{leaf_for, open_after, open_at, open_with, open
 use Rattle.boxsearch.specs.declared.turns.Open.{Open}
 use Rattle.boxsearch.specs.declared.turns.Turn.{Turn}
 use Rattle.boxsearch.proofs.TurnNumbers.{get_front, get_last, get_place, map_pairs, opened_at, set_other, set_same, some_place}
-use Rattle.boxsearch.proofs.TurnOrder.{InOrder, length_from, taken_elements, turns_put}
+use Rattle.boxsearch.proofs.TurnOrder.{InOrder, taken_elements, turns_put}
 use Rattle.boxsearch.proofs.TurnSteps.{opened_length}
 
 get_beyond : {X : Type 0} (xs : List X) (i : ℕ) (d : X) → length xs ≤ i → get_or xs i d ≡ d
@@ -161,7 +160,3 @@ same_legs in_order places most legs turns few moved rises f =
     let are : taken legs turns ≡ elements (put_all [] N) =
     taken_elements legs turns ∙ ap elements (turns_put in_order places most legs turns few moved rises ∙ ap (put_all []) (map_pairs (λ place. get_or legs place no_leg) ts ∙ numbers_from most base legs [] legs ends 0 refl refl)) in
     ap (filter (is_of f)) are ∙ all_filter f [] N tt (key_up most base ends 0 legs low) tt ∙ ap (filter (is_of f)) (elements_from most base ends 0 legs)
-
--- and as many as there are
-pub as_many_taken : (most : ℕ) (legs : List LegView) (turns : List Turn) (base : ℕ) (ends : List Open) → IsPermutation (turns_from most ends base 0 legs) turns → length (taken legs turns) ≡ length legs
-as_many_taken most legs turns base ends moved = length-map turns (λ (t : Turn). get_or legs t.place no_leg) ∙ length_permutation (turns_from most ends base 0 legs) turns moved ∙ length_from most base 0 ends legs

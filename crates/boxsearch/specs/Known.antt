@@ -1,11 +1,10 @@
 -- What an index knows of the leaves of its features.
-use Rattle.std.specs.Prelude.{ℕ, ℤ, ◌≤ℤ◌, ◌≡◌, ◌⊎◌, List, [], Some, slice_get, IsTrue}
-use Rattle.timebase.specs.Period.{PeriodView}
+use Rattle.std.specs.Prelude.{ℕ, ◌≡◌, ◌⊎◌, List, [], Some, slice_get, IsTrue}
 use Rattle.legs.specs.Costs.{ShapeView}
 use Rattle.pagecache.specs.Cache.{Cache}
 use Rattle.tbtree.specs.Nodes.{pages_of_cache}
 use Rattle.tbtree.specs.declared.tree.Place.{Place}
-use Rattle.chains.specs.Spans.{IsKnown, IsKnownBackTo}
+use Rattle.chains.specs.Spans.{IsKnown}
 use Rattle.chains.specs.declared.spans.LeafSpan.{LeafSpan}
 
 -- over a faithful store the spans that are known of a feature are those of the last leaves of its place
@@ -26,11 +25,3 @@ abbrev pub Holds : List (List LeafSpan) → List (List LeafSpan) → Type 0
 Holds old new =
     (feature : ℕ) (spans : List LeafSpan) → slice_get old feature ≡ Some spans
     → slice_get new feature ≡ Some spans
-
--- what is known of a feature reaches back to that moment, and so to each period that starts no earlier
-abbrev pub KnowsBackTo : Cache → ShapeView → List Place → List (List LeafSpan) → ℕ → ℤ → Type 0
-KnowsBackTo cache shape places known feature start =
-    IsTrue cache.store.is_faithful → (place : Place) → slice_get places feature ≡ Some place
-    → (spans : List LeafSpan) × (slice_get known feature ≡ Some spans)
-    × ((period : PeriodView) → start ≤ℤ period.start
-    → IsKnownBackTo (pages_of_cache cache) (Some period) shape place spans)

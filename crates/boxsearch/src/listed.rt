@@ -13,8 +13,7 @@ use timebase::Period;
 impl<S: PageStore> Listed for TreeIndex<S> {
     ghost use Rattle.std.specs.Prelude.{IsTrue, Some, length, min, ◌≡◌, ◌-◌, ◌^◌};
     ghost use Rattle.pagecache.specs.Cache.{IsClean};
-    ghost use Rattle.boxsearch.specs.Known.{KnowsBackTo};
-    ghost use Rattle.boxsearch.specs.Index.{node, other, comes_to, content, denies, ends_with, fields, finds, found_by, is_astray, is_bare, is_unreadable, is_unfit, leads_to, tells, written, IsSound, IsMarked};
+    ghost use Rattle.boxsearch.specs.Index.{content, denies, found_by, tells, written, IsSound, IsMarked};
     ghost use Rattle.pages.specs.Store.{IsSynced};
 
     ghost content = { λ index. content index };
@@ -22,24 +21,6 @@ impl<S: PageStore> Listed for TreeIndex<S> {
     ghost tells = { λ index question legs. tells index question legs };
 
     ghost denies = { λ index question page. denies index question page };
-
-    ghost finds = { λ index meets leg. finds index meets leg };
-
-    ghost comes_to = { λ index meets above page. comes_to index meets above page };
-
-    ghost is_bare = { λ index page. is_bare index page };
-
-    ghost is_astray = { λ index above page. is_astray index above page };
-
-    ghost leads_to = { λ index leg. leads_to index leg };
-
-    ghost is_unfit = { λ index legs page. is_unfit index legs page };
-
-    ghost node = { λ index page. node index page };
-
-    ghost is_unreadable = { λ index page. is_unreadable index page };
-
-    ghost ends_with = { λ index leg. ends_with index leg };
 
     ghost counted = { λ index. index.legs };
 
@@ -53,22 +34,11 @@ impl<S: PageStore> Listed for TreeIndex<S> {
 
     ghost is_store_full = { λ index. index.cache.count ≡ index.cache.store.most };
 
-    ghost most_pages = { λ index. index.cache.store.most };
-
-    ghost capacity = { λ index. index.cache.capacity };
-
-    ghost other = { λ index page. other index page };
-
-    ghost fields = { λ index. fields index };
-
     ghost asked = { λ index. min index.cache.asked (2 ^ 64 - 1) };
 
     ghost plan = { λ index. Some index.tree.shape };
 
     ghost found_by = { λ index. found_by index };
-
-    ghost knows = { λ index feature start. KnowsBackTo index.cache index.tree.shape index.places
-        index.known feature start };
 
     ghost is_faithful = { λ index. IsTrue index.cache.store.is_faithful };
 
@@ -85,8 +55,6 @@ impl<S: PageStore> LegIndex for TreeIndex<S> {
     ghost sound_lasts = { λ index sound. sound.works };
 
     ghost faithful = { λ index sound over. sound.faithful };
-
-    ghost held = { λ index leg sound. ((λ found. found sound.faithful), (λ there faithful. there)) };
 
     ghost lawful = { λ index sound. sound.lawful };
 

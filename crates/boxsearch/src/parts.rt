@@ -1,17 +1,13 @@
 //! The parts of an index, for what is kept beside its tree.
 ghost use Rattle.std.specs.Prelude.{ℕ, ◌≡◌, ◌≢◌, ◌<◌, ◌≤◌, ◌^◌, ◌↔◌, [], true, filter, Bool, List, length, count_by, slice_get, IsTrue, None, Some, All};
 ghost use Rattle.std.specs.List.{sum_by, Contains};
-ghost use Rattle.legs.specs.Boxes.{BoxView, box_of};
-ghost use Rattle.legs.specs.Hull.{IsPruning, leg_boxes};
-ghost use Rattle.legs.specs.Legs.{LegView};
-ghost use Rattle.legs.specs.Index.{is_of, last_leg_of, CanFollowInTurn};
+ghost use Rattle.legs.specs.Index.{is_of, CanFollowInTurn};
 ghost use Rattle.pagecache.specs.Cache.{payload_of, Cache, IsClean, IsSettled};
 ghost use Rattle.tbtree.specs.declared.tree.Place.{Place};
 ghost use Rattle.chains.specs.declared.spans.LeafSpan.{LeafSpan};
 ghost use Rattle.boxsearch.specs.Beside.{with_cache, IsBeside};
 ghost use Rattle.boxsearch.specs.Bounds.{IsBounded};
-ghost use Rattle.boxsearch.specs.Index.{content, ends_with, finds, leads_to, tells, IndexView, IsMarked, IsSound};
-ghost use Rattle.legs.specs.Questions.{InBox};
+ghost use Rattle.boxsearch.specs.Index.{content, IndexView, IsMarked, IsSound};
 ghost use Rattle.header.specs.Front.{SaysState};
 
 use crate::tree_index::TreeIndex;
@@ -122,19 +118,6 @@ pub fn laws()
 
     // The legs of a sound one follow one another from the first.
     ensures in_turn { (index : IndexView) → IsSound index → CanFollowInTurn [] (content index) }
-
-    // By a test of boxes that a greater box does not fail a sound one finds those of its legs whose boxes meet.
-    ensures found { (index : IndexView) → IsSound index → (meets : BoxView → Bool)
-        → IsPruning leg_boxes meets → (leg : LegView) → finds index meets leg
-        ↔ Contains (filter (λ leg. meets (box_of leg)) (content index)) leg }
-
-    // Where it answers a box, the way down its pages leads to each leg of the answer, be it sound or not.
-    ensures led { (index : IndexView) → IsTrue index.cache.store.is_faithful → (query : BoxView)
-        (legs : List LegView) → tells index (InBox query) legs → All (leads_to index) legs }
-
-    // Each feature of a sound one ends with its last leg.
-    ensures ended { (index : IndexView) → IsSound index → (leg : LegView)
-        → ends_with index leg ↔ (last_leg_of leg.feature (content index) ≡ Some leg) }
 
     // Page 0 is marked where it says that the store is not finished, and no page is changed.
     ensures marked { (index : IndexView) → IsSound index → IsSettled index.cache

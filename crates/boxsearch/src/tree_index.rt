@@ -63,10 +63,10 @@ impl<S: PageStore> Model for TreeIndex<S> {
 impl<S: PageStore> TreeIndex<S> {
     ghost use Rattle.std.specs.Prelude.{ℕ, ◌≡◌, ◌<◌, ◌↔◌, [], false, length, slice_get, IfErr, IsTrue, OnErr, OnOk};
     ghost use Rattle.pages.specs.Store.{IsSynced};
-    ghost use Rattle.pagecache.specs.Cache.{payload_of, IsSettled, IsWritten};
+    ghost use Rattle.pagecache.specs.Cache.{IsSettled, IsWritten};
     ghost use Rattle.tbtree.specs.Nodes.{pages_of_cache};
     ghost use Rattle.chains.specs.Chains.{AreHeld};
-    ghost use Rattle.boxsearch.specs.Index.{content, new_index, words, IsMarked, IsSound, MarksFirst, SyncsMark, with_place};
+    ghost use Rattle.boxsearch.specs.Index.{content, new_index, words, IsMarked, IsSound, with_place};
     ghost use Rattle.legs.specs.Asking.{Leaves, Starts, Refusals};
     ghost use Rattle.legs.specs.Index.{MayRefuse};
     ghost use Rattle.chains.specs.Reads.{OnlyReads};
@@ -100,13 +100,9 @@ impl<S: PageStore> TreeIndex<S> {
         ensures starts { Starts words self.old self.new result }
         ensures refusals { Refusals words self.old self.new result }
 
-        // Page 0 is what it was but for its kind and its first 12 bytes, and no other page has another payload.
-        ensures header { OnOk result (MarksFirst self.old.cache self.new.cache) }
-        ensures synced { OnOk result (SyncsMark self.old.cache self.new.cache) }
+        // Page 0 as written says that the store is not finished.
         ensures marked { OnOk result (IsTrue self.old.cache.store.is_faithful
             → IsMarked self.new.cache) }
-        ensures others { IsTrue self.old.cache.store.is_faithful → (n : ℕ) → 0 < n
-            → payload_of self.new.cache n ≡ payload_of self.old.cache n }
     {
         if self.tree.spent {
             return Err(IndexFault::Spent);

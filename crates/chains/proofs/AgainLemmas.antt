@@ -1,6 +1,6 @@
 -- A known leaf, read without the test of its form.
-use Rattle.std.proofs.Common.{ℕ, zero, suc, ◌≡◌, ◌<◌, Bool, List, [], ◌∷◌, ◌++◌, drop, length, refl, sym, ap, ◌∙◌, arith, Some, None, slice_get, ℤ, is_lt, int_cmp, cond, true, false, Less, Greater, Equal}
-use Rattle.std.specs.Prelude.{int_lt, filter, reverse}
+use Rattle.std.proofs.Common.{ℕ, zero, suc, ◌≡◌, ◌<◌, List, [], ◌∷◌, ◌++◌, length, refl, sym, ap, ◌∙◌, arith, Some, None, slice_get, ℤ, is_lt, int_cmp, cond, true, false, Less, Greater, Equal}
+use Rattle.std.specs.Prelude.{int_lt}
 use Rattle.timebase.specs.Period.{PeriodView}
 use Rattle.legs.specs.Legs.{LegView}
 use Rattle.chains.specs.Links.{is_end}

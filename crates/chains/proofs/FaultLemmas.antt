@@ -1,6 +1,6 @@
 -- A chain is whole exactly where it breaks at no page.
-use Rattle.std.proofs.Common.{ℕ, zero, suc, ◌≡◌, ◌<◌, ◌==◌, Bool, true, false, cond, length, refl, sym, ap, ◌∙◌, arith, ⊎_elim, Option, Some, None, IsTrue}
-use Rattle.std.specs.Prelude.{not, ◌&&◌, ◌≢◌, option_map}
+use Rattle.std.proofs.Common.{ℕ, zero, suc, ◌≡◌, ◌<◌, ◌==◌, Bool, true, false, cond, length, refl, sym, ap, ◌∙◌, arith, ⊎_elim, Option, Some, None}
+use Rattle.std.specs.Prelude.{not, ◌&&◌, ◌≢◌}
 use Rattle.std.specs.Int.{div_ceil}
 use Rattle.std.proofs.lemmas.Bool.{and_parts, and_from, and_cases, not-true, not-false, not_from_true, not_from_false, eqb-true, eqb-false, eq-eqb, ne_eqb}
 use Rattle.timebase.specs.Period.{PeriodView}
@@ -10,14 +10,13 @@ use Rattle.legs.specs.Costs.{ShapeView}
 use Rattle.pagecache.specs.Cache.{Cache}
 use Rattle.pagecache.specs.declared.fault.CacheFault.{CacheFault}
 use Rattle.pagecache.specs.declared.fault.CacheFault.TheVariants as cache
-use Rattle.tbnode.specs.Form.{node_of}
 use Rattle.tbnode.specs.declared.views.LeafHead.{LeafHead}
-use Rattle.tbtree.specs.Faults.{IsNamed, MayRefuseHeld, MayRefuseRead, MayRefuseReadInCache, NamesInCache, RefusesRead, RefusesReadInCache}
-use Rattle.tbtree.specs.Nodes.{Pages, pages_of_cache, Node, ALeaf, AnInner, LeafView}
+use Rattle.tbtree.specs.Faults.{IsNamed, MayRefuseRead, MayRefuseReadInCache, NamesInCache, RefusesRead, RefusesReadInCache}
+use Rattle.tbtree.specs.Nodes.{Pages, Node, ALeaf, AnInner, LeafView}
 use Rattle.tbtree.specs.declared.fault.TreeFault.{TreeFault}
 use Rattle.tbtree.specs.declared.fault.TreeFault.TheVariants.{Cache as OfCache, Malformed, Spent}
 use Rattle.tbtree.specs.declared.tree.Place.{Place}
-use Rattle.chains.specs.Chains.{AreHeld, IsChain, IsPlaceChain, NamesNone, is_stray, chain_fault, fault_from, legs_in, link_past, last_link}
+use Rattle.chains.specs.Chains.{IsChain, IsPlaceChain, NamesNone, is_stray, chain_fault, fault_from, legs_in, link_past, last_link}
 use Rattle.chains.specs.Links.{Fits, IsPlaced, fits, head_fits, is_linked, is_placed, is_end, link_back, spot_of}
 use Rattle.chains.specs.declared.leaves.Link.{Link}
 use Rattle.chains.specs.declared.leaves.Spot.{Spot}

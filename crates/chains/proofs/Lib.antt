@@ -12,7 +12,3 @@ pub mod PeriodLemmas
 mod AgainLemmas
 pub mod LiveLemmas
 pub mod SieveLemmas
-pub mod ReachLemmas
-pub mod RoomLemmas
-pub mod ChainGrowth
-pub mod OwnGrowth

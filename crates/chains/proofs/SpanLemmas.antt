@@ -1,13 +1,12 @@
 -- What is known of the leaves of a chain, along a walk back.
-use Rattle.std.proofs.Common.{ℕ, zero, suc, ◌+◌, ◌-◌, ◌^◌, ◌≡◌, ◌≤◌, ◌<◌, ◌&&◌, Bool, true, false, cond, List, [], ◌∷◌, ◌++◌, take, drop, length, refl, sym, ap, ◌∙◌, arith, subst, append_assoc, get_or, ⊎_elim, inl, inr, Option, Some, None, slice_get, ℤ, pos, ◌≤ℤ◌, ◌<ℤ◌, All, IsTrue}
+use Rattle.std.proofs.Common.{ℕ, zero, suc, ◌+◌, ◌-◌, ◌^◌, ◌≡◌, ◌≤◌, ◌<◌, ◌&&◌, true, false, cond, List, [], ◌∷◌, ◌++◌, take, drop, length, refl, sym, ap, ◌∙◌, arith, subst, append_assoc, get_or, ⊎_elim, inl, inr, Option, Some, None, slice_get, ℤ, pos, ◌≤ℤ◌, ◌<ℤ◌, All, IsTrue}
 use Rattle.std.specs.Prelude.{◌⊎◌, Any, int_le, int_lt, if◌then◌else◌}
 use Rattle.std.specs.Int.{div_ceil, int_max, int_min}
-use Rattle.std.specs.List.{count_by, filter}
+use Rattle.std.specs.List.{filter}
 use Rattle.std.proofs.lemmas.Bool.{cases_eq, true≢false}
 use Rattle.std.proofs.lemmas.Int.{ints, clamps}
 use Rattle.std.proofs.lemmas.List.{drop_all, length_push, take_all}
 use Rattle.std.proofs.lemmas.List.Elements.{All-head, All-more, All-same, All-tail, All-weaker}
-use Rattle.std.proofs.lemmas.List.Sums.{sum_by-cons}
 use Rattle.std.proofs.lemmas.Option.{get_or_from_slice_get, slice_get-get_or, slice_get_within}
 use Rattle.timebase.specs.Period.{PeriodView}
 use Rattle.legs.specs.Boxes.{BoxView}
@@ -19,7 +18,7 @@ use Rattle.tbtree.specs.declared.tree.Place.{Place}
 use Rattle.chains.specs.Chains.{IsLinked, last_link, legs_in, previous_of, walked}
 use Rattle.chains.specs.Links.{begins_before, is_end, is_kept, link_back, spot_of}
 use Rattle.chains.specs.Reads.{OnlyReads}
-use Rattle.chains.specs.Spans.{AreSpans, AsksAs, IsKnown, IsSpanOf, IsWithin, Learns, ReachBack, link_over, may_meet, next_span, over, pass_at, read_cost, walked_by}
+use Rattle.chains.specs.Spans.{AreSpans, AsksAs, IsKnown, IsSpanOf, IsWithin, Learns, link_over, over, pass_at, read_cost, walked_by}
 use Rattle.chains.specs.declared.leaves.Link.{Link}
 use Rattle.chains.specs.declared.spans.LeafSpan.{LeafSpan}
 use Rattle.chains.specs.declared.spans.Passing.{Passing}
@@ -36,9 +35,6 @@ not_le x y e = grind (arith, ints)
 
 lt_from : (x y : ℤ) → int_lt x y ≡ true → x <ℤ y
 lt_from x y e = grind (arith, ints)
-
-not_lt : (x y : ℤ) → int_lt x y ≡ false → y ≤ℤ x
-not_lt x y e = grind (arith, ints)
 
 lt_to : (x y : ℤ) → x <ℤ y → int_lt x y ≡ true
 lt_to x y h = grind (arith, ints)
@@ -452,16 +448,6 @@ module _ (nodes : Pages LegView BoxView) (period : Option PeriodView) (passed : 
       → new.asked + walked_by nodes period (drop (suc passed) spans) rest leaf.previous ≤ old.asked + walked_by nodes period (drop passed spans) n p
   few_on back h z = few_on_by (pass_at (slice_get spans passed) (slice_get spans (suc passed)) rest period) back refl h z
 
-  few_last_by : (act : Passing) → act ≡ pass_at (slice_get spans passed) (slice_get spans (suc passed)) rest period → AsksAs act None old new → is_end period leaf.legs ≡ true
-      → new.asked ≤ old.asked + walked_by nodes period (drop passed spans) n p
-  few_last_by Into a h z = let c = cost_last nodes period passed spans rest n p e leaf a is z in omega (arith, clamps, h, c)
-  few_last_by (Over link) a h z = absurd (some_none link (sym h.1))
-  few_last_by End a h z = let c = cost_end nodes period passed spans rest n p e a in omega (arith, h.0, c)
-
-  pub few_last : AsksAs (pass_at (slice_get spans passed) (slice_get spans (suc passed)) rest period) None old new → is_end period leaf.legs ≡ true
-      → new.asked ≤ old.asked + walked_by nodes period (drop passed spans) n p
-  few_last h z = few_last_by (pass_at (slice_get spans passed) (slice_get spans (suc passed)) rest period) refl h z
-
 -- where there is no period each leaf is read
 pub cost_whole : (nodes : Pages LegView BoxView) (spans : List LeafSpan) (n p : ℕ) → walked_by nodes None spans n p ≡ walked nodes None n p
 cost_whole nodes [] n p = refl
@@ -480,84 +466,3 @@ pub known_lasts : (old new : Cache) (shape : ShapeView) (f : ℕ) (place : Place
     → IsKnown (pages_of_cache old) shape f place spans → IsKnown (pages_of_cache new) shape f place spans
 known_lasts old new shape f place spans r fa h =
     spans_last (pages_of_cache old) (pages_of_cache new) (same_at old new r fa) shape.leaf place.legs place.first spans (div_ceil place.legs shape.leaf) (last_link f place) h
-
-le_to : (x y : ℤ) → x ≤ℤ y → int_le x y ≡ true
-le_to x y h = grind (arith, ints)
-
-into_most : (ends : Bool) (before : ℕ) → read_cost Into ends before ≤ 1 + before
-into_most true before = omega arith
-into_most false before = omega arith
-
--- what is read where all is known back to the period
-module _ (nodes : Pages LegView BoxView) (period : PeriodView) where
-  abbrev cost : List LeafSpan → ℕ → ℕ → ℕ
-  cost spans n p = walked_by nodes (Some period) spans n p
-
-  ended : (span : LeafSpan) (spans : List LeafSpan) (n p : ℕ) → span.end <ℤ period.start → cost (span ∷ spans) n p ≡ 0
-  ended span spans zero p off = refl
-  ended span spans (suc n) p off =
-      ap (λ (b : Bool). read_cost (if b then End else if int_le span.start period.end then Into else over span (next_span spans) n) (is_end (Some period) (legs_in (nodes.at p))) (cost spans n (previous_of (nodes.at p))))
-      (lt_to span.end period.start off)
-
-  -- a leaf after the period is passed, since the one before it is known or is not there
-  over_cost : (span : LeafSpan) (spans : List LeafSpan) (n p : ℕ) → ReachBack nodes (Some period) spans n p → (ends : Bool) (before : ℕ) → read_cost (over span (next_span spans) n) ends before ≡ before
-  over_cost span [] zero p back ends before = refl
-  over_cost span [] (suc n) p back ends before = absurd (omega (arith, back))
-  over_cost span (next ∷ spans) n p back ends before = refl
-
-  one_more_of : (span : LeafSpan) (spans : List LeafSpan) → count_by (may_meet period) (span ∷ spans) ≡ cond (may_meet period span) 1 0 + count_by (may_meet period) spans
-  one_more_of span spans = sum_by-cons (λ x. cond (may_meet period x) 1 0) span spans
-
-  -- a known leaf at which a walk ends does not start after the period
-  not_after : (span : LeafSpan) (page : ℕ) (leaf : LeafView LegView) → period.start ≤ℤ period.end → IsSpanOf span page leaf → is_end (Some period) leaf.legs ≡ true → int_le span.start period.end ≡ false → ⊥
-  not_after span page leaf order s ends off =
-      true≢false (sym ends ∙ begins_not period span (not_le span.start period.end off) order leaf.legs s.each)
-
-  pub known_few : (most legs first : ℕ) (spans : List LeafSpan) (n : ℕ) (link : Link) → period.start ≤ℤ period.end → AreSpans nodes most legs first spans n link → ReachBack nodes (Some period) spans n link.page
-      → cost spans n link.page ≤ count_by (may_meet period) spans
-  known_few most legs first [] n link order h back = let z = ap (λ k. walked nodes (Some period) k link.page) back in omega (arith, z)
-  known_few most legs first (span ∷ spans) zero link order h back = omega arith
-  known_few most legs first (span ∷ spans) (suc n) link order h back =
-      let p = link.page in
-      let leaf = h.0 in
-      let legs_are : legs_in (nodes.at p) ≡ leaf.legs = ap legs_in h.1.is in
-      let back_is : previous_of (nodes.at p) ≡ leaf.previous = ap previous_of h.1.is in
-      let before = cost spans n (previous_of (nodes.at p)) in
-      let ends = is_end (Some period) (legs_in (nodes.at p)) in
-      let count = one_more_of span spans in
-      (elim (int_lt span.end period.start) as (λ v. int_lt span.end period.start ≡ v → cost (span ∷ spans) (suc n) p ≤ count_by (may_meet period) (span ∷ spans)) [
-        | true ↦ λ z. let none = ended span spans (suc n) p (lt_from span.end period.start z) in omega (arith, none)
-        | false ↦ λ z.
-            let reaches : int_le period.start span.end ≡ true = le_to period.start span.end (not_lt span.end period.start z) in
-            let meets : may_meet period span ≡ int_le span.start period.end = ap (λ (b : Bool). b && int_le span.start period.end) reaches in
-            let here : cost (span ∷ spans) (suc n) p ≡ read_cost (if int_le span.start period.end then Into else over span (next_span spans) n) ends before =
-            ap (λ (b : Bool). read_cost (if b then End else if int_le span.start period.end then Into else over span (next_span spans) n) ends before) z in
-            (elim (is_end (Some period) (legs_in (nodes.at p))) as (λ w. is_end (Some period) (legs_in (nodes.at p)) ≡ w → cost (span ∷ spans) (suc n) p ≤ count_by (may_meet period) (span ∷ spans)) [
-              | true ↦ λ w.
-                  let none : (act : Passing) → read_cost act ends before ≡ read_cost act true before = λ act. ap (λ (b : Bool). read_cost act b before) w in
-                  (elim (int_le span.start period.end) as (λ v. int_le span.start period.end ≡ v → may_meet period span ≡ v → cost (span ∷ spans) (suc n) p ≡ read_cost (if v then Into else over span (next_span spans) n) ends before
-                  → cost (span ∷ spans) (suc n) p ≤ count_by (may_meet period) (span ∷ spans)) [
-                    | true ↦ λ y m here.
-                        let one : cond (may_meet period span) 1 0 ≡ 1 = ap (λ (b : Bool). let k : ℕ = cond b 1 0 in k) m in
-                        let last : read_cost Into ends before ≡ 1 = none Into in
-                        omega (arith, here, last, count, one)
-                    | false ↦ λ y m here. absurd (not_after span p leaf order h.2 (ap (is_end (Some period)) (sym legs_are) ∙ w) y)
-                  ]) refl meets here
-              | false ↦ λ w.
-                  let rest : ReachBack nodes (Some period) spans n (previous_of (nodes.at p)) =
-                  ⊎_elim (λ (e : is_end (Some period) (legs_in (nodes.at p)) ≡ true). absurd (true≢false (sym e ∙ w)))
-                  (λ b. subst (λ k. ReachBack nodes (Some period) spans k (previous_of (nodes.at p))) (let k : suc n - 1 ≡ n = omega arith in k) b) back in
-                  let on : before ≤ count_by (may_meet period) spans =
-                  subst (λ q. cost spans n q ≤ count_by (may_meet period) spans) (sym back_is) (known_few most legs first spans n (link_back p leaf) order h.3 (subst (ReachBack nodes (Some period) spans n) back_is rest)) in
-                  (elim (int_le span.start period.end) as (λ v. may_meet period span ≡ v → cost (span ∷ spans) (suc n) p ≡ read_cost (if v then Into else over span (next_span spans) n) ends before
-                  → cost (span ∷ spans) (suc n) p ≤ count_by (may_meet period) (span ∷ spans)) [
-                    | true ↦ λ m here.
-                        let one : cond (may_meet period span) 1 0 ≡ 1 = ap (λ (b : Bool). let k : ℕ = cond b 1 0 in k) m in
-                        let most : read_cost Into ends before ≤ 1 + before = into_most ends before in
-                        omega (arith, here, most, on, count, one)
-                    | false ↦ λ m here.
-                        let o = over_cost span spans n (previous_of (nodes.at p)) rest ends before in
-                        omega (arith, here, o, on, count)
-                  ]) meets here
-            ]) refl
-      ]) refl

@@ -2,7 +2,6 @@
 use Rattle.std.proofs.Common.{ℕ, suc, ◌+◌, ◌-◌, ◌^◌, ◌≡◌, ◌<◌, ◌==◌, Bool, true, false, cond, List, [], ◌++◌, refl, sym, ap, subst, ◌∙◌, arith, append_assoc, Option, Some, None, IsTrue}
 use Rattle.std.specs.Prelude.{min, if◌then◌else◌, option_map, not, ◌&&◌, ◌≢◌}
 use Rattle.std.specs.List.{filter}
-use Rattle.std.proofs.lemmas.List.{append-nil}
 use Rattle.std.proofs.lemmas.Bool.{and_from, not_from_false, ne_eqb}
 use Rattle.timebase.specs.Period.{PeriodView}
 use Rattle.legs.specs.Legs.{LegView}
@@ -22,7 +21,7 @@ use Rattle.chains.specs.Taking.{fault_at}
 use Rattle.chains.specs.declared.leaves.Link.{Link}
 use Rattle.chains.specs.declared.leaves.Spot.{Spot}
 use Rattle.legs.specs.GroupLemmas.{some_none, some_same}
-use Rattle.chains.proofs.SieveLemmas.{none_taken, then_taken}
+use Rattle.chains.proofs.SieveLemmas.{then_taken}
 
 -- what is only read has the same pages
 pub same_at : (old mid : Cache) → OnlyReads old mid → IsTrue old.store.is_faithful → (n : ℕ) → (pages_of_cache mid).at n ≡ (pages_of_cache old).at n

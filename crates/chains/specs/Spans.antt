@@ -1,5 +1,5 @@
 -- What is known of the leaves of a chain that were read: a memory of its last leaves.
-use Rattle.std.specs.Prelude.{ℕ, ℤ, zero, suc, ◌≡◌, ◌≢◌, ◌+◌, ◌-◌, ◌<◌, ◌++◌, ◌&&◌, ◌⊎◌, ◌≤ℤ◌, Bool, cond, List, [], ◌∷◌, length, if◌then◌else◌, int_lt, int_le, Option, Some, None, true, All, Any}
+use Rattle.std.specs.Prelude.{ℕ, ℤ, zero, suc, ◌≡◌, ◌≢◌, ◌+◌, ◌-◌, ◌<◌, ◌++◌, ◌&&◌, ◌⊎◌, ◌≤ℤ◌, Bool, cond, List, [], ◌∷◌, length, if◌then◌else◌, int_lt, int_le, Option, Some, None, All, Any}
 use Rattle.std.specs.Int.{div_ceil}
 use Rattle.timebase.specs.Period.{PeriodView}
 use Rattle.legs.specs.Boxes.{BoxView}
@@ -108,26 +108,3 @@ abbrev pub known_cost : Pages LegView BoxView → Option PeriodView → ShapeVie
     → List LeafSpan → ℕ
 known_cost nodes period shape place spans =
     walked_by nodes period spans (div_ceil place.legs shape.leaf) place.last
-
--- a leaf with that span may have a leg in the period
-abbrev pub may_meet : PeriodView → LeafSpan → Bool
-may_meet period span = int_le period.start span.end && int_le span.start period.end
-
-module _ (nodes : Pages LegView BoxView) (period : Option PeriodView) where
-  -- of n leaves from page p back, these are the spans of all, or of all down to the one at which a walk ends
-  abbrev pub ReachBack : List LeafSpan → ℕ → ℕ → Type 0
-  ReachBack [] n p = n ≡ 0
-  ReachBack (span ∷ spans) n p =
-      (is_end period (legs_in (nodes.at p)) ≡ true)
-      ⊎ ReachBack spans (n - 1) (previous_of (nodes.at p))
-
--- what is known of the place's chain reaches back to where a walk for the period ends; without one it is known whole
-abbrev pub IsKnownBackTo : Pages LegView BoxView → Option PeriodView → ShapeView → Place
-    → List LeafSpan → Type 0
-IsKnownBackTo nodes period shape place spans =
-    ReachBack nodes period spans (div_ceil place.legs shape.leaf) place.last
-
--- the spans that were known are the first of those that are known now
-pub record IsFront (old new : List LeafSpan) : Type 0 where
-  pub more : List LeafSpan
-  pub is : new ≡ old ++ more

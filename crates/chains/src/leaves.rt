@@ -1,13 +1,11 @@
 //! One leaf on the way back along a chain.
 ghost use Rattle.std.specs.Prelude.{◌≡◌, ◌≢◌, ◌+◌, ◌-◌, ◌*◌, ◌≤◌, ◌↔◌, None, Some, min, OnOk, OnErr, IfOk, IfErr, IsTrue};
-ghost use Rattle.legs.specs.Legs.{LegView};
 ghost use Rattle.pagecache.specs.Cache.{Cache, AsksOnce};
 ghost use Rattle.tbnode.specs.Form.{node_of};
 ghost use Rattle.tbtree.specs.Faults.{IsNamed, RefusesRead};
 ghost use Rattle.tbtree.specs.Nodes.{pages_of_cache};
 ghost use Rattle.chains.specs.Links.{spot_of, is_placed, head_fits, fits, fits_node, is_end};
 ghost use Rattle.chains.specs.Reads.{Reads};
-ghost use Rattle.chains.specs.Spans.{IsFront};
 ghost use Rattle.chains.specs.Taking.{TakesNode, TakesPage, IsNodeFault, fault_at};
 
 use crate::kept::{Want, take_legs};
@@ -112,7 +110,6 @@ fn take_node(
         want.now.sieve found.old.items found.new.items
         (record { old = spans.old.items; new = spans.new.items; passed = passed })) }
     ensures forgets { OnErr result (spans.new.items ≡ spans.old.items) }
-    ensures keeps { IsFront spans.old.items spans.new.items }
     ensures named { IfErr result
         (IsNodeFault (fits_node (node_of payload.now) link.now spot.now) link.now.page) }
     ensures caused { (old new : Cache) → IfErr result (RefusesRead old new) }
@@ -152,7 +149,6 @@ pub(crate) fn take<S: PageStore>(
         want.now.sieve found.old.items found.new.items
         (record { old = spans.old.items; new = spans.new.items; passed = passed })) }
     ensures forgets { OnErr result (spans.new.items ≡ spans.old.items) }
-    ensures keeps { IsFront spans.old.items spans.new.items }
     ensures named { IsTrue cache.old.store.is_faithful
         → IfErr result (IsNamed (pages_of_cache cache.old)
         (fault_at (pages_of_cache cache.old) link.now spot.now)) }

@@ -2,7 +2,7 @@
 ghost use Rattle.std.specs.Prelude.{ℕ, suc, ◌≡◌, ◌+◌, ◌-◌, ◌^◌, ◌<◌, ◌≤◌, ◌≤ℤ◌, ◌↔◌, List, Option, Some, None, [], count_by, drop, slice_get, OnErr, OnOk, IfOk, IfErr, IsTrue};
 ghost use Rattle.std.specs.Int.{div_ceil};
 ghost use Rattle.legs.specs.Boxes.{BoxView};
-ghost use Rattle.legs.specs.Costs.{ShapeView, RisesBy, RisesAtMost, known_bound, track_cost, track_in_bound};
+ghost use Rattle.legs.specs.Costs.{ShapeView, RisesBy, RisesAtMost, track_cost, track_in_bound};
 ghost use Rattle.legs.specs.Index.{legs_of, live_legs_of};
 ghost use Rattle.legs.specs.Legs.{LegView};
 ghost use Rattle.legs.specs.Sieves.{IsSieved};
@@ -16,7 +16,7 @@ ghost use Rattle.chains.specs.Chains.{AreHeld, IsPlaceChain, chain_fault, chain_
 ghost use Rattle.chains.specs.Reads.{OnlyReads, Reads};
 ghost use Rattle.chains.specs.Keeping.{HasTaken};
 ghost use Rattle.chains.specs.Links.{spot_of};
-ghost use Rattle.chains.specs.Spans.{AreSpans, AsksAs, IsFront, IsKnown, IsKnownBackTo, known_cost, may_meet, pass_at};
+ghost use Rattle.chains.specs.Spans.{AreSpans, AsksAs, IsKnown, known_cost, pass_at};
 ghost use Rattle.chains.specs.Taking.{TakesPage, fault_at};
 ghost use Rattle.chains.specs.Trajectory.{HasFeature};
 ghost use Rattle.chains.specs.declared.spans.LeafSpan.{LeafSpan};
@@ -73,7 +73,6 @@ fn step<S: PageStore>(
         want.now.sieve found.old.items found.new.items
         (record { old = spans.old.items; new = spans.new.items; passed = at.now.passed })) }
     ensures forgets { OnErr result (spans.new.items ≡ spans.old.items) }
-    ensures keeps { IsFront spans.old.items spans.new.items }
     ensures named { IsTrue cache.old.store.is_faithful
         → IfErr result (IsNamed (pages_of_cache cache.old) (fault_at (pages_of_cache cache.old)
         at.now.link (spot_of most place.now.legs place.now.first at.now.left))) }
@@ -128,21 +127,11 @@ fn walk_back<S: PageStore>(
         → OnOk result (RisesBy cache.old.asked cache.new.asked
         (known_cost (pages_of_cache cache.old) want.now.period shape.now place.now
         spans.old.items)) }
-    ensures few { IsTrue cache.old.store.is_faithful
-        → OnOk result (RisesAtMost cache.old.asked cache.new.asked
-        (known_cost (pages_of_cache cache.old) want.now.period shape.now place.now
-        spans.old.items)) }
     ensures within { IsTrue cache.old.store.is_faithful
         → OnOk result (RisesAtMost cache.old.asked cache.new.asked
         (chain_cost (pages_of_cache cache.old) want.now.period shape.now place.now)) }
-    ensures most { cache.new.asked
-        ≤ cache.old.asked + div_ceil place.now.legs shape.now.leaf }
     ensures learns { IsTrue cache.old.store.is_faithful
         → IsKnown (pages_of_cache cache.old) shape.now feature place.now spans.new.items }
-    ensures keeps { IsFront spans.old.items spans.new.items }
-    ensures recalls { IsTrue cache.old.store.is_faithful
-        → OnOk result (IsKnownBackTo (pages_of_cache cache.old) want.now.period shape.now place.now
-        spans.new.items) }
     ensures shape { IsShape shape.now }
 {
     let most = u64::from(shape.leaf());
@@ -216,26 +205,16 @@ pub fn trajectory<S: PageStore>(
     ensures named { IsTrue cache.old.store.is_faithful
         → IfErr result (IsNamed (pages_of_cache cache.old)
         (chain_fault (pages_of_cache cache.old) None shape.now feature place.now)) }
-    ensures walked { IsTrue cache.old.store.is_faithful
-        → OnOk result (RisesBy cache.old.asked cache.new.asked
-        (chain_cost (pages_of_cache cache.old) None shape.now place.now)) }
     ensures within { IsTrue cache.old.store.is_faithful
         → OnOk result (RisesAtMost cache.old.asked cache.new.asked
         (chain_cost (pages_of_cache cache.old) None shape.now place.now)) }
 
-    // What is known of the chain's last leaves, after it as before it: nothing is forgotten, and an answer leaves it
-    // known whole.
+    // What is known of the chain's last leaves is true, after it as before it.
     ensures learns { IsTrue cache.old.store.is_faithful
         → IsKnown (pages_of_cache cache.old) shape.now feature place.now spans.new.items }
-    ensures keeps { IsFront spans.old.items spans.new.items }
-    ensures recalls { IsTrue cache.old.store.is_faithful → (period : Option PeriodView)
-        → OnOk result (IsKnownBackTo (pages_of_cache cache.old) period shape.now place.now
-        spans.new.items) }
 
     // Over any store; what is said of payloads, over a faithful one.
     ensures reads { Reads cache.old cache.new result }
-    ensures most { cache.new.asked
-        ≤ cache.old.asked + div_ceil place.now.legs shape.now.leaf }
 {
     let want = Want {
         period: None,
@@ -299,42 +278,16 @@ pub fn trajectory_in<S: PageStore>(
     ensures named { IsTrue cache.old.store.is_faithful
         → IfErr result (IsNamed (pages_of_cache cache.old)
         (chain_fault (pages_of_cache cache.old) (Some period.now) shape.now feature place.now)) }
-    ensures walked { IsTrue cache.old.store.is_faithful
-        → OnOk result (RisesBy cache.old.asked cache.new.asked
-        (known_cost (pages_of_cache cache.old) (Some period.now) shape.now place.now
-        spans.old.items)) }
     ensures within { IsTrue cache.old.store.is_faithful
         → OnOk result (RisesAtMost cache.old.asked cache.new.asked
         (chain_cost (pages_of_cache cache.old) (Some period.now) shape.now place.now)) }
 
-    // Where what is known reaches back to the period, only leaves are read that may have a leg in it; of pages that stand
-    // for a list, at most as many as the feature has that meet it.
-    ensures known { IsTrue cache.old.store.is_faithful
-        → IsKnownBackTo (pages_of_cache cache.old) (Some period.now) shape.now place.now
-        spans.old.items
-        → OnOk result (RisesAtMost cache.old.asked cache.new.asked
-        (count_by (may_meet period.now) spans.old.items)) }
-    ensures met { IsTrue cache.old.store.is_faithful → (legs : List LegView)
-        → HasFeature (pages_of_cache cache.old) shape.now place.now feature legs
-        → IsKnownBackTo (pages_of_cache cache.old) (Some period.now) shape.now place.now
-        spans.old.items
-        → OnOk result (RisesAtMost cache.old.asked cache.new.asked
-        (known_bound feature period.now (Some shape.now) legs)) }
-
-    // What is known of the chain's last leaves, after it as before it: nothing is forgotten, and an answer leaves it
-    // known back to the period, and to each that starts no earlier.
+    // What is known of the chain's last leaves is true, after it as before it.
     ensures learns { IsTrue cache.old.store.is_faithful
         → IsKnown (pages_of_cache cache.old) shape.now feature place.now spans.new.items }
-    ensures keeps { IsFront spans.old.items spans.new.items }
-    ensures recalls { IsTrue cache.old.store.is_faithful → (later : PeriodView)
-        → period.now.start ≤ℤ later.start
-        → OnOk result (IsKnownBackTo (pages_of_cache cache.old) (Some later) shape.now place.now
-        spans.new.items) }
 
     // Over any store; what is said of payloads, over a faithful one.
     ensures reads { Reads cache.old cache.new result }
-    ensures most { cache.new.asked
-        ≤ cache.old.asked + div_ceil place.now.legs shape.now.leaf }
 {
     prove!(period.start() <= period.end());
     let want = Want {

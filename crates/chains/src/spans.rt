@@ -1,7 +1,7 @@
 //! What is known of the leaves of a feature that were read: their spans of time.
 ghost use Rattle.std.specs.Prelude.{suc, ◌≡◌, ◌-◌, ◌^◌, ◌<◌, ◌≤ℤ◌, Some, slice_get, IfSome, OnErr, OnOk};
 ghost use Rattle.std.specs.Int.{int_max, int_min};
-ghost use Rattle.chains.specs.Spans.{IsFront, IsSpanOf, Learns, pass_at, over, link_over};
+ghost use Rattle.chains.specs.Spans.{IsSpanOf, Learns, pass_at, over, link_over};
 
 use crate::leaves::Link;
 use std::alloc::AllocError;
@@ -153,7 +153,6 @@ pub(crate) fn learn(
 ) -> Result<(), AllocError>
     ensures ok { OnOk result (Learns spans.old.items spans.new.items passed page leaf.now) }
     ensures err { OnErr result (spans.new.items ≡ spans.old.items) }
-    ensures keeps { IsFront spans.old.items spans.new.items }
 {
     if passed == spans.len() {
         spans.push(span_of(leaf, page))?;

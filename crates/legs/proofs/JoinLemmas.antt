@@ -3,7 +3,7 @@ use Rattle.std.proofs.Common.{ℕ, ◌+◌, ◌-◌, ◌≡◌, ◌∙◌, ap, s
 use Rattle.std.specs.Prelude.{filter, IfOk, OnOk}
 use Rattle.std.proofs.lemmas.Grind.{fold-append}
 use Rattle.std.proofs.lemmas.List.{append-nil, length-append, length-map, take_all}
-use Rattle.std.proofs.lemmas.List.Elements.{All-nil, All-push}
+use Rattle.std.proofs.lemmas.List.Elements.{All-push}
 use Rattle.mfcsv.specs.declared.Head.{Head}
 use Rattle.legs.specs.declared.head.BookHead.{BookHead}
 use Rattle.mfcsv.specs.declared.File.{File}
@@ -11,7 +11,7 @@ use Rattle.mfcsv.specs.Views.{RecordView, IsRecord}
 use Rattle.legs.specs.Legs.{LegView}
 use Rattle.legs.specs.Limits.{LimitsView}
 use Rattle.legs.specs.Index.{CanFollowInTurn}
-use Rattle.legs.specs.Book.{Book, file_of, names_with, record_legs, records_legs, with_record, with_records, with_file, has_fault, faults_of, record_faults, head_faults, first_or, joined, IsRefusal, same_columns, same_space}
+use Rattle.legs.specs.Book.{Book, file_of, names_with, record_legs, records_legs, with_record, with_records, with_file, has_fault, faults_of, record_faults, head_faults, first_or, joined, same_columns, same_space}
 use Rattle.legs.specs.FirstFault.{IsFirst, IsFirstOf}
 use Rattle.legs.specs.Counting.{names_after}
 use Rattle.legs.specs.Drafts.{IsDraft}

@@ -4,7 +4,7 @@ use Rattle.std.specs.Prelude.{All, bytes_eq}
 use Rattle.std.specs.List.{range_with_len, list_any}
 use Rattle.std.proofs.lemmas.Bool.Decides.{nat_tests}
 use Rattle.std.proofs.lemmas.List.{length-append, length_push}
-use Rattle.std.proofs.lemmas.List.Elements.{All-append, All-weaker, All-push, All-nil, All-head, All-tail, All-map}
+use Rattle.std.proofs.lemmas.List.Elements.{All-append, All-weaker, All-push, All-head, All-tail, All-map}
 use Rattle.std.proofs.lemmas.List.Quantifiers.{all_pairs_push}
 use Rattle.mfcsv.specs.FileText.{HasWholeRows}
 use Rattle.mfcsv.specs.declared.File.{File}
@@ -13,7 +13,7 @@ use Rattle.legs.specs.declared.head.BookHead.{BookHead}
 use Rattle.mfcsv.specs.Views.{RecordView, IsRecord, leg_count}
 use Rattle.legs.specs.Legs.{LegView}
 use Rattle.legs.specs.Limits.{LimitsView, IsLimits}
-use Rattle.legs.specs.Book.{Book, empty_book, number_of, names_with, leg_at, record_legs, with_record, with_records, with_file, head_with, faults_of, record_faults, joined}
+use Rattle.legs.specs.Book.{Book, number_of, names_with, leg_at, record_legs, with_record, with_records, with_file, head_with, faults_of, record_faults, joined}
 use Rattle.legs.specs.Tracks.{IsLawful}
 use Rattle.legs.specs.Law.{IsName, IsThere, IsOrdered, IsBook}
 use Rattle.legs.proofs.NameLemmas.{known_or_new, names_with-known, names_with-new, text_self, any_is_first, length-names_with}

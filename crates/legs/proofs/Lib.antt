@@ -10,8 +10,6 @@ pub mod CountLemmas
 pub mod AcceptLemmas
 pub mod MomentLemmas
 pub mod GrowLemmas
-pub mod GrowingLemmas
-pub mod LastLemmas
 pub mod WidthLemmas
 pub mod LawLemmas
 pub mod OverLemmas

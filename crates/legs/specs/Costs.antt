@@ -7,7 +7,7 @@ use Rattle.legs.specs.Legs.{LegView}
 use Rattle.legs.specs.Boxes.{BoxView, boxes_meet}
 use Rattle.legs.specs.Blocks.{groups, leaves, level}
 use Rattle.legs.specs.Hull.{Boxes, hull_of, leg_boxes}
-use Rattle.legs.specs.Index.{is_of, legs_of}
+use Rattle.legs.specs.Index.{legs_of}
 
 -- the shape of a tree: how many legs a leaf has at most, and how many entries an inner page
 pub record ShapeView : Type 0 where
@@ -70,16 +70,6 @@ track_in_bound feature period (Some shape) legs =
     min (div_ceil (length (legs_of feature legs)) shape.leaf)
     (1 + count_by (reaches period) (groups shape.leaf (legs_of feature legs)))
 
--- some leg of the run starts at or before the period's end, and some leg of it ends at or after its start
-abbrev pub meets_period : PeriodView → List LegView → Bool
-meets_period period run = reaches period run && list_any (λ leg. int_le leg.t0 period.end) run
-
--- the leaves of the feature that meet the period, where they are known; an index that keeps a list asks for nothing
-unfoldable pub known_bound : ℕ → PeriodView → Option ShapeView → List LegView → ℕ
-known_bound feature period None legs = 0
-known_bound feature period (Some shape) legs =
-    count_by (meets_period period) (groups shape.leaf (legs_of feature legs))
-
 -- the height of the root above the leaves: how many levels have more than one block
 abbrev pub height : {L : Type 0} → ℕ → List (List L) → ℕ
 height inner runs =
@@ -89,34 +79,6 @@ height inner runs =
 unfoldable pub add_bound : Option ShapeView → List LegView → ℕ
 add_bound None legs = 0
 add_bound (Some shape) legs = 2 * height shape.inner (leaves_of shape legs) + 4
-
--- how many features begin with one of these legs, after those before them
-abbrev pub features_after : List LegView → List LegView → ℕ
-features_after before [] = 0
-features_after before (leg ∷ legs) =
-    (if list_any (is_of leg.feature) before then 0 else 1)
-    + features_after (before ++ leg ∷ []) legs
-
--- how many features some legs have, whatever legs there were before
-abbrev pub features_among : List LegView → ℕ
-features_among legs = features_after [] legs
-
--- how many leaves some legs make, after those before them
-abbrev pub leaves_made : ShapeView → List LegView → List LegView → ℕ
-leaves_made shape before legs =
-    length (leaves_of shape (before ++ legs)) - length (leaves_of shape before)
-
--- the height of the root of a tree of legs above its leaves
-abbrev pub height_of : ShapeView → List LegView → ℕ
-height_of shape legs = height shape.inner (leaves_of shape legs)
-
--- legs put in at once, after those before them: for each of their features its last leaf and the
--- pages above it, and for each leaf that they make twice the root's height after them, and four
-unfoldable pub add_all_bound : Option ShapeView → List LegView → List LegView → ℕ
-add_all_bound None before legs = 0
-add_all_bound (Some shape) before legs =
-    features_among legs * (height_of shape (before ++ legs) + 1)
-    + leaves_made shape before legs * (2 * height_of shape (before ++ legs) + 4)
 
 -- a counter rose by that many; the greatest number that is counted stands for any greater one
 abbrev pub RisesBy : ℕ → ℕ → ℕ → Type 0

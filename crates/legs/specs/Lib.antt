@@ -11,7 +11,6 @@ pub mod Hull
 pub mod Costs
 pub mod Finding
 pub mod Nodes
-pub mod Growing
 pub mod Asking
 pub mod Law
 pub mod Limits

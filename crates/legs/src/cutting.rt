@@ -1,6 +1,5 @@
 //! The cutting of a record into its legs.
 ghost use Rattle.std.specs.Prelude.{◌≡◌, ◌+◌, ◌<◌, ◌≤◌, ◌<ℤ◌, ◌≤ℤ◌, ◌-ℤ◌, pos, IfOk, length};
-ghost use Rattle.timebase.specs.Instant.{IsMoment};
 ghost use Rattle.mfcsv.specs.Views.{IsRecord, leg_count};
 ghost use Rattle.legs.specs.Legs.{cut_moment, step_at, steps_of};
 

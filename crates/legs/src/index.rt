@@ -37,11 +37,11 @@ pub enum IndexFault {
 pub trait LegIndex: Listed {
     ghost use Rattle.std.specs.Prelude.{ℕ, ℤ, None, ◌≤ℤ◌, ◌≡◌, ◌≢◌, ◌↔◌, ◌∷◌, [], true, false, length, All, OnOk, IfOk, MatchResult};
     ghost use Rattle.std.specs.List.{Contains};
-    ghost use Rattle.legs.specs.Legs.{IsLeg, LegView};
-    ghost use Rattle.legs.specs.Index.{legs_in_box, legs_of, live_legs_of, SkipNone};
+    ghost use Rattle.legs.specs.Legs.{IsLeg};
+    ghost use Rattle.legs.specs.Index.{legs_in_box, legs_of, live_legs_of};
     ghost use Rattle.legs.specs.Questions.{InBox, OfFeature};
-    ghost use Rattle.legs.specs.Costs.{known_bound, search_cost, track_cost, track_in_bound};
-    ghost use Rattle.legs.specs.Asking.{AddAllAsks, AddAsks, Asks, AsksAtMost, AsksChain, AsksNoMore, Denies, FitsLeg, Grows, HasAdded, IsLater, Leaves, LegRefusals, Recalls, Refusals, TellsSieved};
+    ghost use Rattle.legs.specs.Costs.{search_cost, track_cost, track_in_bound};
+    ghost use Rattle.legs.specs.Asking.{AddAsks, Asks, AsksAtMost, Denies, Grows, IsLater, Leaves, LegRefusals, Refusals, TellsSieved};
     ghost use Rattle.legs.specs.Sieves.{IsSieved};
 
     /// How many legs there are.
@@ -58,31 +58,18 @@ pub trait LegIndex: Listed {
         ensures { result ≡ Self.asked self.now };
 
     /// Puts a leg at the end of the list. The leg's ordinal is to be `len`, its feature at most the number of
-    /// features so far, and its start not before the end of that feature's last leg. Of any other leg, and of an
-    /// index that is not sound, `takes` still says that it is found, as is all that was, and what is told of each
-    /// feature; and it skips no feature (`skips_none`). Where it is answered over a faithful store, each page was
-    /// what the leg needs of it (`fits`).
+    /// features so far, and its start not before the end of that feature's last leg. Of any other leg, and of an index that
+    /// is not sound, nothing is promised but that the call returns.
     fn add(&mut self, leg: Leg) -> Result<(), IndexFault>
         ensures added { OnOk result (Grows Self.Listed self.old self.new (leg ∷ [])) }
-        ensures takes { OnOk result (HasAdded Self.Listed self.old self.new (leg ∷ [])) }
-        ensures skips_none { OnOk result (SkipNone (Self.features self.old) (leg ∷ [])) }
-        ensures fits { OnOk result (Self.is_faithful self.old → (page : ℕ)
-            → Self.is_unfit self.old (leg ∷ []) page → ⊥) }
         ensures asks { OnOk result (AddAsks Self.Listed self.old self.new leg) }
         ensures refusals { LegRefusals Self.Listed self.old self.new (leg ∷ []) result }
         ensures marked { Self.is_marked self.old → Self.is_marked self.new }
         ensures later { IsLater Self.Listed self.old self.new };
 
-    /// Puts legs at the end of the list, one after another. Where they are answered over a faithful store, each was put
-    /// in with the next ones of its leaf, once some of the others were, and then each page was what these needed of it
-    /// (`fits`).
+    /// Puts legs at the end of the list, one after another, under the same conditions.
     fn add_all(&mut self, legs: &[Leg]) -> Result<(), IndexFault>
         ensures added { OnOk result (Grows Self.Listed self.old self.new legs.now) }
-        ensures takes { OnOk result (HasAdded Self.Listed self.old self.new legs.now) }
-        ensures skips_none { OnOk result (SkipNone (Self.features self.old) legs.now) }
-        ensures fits { OnOk result (Self.is_faithful self.old → (leg : LegView)
-            → Contains legs.now leg → FitsLeg Self.Listed self.old legs.now leg) }
-        ensures asks { OnOk result (AddAllAsks Self.Listed self.old self.new legs.now) }
         ensures refusals { LegRefusals Self.Listed self.old self.new legs.now result }
         ensures marked { Self.is_marked self.old → Self.is_marked self.new }
         ensures later { IsLater Self.Listed self.old self.new };
@@ -94,9 +81,7 @@ pub trait LegIndex: Listed {
         ensures told { MatchResult result (λ legs. Self.tells self.old (InBox query.now) legs.items)
             (λ fault. Denies Self.Listed self.old (InBox query.now) fault) }
         ensures asks { OnOk result (Asks Self.Listed self.old self.new (search_cost query.now)) }
-        ensures most { AsksNoMore Self.Listed self.old self.new }
         ensures leaves { Leaves Self.Listed self.old self.new }
-        ensures recalls { Recalls Self.Listed self.old self.new }
         ensures refusals { Refusals Self.Listed self.old self.new result };
 
     /// The legs of a feature, in accepted order; none for a feature that is not there.
@@ -107,10 +92,7 @@ pub trait LegIndex: Listed {
             (λ legs. Self.tells self.old (OfFeature feature None) legs.items)
             (λ fault. Denies Self.Listed self.old (OfFeature feature None) fault) }
         ensures asks { OnOk result (Asks Self.Listed self.old self.new (track_cost feature)) }
-        ensures most { AsksChain Self.Listed self.old self.new feature }
-        ensures learns { OnOk result ((start : ℤ) → Self.knows self.new feature start) }
         ensures leaves { Leaves Self.Listed self.old self.new }
-        ensures recalls { Recalls Self.Listed self.old self.new }
         ensures refusals { Refusals Self.Listed self.old self.new result };
 
     /// The legs of a feature that have a moment in a period, in accepted order; of these at least those that a sieve
@@ -130,13 +112,7 @@ pub trait LegIndex: Listed {
             (λ fault. Denies Self.Listed self.old (OfFeature feature (Some period.now)) fault) }
         ensures asks { OnOk result (AsksAtMost Self.Listed self.old self.new
             (track_in_bound feature period.now)) }
-        ensures asks_known { OnOk result (Self.knows self.old feature period.now.start
-            → AsksAtMost Self.Listed self.old self.new (known_bound feature period.now)) }
-        ensures most { AsksChain Self.Listed self.old self.new feature }
-        ensures learns { OnOk result ((start : ℤ) → period.now.start ≤ℤ start
-            → Self.knows self.new feature start) }
         ensures leaves { Leaves Self.Listed self.old self.new }
-        ensures recalls { Recalls Self.Listed self.old self.new }
         ensures refusals { Refusals Self.Listed self.old self.new result };
 
     /// A sound index is not spent.
@@ -144,10 +120,6 @@ pub trait LegIndex: Listed {
 
     /// A sound index over pages has a faithful store.
     ghost faithful: { (index : Self) → Self.is_sound index → Self.plan index ≢ None → Self.is_faithful index };
-
-    /// By the test that holds of all boxes a sound index finds the legs of its list.
-    ghost held: { (index : Self) (leg : LegView) → Self.is_sound index
-        → Self.finds index (λ _. true) leg ↔ Contains (Self.content index) leg };
 
     /// All legs of a sound index are lawful.
     ghost lawful: { (index : Self) → Self.is_sound index → All IsLeg (Self.content index) };

@@ -150,9 +150,8 @@ impl Listed for ListIndex {
     ghost use Rattle.std.specs.Prelude.{◌≡◌, false, All, None, Some, []};
     ghost use Rattle.std.specs.Prelude.{length, true};
     ghost use Rattle.std.specs.List.{Contains};
-    ghost use Rattle.legs.specs.Boxes.{box_of};
     ghost use Rattle.legs.specs.Finding.{no_finding};
-    ghost use Rattle.legs.specs.Index.{feature_count, last_leg_of};
+    ghost use Rattle.legs.specs.Index.{feature_count};
     ghost use Rattle.legs.specs.Legs.{IsLeg};
     ghost use Rattle.legs.specs.Questions.{answer_in};
 
@@ -164,24 +163,6 @@ impl Listed for ListIndex {
 
     ghost denies = { λ index question page. ⊥ };
 
-    ghost finds = { λ index meets leg. Contains index.legs leg × (meets (box_of leg) ≡ true) };
-
-    ghost comes_to = { λ index meets above page. ⊥ };
-
-    ghost is_bare = { λ index page. ⊥ };
-
-    ghost is_astray = { λ index above page. ⊥ };
-
-    ghost leads_to = { λ index leg. Contains index.legs leg };
-
-    ghost is_unfit = { λ index legs page. ⊥ };
-
-    ghost node = { λ index page. None };
-
-    ghost is_unreadable = { λ index page. ⊥ };
-
-    ghost ends_with = { λ index leg. last_leg_of leg.feature index.legs ≡ Some leg };
-
     ghost counted = { λ index. length index.legs };
 
     ghost features = { λ index. feature_count index.legs };
@@ -192,21 +173,11 @@ impl Listed for ListIndex {
 
     ghost is_store_full = { λ index. ⊥ };
 
-    ghost most_pages = { λ index. 0 };
-
-    ghost capacity = { λ index. 0 };
-
-    ghost other = { λ index page. None };
-
-    ghost fields = { λ index. None };
-
     ghost asked = { λ index. 0 };
 
     ghost plan = { λ index. None };
 
     ghost found_by = { λ index. no_finding };
-
-    ghost knows = { λ index feature start. Unit {0} };
 
     ghost is_faithful = { λ index. ⊥ };
 
@@ -227,8 +198,6 @@ impl LegIndex for ListIndex {
     ghost sound_lasts = { λ index sound. sound.0 };
 
     ghost faithful = { λ index sound over. over refl };
-
-    ghost held = { λ index leg sound. ((λ found. found.0), (λ there. (there, refl))) };
 
     ghost lawful = { λ index sound. sound.1 };
 
@@ -252,7 +221,6 @@ impl LegIndex for ListIndex {
         Ok(self.put(leg)?)
     }
 
-    #[tactic(auto, unfolding(crate::specs::Costs::add_all_bound))]
     fn add_all(&mut self, legs: &[Leg]) -> Result<(), IndexFault> {
         if self.spent() {
             return Err(IndexFault::Spent);
@@ -284,7 +252,7 @@ impl LegIndex for ListIndex {
     }
 
     /// All legs, whatever the sieve.
-    #[tactic(auto, unfolding(crate::specs::Costs::track_in_bound, crate::specs::Costs::known_bound))]
+    #[tactic(auto, unfolding(crate::specs::Costs::track_in_bound))]
     fn track_in(
         &mut self,
         feature: u32,

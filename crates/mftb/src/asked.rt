@@ -1,7 +1,4 @@
 //! Databases that are only asked.
-ghost use Rattle.std.specs.Prelude.{IfErr, IfOk, max};
-ghost use Rattle.mftb.specs.Unopened.{IsOpened, IsUnasked, IsUnopened};
-
 use crate::held_file::HeldFile;
 use crate::names::Names;
 use crate::opening::{is_absent, open_asked, sweep};
@@ -20,9 +17,7 @@ pub(crate) type AskedStore = ReadOnly<FileStore<HeldFile<'static, File>>>;
 pub(crate) fn store_to_ask<'a, R: Files<File = File> + AllocGlobal>(
     rt: &R,
     store: &'a str,
-) -> Result<AskedStore, Fault<'a>>
-    ensures { IfErr result (IsUnasked store.now) }
-{
+) -> Result<AskedStore, Fault<'a>> {
     let names = Names::new(rt, store)?;
     if is_absent(rt, names.store.as_str()) {
         return Err(Fault::CannotRead(store));
@@ -31,21 +26,17 @@ pub(crate) fn store_to_ask<'a, R: Files<File = File> + AllocGlobal>(
     open_asked(rt, &names)
 }
 
-/// The database of a store; where it is not opened, the store is given back.
+/// The database of a store.
 pub(crate) fn database_to_ask<'a, R: AllocGlobal + RandomSource, S: PageStore + Drop>(
     rt: &R,
     store: S,
     cache_pages: u32,
-) -> Result<Db<S>, (S, Fault<'a>)>
-    ensures opened { IfOk result (IsOpened (S.seen store) (max cache_pages 1)) }
-    ensures refused { IfErr result (λ back. IsUnopened (S.seen store) (S.seen back.0)
-        (max cache_pages 1) back.1) }
-{
+) -> Result<Db<S>, Fault<'a>> {
     let Ok(keys) = RandomState::new(rt) else {
-        return Err((store, Fault::Run(RunFault::Memory)));
+        return Err(Fault::Run(RunFault::Memory));
     };
     match Db::open(rt.alloc(), keys, store, cache_pages.max(1) as usize) {
         Ok(database) => Ok(database),
-        Err((store, fault)) => Err((store, Fault::Open(fault))),
+        Err((_store, fault)) => Err(Fault::Open(fault)),
     }
 }

@@ -1,13 +1,4 @@
 //! A rectangle and a period on the command line.
-ghost use Rattle.std.specs.Prelude.{◌≡◌, Err, false, IfErr, IfOk, map, true};
-ghost use Rattle.std.specs.Char.{is_ascii_whitespace};
-ghost use Rattle.std.specs.List.{list_all, list_any};
-ghost use Rattle.std.specs.String.{string_bytes};
-ghost use Rattle.querylang.specs.declared.LineCode.{LineCode};
-ghost use Rattle.sessions.specs.declared.fault.Fault.{Fault};
-ghost use Rattle.mftb.specs.Bounds.{box_line};
-ghost use Rattle.mftb.specs.BoundsRefused.{are_words, box_of, is_word, RefusesBounds, SaysBox};
-
 use arguments::Bounds;
 use legs::Rect;
 use querylang::{Command, LineCode, LineFault, parse_line};
@@ -17,34 +8,24 @@ use timebase::Period;
 use trajdb::RunFault;
 
 /// The line of a script that asks for the `box` of a rectangle and a period.
-pub(crate) fn line_of(alloc: Global, bounds: &Bounds<'_>) -> Result<String, AllocError>
-    ensures { IfOk result (λ line. string_bytes line
-        ≡ box_line (map (λ text. text.now) bounds.now.corners)
-        (map (λ text. text.now) bounds.now.times)) }
-{
+pub(crate) fn line_of(alloc: Global, bounds: &Bounds<'_>) -> Result<String, AllocError> {
     let [x1, y1, x2, y2] = bounds.corners;
     let [t1, t2] = bounds.times;
     format!(in alloc; "box {x1} {y1} {x2} {y2} {t1} {t2}")
 }
 
 /// Whether a blank or a line end is among the bytes of a text.
-fn has_blank(bytes: &[u8]) -> bool
-    ensures { result ≡ list_any is_ascii_whitespace bytes.now }
-{
+fn has_blank(bytes: &[u8]) -> bool {
     bytes.iter().any(|byte| byte.is_ascii_whitespace())
 }
 
 /// Whether what was written is one word of a line.
-fn is_word(text: &str) -> bool
-    ensures { result ≡ is_word text.now }
-{
+fn is_word(text: &str) -> bool {
     !text.is_empty() && !has_blank(text.as_bytes())
 }
 
 /// Whether each of the texts is.
-fn are_words(texts: &[&str]) -> bool
-    ensures { result ≡ list_all is_word (map (λ text. text.now) texts.now) }
-{
+fn are_words(texts: &[&str]) -> bool {
     for text in texts {
         if !is_word(text) {
             return false;
@@ -54,9 +35,7 @@ fn are_words(texts: &[&str]) -> bool
 }
 
 /// The rectangle and the period of a `box`.
-fn box_of(command: &Command) -> Option<(Rect, Period)>
-    ensures { result ≡ box_of command.now }
-{
+fn box_of(command: &Command) -> Option<(Rect, Period)> {
     match command {
         Command::Box(rect, period) => Some((*rect, *period)),
         _ => None,
@@ -67,12 +46,7 @@ fn box_of(command: &Command) -> Option<(Rect, Period)>
 pub(crate) fn read_bounds<'a>(
     alloc: Global,
     bounds: &Bounds<'_>,
-) -> Result<(Rect, Period), Fault<'a>>
-    ensures asked { IfOk result (λ asked. SaysBox (map (λ text. text.now) bounds.now.corners)
-        (map (λ text. text.now) bounds.now.times) asked.0 asked.1) }
-    ensures refused { IfErr result (RefusesBounds (map (λ text. text.now) bounds.now.corners)
-        (map (λ text. text.now) bounds.now.times)) }
-{
+) -> Result<(Rect, Period), Fault<'a>> {
     if !are_words(&bounds.corners) || !are_words(&bounds.times) {
         return Err(Fault::Bounds(LineCode::Q3));
     }

@@ -1,8 +1,4 @@
 //! The part of a file that has the features of one of several parts.
-ghost use Rattle.std.specs.Prelude.{◌⊎◌};
-ghost use Rattle.mftb.specs.PartPrinted.{IsPartFault, PrintsPart};
-ghost use Rattle.mftb.specs.Sending.{IsRefusedFor};
-
 use arguments::Part;
 use outputs::Output;
 use sessions::{Fault, MOST_BYTES, read_named, send_part};
@@ -13,11 +9,7 @@ pub(crate) fn print_part<'a, R: rt::Files + AllocGlobal, O: Output>(
     rt: &R,
     task: &Part<'a>,
     out: &mut O,
-) -> Result<(), Fault<'a>>
-    ensures { IsRefusedFor (IsPartFault task.now.part task.now.parts task.now.file.now)
-        (O.seen out.old) (O.seen out.new) result
-        ⊎ PrintsPart task.now.part task.now.parts (O.seen out.old) (O.seen out.new) result }
-{
+) -> Result<(), Fault<'a>> {
     if task.part >= task.parts {
         return Err(Fault::NoPart(task.part, task.parts));
     }

@@ -1,9 +1,5 @@
 //! The files of all parts of a file, in a folder of the system.
-ghost use Rattle.std.specs.Prelude.{◌≡◌, IfErr, IfOk, None};
-ghost use Rattle.std.specs.String.{string_bytes};
-ghost use Rattle.mftb.specs.Names.{part_name};
-ghost use Rattle.mftb.specs.PartsPut.{AsksFor, IsNoPart, PerformsParts, PutsAsked, PutsCount};
-ghost use Rattle.sessions.specs.declared.fault.Fault.{Fault};
+ghost use Rattle.std.specs.Prelude.{◌<◌, ◌≤◌, ◌+◌, None, IfOk, OnOk};
 
 use arguments::Parts;
 use pages::Refusals;
@@ -31,9 +27,7 @@ fn write_file<R: Files<File = File>>(rt: &R, name: &str, bytes: &[u8]) -> io::Re
 }
 
 /// The name of the file of a part in a folder.
-fn name_of(alloc: Global, folder: &str, part: u64) -> Result<String, AllocError>
-    ensures { IfOk result (λ name. string_bytes name ≡ part_name folder.now part) }
-{
+fn name_of(alloc: Global, folder: &str, part: u64) -> Result<String, AllocError> {
     format!(in alloc; "{folder}/part-{part}.csv")
 }
 
@@ -59,8 +53,8 @@ impl<'a, R: Files<File = File> + AllocGlobal> PartFolder for SystemParts<'a, R> 
 
 /// How many parts are asked for; refused where some of them are not there.
 fn count_of<'a>(task: &Parts<'_>) -> Result<u32, Fault<'a>>
-    ensures asked { IfOk result (AsksFor task.now) }
-    ensures refused { IfErr result (IsNoPart task.now) }
+    ensures some { OnOk result (0 < task.now.parts) }
+    ensures within { IfOk result (λ count. task.now.first + count ≤ task.now.parts) }
 {
     if task.first >= task.parts {
         return Err(Fault::NoPart(task.first, task.parts));
@@ -73,60 +67,31 @@ fn count_of<'a>(task: &Parts<'_>) -> Result<u32, Fault<'a>>
     }
 }
 
-/// Puts so many parts of a file into a folder, from the first one on that is asked for.
-fn put_count<'a, F: PartFolder>(
-    alloc: Global,
-    folder: &mut F,
-    task: &Parts<'a>,
-    count: u32,
-    bytes: &[u8],
-) -> Result<(), Fault<'a>>
-    requires { AsksFor task.now count }
-    ensures { PutsCount task.now count bytes.now (F.puts folder.old) (F.puts folder.new)
-        (F.refusals folder.old) (F.refusals folder.new) result }
-{
-    match put_parts(
-        alloc,
-        folder,
-        task.parts as u64,
-        task.first as u64,
-        count as u64,
-        bytes,
-    ) {
-        Ok(()) => Ok(()),
-        Err(RunFault::Output) => Err(Fault::CannotWrite(task.folder)),
-        Err(fault) => Err(Fault::Run(fault)),
-    }
-}
-
-/// Reads a file, and puts the parts of it that are asked for into a folder.
-fn put_asked<'a, R: Files + AllocGlobal, F: PartFolder>(
+/// Reads a file, and puts the parts of it that are asked for into a folder of the system.
+pub(crate) fn write_parts<'a, R: Files<File = File> + AllocGlobal>(
     rt: &R,
-    folder: &mut F,
     task: &Parts<'a>,
-) -> Result<(), Fault<'a>>
-    ensures { PutsAsked task.now (F.puts folder.old) (F.puts folder.new)
-        (F.refusals folder.old) (F.refusals folder.new) result }
-{
+) -> Result<(), Fault<'a>> {
     let count = match count_of(task) {
         Ok(count) => count,
         Err(fault) => return Err(fault),
     };
     let bytes = read_named(rt, task.file, MOST_BYTES)?;
-    put_count(rt.alloc(), folder, task, count, &bytes)
-}
-
-/// Reads a file, and puts parts of it into a folder of the system.
-pub(crate) fn write_parts<'a, R: Files<File = File> + AllocGlobal>(
-    rt: &R,
-    task: &Parts<'a>,
-) -> Result<(), Fault<'a>>
-    ensures { PerformsParts task.now result }
-{
     let mut folder = SystemParts {
         rt,
         folder: task.folder,
         refusals: Refusals::none(),
     };
-    put_asked(rt, &mut folder, task)
+    match put_parts(
+        rt.alloc(),
+        &mut folder,
+        task.parts as u64,
+        task.first as u64,
+        count as u64,
+        &bytes,
+    ) {
+        Ok(()) => Ok(()),
+        Err(RunFault::Output) => Err(Fault::CannotWrite(task.folder)),
+        Err(fault) => Err(Fault::Run(fault)),
+    }
 }

@@ -1,5 +1,5 @@
 //! A file of the system that a run holds open.
-ghost use Rattle.std.specs.Prelude.{◌≡◌, true, false, None};
+ghost use Rattle.std.specs.Prelude.{◌≡◌, true, None};
 
 use pages::{ByteFile, SystemFile};
 use sessions::Cause;
@@ -19,10 +19,7 @@ pub(crate) struct HeldFile<'a, F = File> {
 
 impl<'a, F: FileExt + OpenFile> HeldFile<'a, F> {
     /// The file of a handle, which is open for what it is to be asked for.
-    pub(crate) fn new(file: F) -> HeldFile<'a, F>
-        ensures refusals { ⟦<HeldFile<'a, F> as ByteFile>⟧.refusals result ≡ 0 }
-        ensures lost { ⟦<HeldFile<'a, F> as ByteFile>⟧.has_lost result ≡ false }
-    {
+    pub(crate) fn new(file: F) -> HeldFile<'a, F> {
         HeldFile {
             file: SystemFile::new(file),
             cause: None,
@@ -30,10 +27,7 @@ impl<'a, F: FileExt + OpenFile> HeldFile<'a, F> {
     }
 
     /// The same, where it is noted why a call on it failed.
-    pub(crate) fn noted(file: F, cause: &'a Cell<Option<Cause>>) -> HeldFile<'a, F>
-        ensures refusals { ⟦<HeldFile<'a, F> as ByteFile>⟧.refusals result ≡ 0 }
-        ensures lost { ⟦<HeldFile<'a, F> as ByteFile>⟧.has_lost result ≡ false }
-    {
+    pub(crate) fn noted(file: F, cause: &'a Cell<Option<Cause>>) -> HeldFile<'a, F> {
         HeldFile {
             file: SystemFile::new(file),
             cause: Some(cause),

@@ -1,7 +1,4 @@
 //! The locks by which runs that work on one store at once tell each other.
-ghost use Rattle.std.specs.Prelude.{IfErr};
-ghost use Rattle.mftb.specs.Unopened.{IsUnheld};
-
 use sessions::{Cause, Fault};
 use std::fs::{File, Metadata, OpenOptions, TryLockError};
 use std::os::unix::fs::MetadataExt;
@@ -30,9 +27,7 @@ pub(crate) struct Held {
 
 /// Takes the lock of a file, at once or not at all, and answers whether it was given: a file system
 /// without locks gives none.
-fn lock<'a>(file: &File, hold: Hold) -> Result<bool, Fault<'a>>
-    ensures { IfErr result IsUnheld }
-{
+fn lock<'a>(file: &File, hold: Hold) -> Result<bool, Fault<'a>> {
     let taken = match hold {
         Hold::Alone => file.try_lock(),
         Hold::Shared => file.try_lock_shared(),
@@ -77,9 +72,7 @@ fn look<'a, R: Files<File = File>>(
     name: &str,
     how: &OpenOptions,
     hold: Hold,
-) -> Result<Met, Fault<'a>>
-    ensures { IfErr result IsUnheld }
-{
+) -> Result<Met, Fault<'a>> {
     let file = match how.open(rt, name) {
         Ok(file) => file,
         Err(error) if error.kind() == io::ErrorKind::NotFound => return Ok(Met::Absent),
@@ -101,9 +94,7 @@ pub(crate) fn open_held<'a, R: Files<File = File>>(
     name: &str,
     how: &OpenOptions,
     hold: Hold,
-) -> Result<Option<Held>, Fault<'a>>
-    ensures { IfErr result IsUnheld }
-{
+) -> Result<Option<Held>, Fault<'a>> {
     for _ in 0..MOST_LOOKS {
         match look(rt, name, how, hold)? {
             Met::Held(held) => return Ok(Some(held)),
@@ -115,9 +106,7 @@ pub(crate) fn open_held<'a, R: Files<File = File>>(
 }
 
 /// One look at a name whose file only has to be there: it is made where there is none.
-fn look_or_make<'a, R: Files<File = File>>(rt: &R, name: &str) -> Result<Met, Fault<'a>>
-    ensures { IfErr result IsUnheld }
-{
+fn look_or_make<'a, R: Files<File = File>>(rt: &R, name: &str) -> Result<Met, Fault<'a>> {
     let mut how = File::options();
     how.read(true);
     match look(rt, name, &how, Hold::Alone)? {
@@ -133,9 +122,7 @@ fn look_or_make<'a, R: Files<File = File>>(rt: &R, name: &str) -> Result<Met, Fa
 }
 
 /// Opens the file of a name, which only has to be there, or makes it, and holds it alone.
-pub(crate) fn hold_name<'a, R: Files<File = File>>(rt: &R, name: &str) -> Result<Held, Fault<'a>>
-    ensures { IfErr result IsUnheld }
-{
+pub(crate) fn hold_name<'a, R: Files<File = File>>(rt: &R, name: &str) -> Result<Held, Fault<'a>> {
     for _ in 0..MOST_LOOKS {
         if let Met::Held(held) = look_or_make(rt, name)? {
             return Ok(held);

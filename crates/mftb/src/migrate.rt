@@ -1,14 +1,10 @@
 //! `mftb migrate`: a store of version 1 is brought over into a new one.
-ghost use Rattle.std.specs.Prelude.{◌≡◌};
-ghost use Rattle.mftb.specs.BroughtOver.{BringsOver, IsUnmigrated, PerformsMigrate};
-
 use crate::names::Names;
 use crate::opening::{is_absent, open_asked, open_in_place};
 use arguments::Migrate;
 use outputs::Output;
 use pages::{FileStore, PageStore};
 use sessions::{Fault, migrate_and_close, send_all};
-use std::alloc::Global;
 use std::fs::File;
 use std::hash::RandomState;
 use std::random::RandomSource;
@@ -16,32 +12,10 @@ use std::rt::Files;
 use trajdb::{OpenFault, RunFault};
 
 /// Why a file is not taken for a new store: it has bytes, or is not opened.
-fn not_new<'a, R: Files<File = File> + AllocGlobal>(rt: &R, name: &str) -> Fault<'a>
-    ensures { IsUnmigrated result }
-{
+fn not_new<'a, R: Files<File = File> + AllocGlobal>(rt: &R, name: &str) -> Fault<'a> {
     match FileStore::open(rt, name) {
         Ok(_) => Fault::NotEmpty,
         Err(_) => Fault::Run(RunFault::Store),
-    }
-}
-
-/// Brings a store of version 1 over into a new one, as `sessions::migrate_and_close` does, and says so. The new one is
-/// given back.
-fn bring_over<'a, S: PageStore, T: PageStore + Drop, O: Output>(
-    alloc: Global,
-    keys: RandomState,
-    old: &mut S,
-    new: T,
-    out: &mut O,
-) -> (T, Result<(), Fault<'a>>)
-    requires { (T.seen new).count ≡ 0 }
-    ensures { BringsOver (S.seen old.old) (S.seen old.new) (T.seen new) (T.seen result.0)
-        (O.seen out.old) (O.seen out.new) result.1 }
-{
-    let (store, migrated) = migrate_and_close(alloc, keys, old, new);
-    match migrated {
-        Ok(()) => (store, send_all(out, "ok 0\n".as_bytes())),
-        Err(fault) => (store, Err(fault)),
     }
 }
 
@@ -51,9 +25,7 @@ pub(crate) fn migrate<'a, R: Files<File = File> + AllocGlobal + RandomSource, O:
     rt: &R,
     migrate: &Migrate<'a>,
     out: &mut O,
-) -> Result<(), Fault<'a>>
-    ensures { PerformsMigrate (O.seen out.old) (O.seen out.new) result }
-{
+) -> Result<(), Fault<'a>> {
     if !is_absent(rt, migrate.new) {
         return Err(not_new(rt, migrate.new));
     }
@@ -69,9 +41,9 @@ pub(crate) fn migrate<'a, R: Files<File = File> + AllocGlobal + RandomSource, O:
     if new.len() != 0 {
         return Err(Fault::NotEmpty);
     }
-    let (_store, brought) = bring_over(rt.alloc(), keys, &mut old, new, out);
+    let (_store, brought) = migrate_and_close(rt.alloc(), keys, &mut old, new);
     match brought {
-        Ok(()) => Ok(()),
+        Ok(()) => send_all(out, "ok 0\n".as_bytes()),
         Err(fault) => Err(names.caused(fault)),
     }
 }

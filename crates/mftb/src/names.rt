@@ -1,13 +1,5 @@
 //! The names of a store and of what lies beside it while a run works on a copy.
-ghost use Rattle.std.specs.Prelude.{◌≡◌, IfErr, IfOk};
-ghost use Rattle.std.specs.String.{string_bytes};
-ghost use Rattle.sessions.specs.Texts.{IsOfStore};
-ghost use Rattle.sessions.specs.declared.fault.Fault.{Fault};
-ghost use Rattle.trajdb.specs.declared.RunFault.{RunFault};
-ghost use Rattle.mftb.specs.Names.{copy_name, lock_name};
-
 use sessions::{Cause, Fault};
-use std::alloc::Global;
 use std::cell::Cell;
 use std::fs::File;
 use std::path::Path;
@@ -29,9 +21,7 @@ pub(crate) struct Names {
 }
 
 /// The name of a store's file, behind links; as it was given where there is none yet.
-fn resolved<'a, R: Files + AllocGlobal>(rt: &R, store: &str) -> Result<String, Fault<'a>>
-    ensures { IfErr result (λ fault. fault ≡ Fault.Run RunFault.Memory) }
-{
+fn resolved<'a, R: Files + AllocGlobal>(rt: &R, store: &str) -> Result<String, Fault<'a>> {
     match fs::canonicalize(rt, store) {
         Ok(path) => Ok(path.into_string()),
         Err(error) => match error.kind() {
@@ -43,13 +33,7 @@ fn resolved<'a, R: Files + AllocGlobal>(rt: &R, store: &str) -> Result<String, F
 
 impl Names {
     /// The names for a store.
-    pub(crate) fn new<'a, R: Files + AllocGlobal>(rt: &R, store: &str) -> Result<Names, Fault<'a>>
-        ensures copy { IfOk result
-            (λ names. string_bytes names.copy ≡ copy_name (string_bytes names.store)) }
-        ensures lock { IfOk result
-            (λ names. string_bytes names.lock ≡ lock_name (string_bytes names.store)) }
-        ensures fault { IfErr result (λ fault. fault ≡ Fault.Run RunFault.Memory) }
-    {
+    pub(crate) fn new<'a, R: Files + AllocGlobal>(rt: &R, store: &str) -> Result<Names, Fault<'a>> {
         let alloc = rt.alloc();
         let store = resolved(rt, store)?;
         let copy = format!(in alloc; "{store}.mftb-copy")?;
@@ -64,10 +48,7 @@ impl Names {
     }
 
     /// A fault, with the cause that was noted where it is one of the store.
-    pub(crate) fn caused<'a>(&self, fault: Fault<'a>) -> Fault<'a>
-        ensures same { (IsOfStore fault.entry → ⊥) → result ≡ fault.entry }
-        ensures store { IsOfStore fault.entry → IsOfStore result }
-    {
+    pub(crate) fn caused<'a>(&self, fault: Fault<'a>) -> Fault<'a> {
         match self.cause.get() {
             Some(cause) if fault.is_of_store() => Fault::NoStore(cause),
             _ => fault,

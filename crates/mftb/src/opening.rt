@@ -1,7 +1,4 @@
 //! How the file of a store is opened, and held, for what a run does with it.
-ghost use Rattle.std.specs.Prelude.{IfErr};
-ghost use Rattle.mftb.specs.Unopened.{IsUnheld};
-
 use crate::held_file::HeldFile;
 use crate::locks::{Hold, open_held};
 use crate::names::Names;
@@ -57,9 +54,7 @@ fn open_file<'a, R: Files<File = File>>(
     name: &str,
     how: &OpenOptions,
     hold: Hold,
-) -> Result<File, Fault<'a>>
-    ensures { IfErr result IsUnheld }
-{
+) -> Result<File, Fault<'a>> {
     match open_held(rt, name, how, hold)? {
         Some(held) => Ok(held.file),
         None => Err(Fault::NoStore(Cause::Absent)),
@@ -67,9 +62,7 @@ fn open_file<'a, R: Files<File = File>>(
 }
 
 /// The store of a file that is read alone.
-fn store_of<'a>(file: File) -> Result<FileStore<HeldFile<'static, File>>, Fault<'a>>
-    ensures { IfErr result IsUnheld }
-{
+fn store_of<'a>(file: File) -> Result<FileStore<HeldFile<'static, File>>, Fault<'a>> {
     match FileStore::new(HeldFile::new(file)) {
         Ok(store) => Ok(store),
         Err(_) => Err(Fault::NoStore(Cause::Other)),
@@ -81,9 +74,7 @@ fn store_of<'a>(file: File) -> Result<FileStore<HeldFile<'static, File>>, Fault<
 pub(crate) fn open_asked<'a, R: Files<File = File>>(
     rt: &R,
     names: &Names,
-) -> Result<ReadOnly<FileStore<HeldFile<'static, File>>>, Fault<'a>>
-    ensures { IfErr result IsUnheld }
-{
+) -> Result<ReadOnly<FileStore<HeldFile<'static, File>>>, Fault<'a>> {
     let name = names.store.as_str();
     let mut how = File::options();
     how.read(true);
@@ -98,9 +89,7 @@ pub(crate) fn open_asked<'a, R: Files<File = File>>(
 pub(crate) fn open_in_place<'a, 'n, R: Files<File = File>>(
     rt: &R,
     names: &'n Names,
-) -> Result<FileStore<HeldFile<'n, File>>, Fault<'a>>
-    ensures { IfErr result IsUnheld }
-{
+) -> Result<FileStore<HeldFile<'n, File>>, Fault<'a>> {
     let mut how = File::options();
     how.read(true).write(true).create(true);
     let file = open_file(rt, names.store.as_str(), &how, Hold::Alone)?;

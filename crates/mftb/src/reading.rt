@@ -1,9 +1,4 @@
 //! What a run reads before it opens a store.
-ghost use Rattle.std.specs.Prelude.{◌≡◌, ℕ, [], List, IfErr, IfOk, OnOk, map};
-ghost use Rattle.trajdb.specs.Files.{files_with};
-ghost use Rattle.sessions.specs.Reading.{IsUnreadFile};
-ghost use Rattle.mftb.specs.Reading.{AreRead, IsOneUnread};
-
 use sessions::{Cause, Fault, MOST_BYTES, read_named};
 use std::fs::File;
 use std::{fs, rt};
@@ -14,11 +9,7 @@ fn add_file<'a, R: rt::Files + AllocGlobal>(
     rt: &R,
     files: &mut Files,
     name: &'a str,
-) -> Result<(), Fault<'a>>
-    ensures added { OnOk result ((bytes : List ℕ)
-        × (files.new ≡ files_with files.old name.now bytes)) }
-    ensures refused { IfErr result (IsUnreadFile name.now) }
-{
+) -> Result<(), Fault<'a>> {
     let bytes = read_named(rt, name, MOST_BYTES)?;
     match files.add(name, bytes) {
         Ok(()) => Ok(()),
@@ -30,10 +21,7 @@ fn add_file<'a, R: rt::Files + AllocGlobal>(
 pub(crate) fn read_files<'a, R: rt::Files + AllocGlobal>(
     rt: &R,
     names: &[&'a str],
-) -> Result<Files, Fault<'a>>
-    ensures read { IfOk result (AreRead [] (map (λ n. n.now) names.now)) }
-    ensures refused { IfErr result (IsOneUnread (map (λ n. n.now) names.now)) }
-{
+) -> Result<Files, Fault<'a>> {
     let mut files = Files::new(rt.alloc());
     for name in names {
         add_file(rt, &mut files, name)?;

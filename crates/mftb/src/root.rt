@@ -1,13 +1,4 @@
 //! What the first page of a store and the root of its tree say.
-ghost use Rattle.std.specs.Prelude.{◌≡◌, ◌≢◌, ◌<◌, ◌⊎◌, ◌↔◌, None, Ok, Some, IfErr, IfOk, IfSome, IsTrue, OnOk};
-ghost use Rattle.std.specs.Option.{option_and_then};
-ghost use Rattle.pages.specs.Store.{Stays};
-ghost use Rattle.pagecache.specs.Cache.{stored_payload};
-ghost use Rattle.header.specs.Front.{finished_front, front_of};
-ghost use Rattle.sessions.specs.declared.fault.Fault.{Fault};
-ghost use Rattle.trajdb.specs.declared.RunFault.{RunFault};
-ghost use Rattle.mftb.specs.PagesRead.{are_coordinates, are_moments, box_of, has_coordinates, is_box_in_range, IsUnread, SaysHeader};
-
 use fixedpoint::Coord;
 use header::{FINISHED, Front, front_of, root_of};
 use legs::Box3;
@@ -27,14 +18,7 @@ pub(crate) struct Header {
 }
 
 /// The payload of a page.
-fn payload_of<'a, S: PageStore>(store: &mut S, number: u32) -> Result<Payload, Fault<'a>>
-    ensures payload { IfOk result (λ payload. IsTrue (S.seen store.old).is_faithful
-        → stored_payload (S.seen store.old) number ≡ Some payload) }
-    ensures below { OnOk result (number < (S.seen store.old).count) }
-    ensures refused { IfErr result (IsUnread number
-        (stored_payload (S.seen store.old) number ≡ None) (S.seen store.old) (S.seen store.new)) }
-    ensures stays { Stays (S.seen store.old) (S.seen store.new) }
-{
+fn payload_of<'a, S: PageStore>(store: &mut S, number: u32) -> Result<Payload, Fault<'a>> {
     if number >= store.len() {
         return Err(Fault::Run(RunFault::Damaged(number)));
     }
@@ -49,14 +33,7 @@ fn payload_of<'a, S: PageStore>(store: &mut S, number: u32) -> Result<Payload, F
 }
 
 /// What page 0 says; refused as damaged where it is no header.
-pub(crate) fn read_header<'a, S: PageStore>(store: &mut S) -> Result<Header, Fault<'a>>
-    ensures says { IfOk result (λ header. IsTrue (S.seen store.old).is_faithful
-        → SaysHeader (S.seen store.old) header) }
-    ensures refused { IfErr result (IsUnread 0
-        (option_and_then front_of (stored_payload (S.seen store.old) 0) ≡ None)
-        (S.seen store.old) (S.seen store.new)) }
-    ensures stays { Stays (S.seen store.old) (S.seen store.new) }
-{
+pub(crate) fn read_header<'a, S: PageStore>(store: &mut S) -> Result<Header, Fault<'a>> {
     let payload = payload_of(store, 0)?;
     match front_of(&payload) {
         Some(front) => Ok(Header {
@@ -68,38 +45,27 @@ pub(crate) fn read_header<'a, S: PageStore>(store: &mut S) -> Result<Header, Fau
 }
 
 /// Whether two bounds are those of coordinates.
-fn are_coordinates(least: i64, greatest: i64) -> bool
-    ensures { result ≡ are_coordinates least greatest }
-{
+fn are_coordinates(least: i64, greatest: i64) -> bool {
     Coord::new(least).is_some() && Coord::new(greatest).is_some()
 }
 
 /// Whether two bounds are those of moments.
-fn are_moments(first: i64, last: i64) -> bool
-    ensures { result ≡ are_moments first last }
-{
+fn are_moments(first: i64, last: i64) -> bool {
     Ms::new(first).is_some() && Ms::new(last).is_some()
 }
 
 /// Whether the edges of a box are coordinates.
-fn has_coordinates(bounds: &Box3) -> bool
-    ensures { result ≡ has_coordinates bounds.now }
-{
+fn has_coordinates(bounds: &Box3) -> bool {
     are_coordinates(bounds.x_min, bounds.x_max) && are_coordinates(bounds.y_min, bounds.y_max)
 }
 
 /// Whether the bounds are those of coordinates and moments.
-fn is_in_range(bounds: &Box3) -> bool
-    ensures { result ≡ is_box_in_range bounds.now }
-{
+fn is_in_range(bounds: &Box3) -> bool {
     has_coordinates(bounds) && are_moments(bounds.t_min, bounds.t_max)
 }
 
 /// The box over the legs below a page of a tree; `None` where it is no page of one, or out of range.
-#[tactic(auto, unfolding(crate::specs::PagesRead::box_of))]
-pub(crate) fn box_below(payload: &Payload) -> Option<Box3>
-    ensures { result ≡ box_of payload.now }
-{
+pub(crate) fn box_below(payload: &Payload) -> Option<Box3> {
     match cover_of(payload) {
         Some(bounds) if is_in_range(&bounds) => Some(bounds),
         _ => None,
@@ -111,18 +77,7 @@ pub(crate) fn box_below(payload: &Payload) -> Option<Box3>
 pub(crate) fn read_extent<'a, S: PageStore>(
     store: &mut S,
     header: &Header,
-) -> Result<Option<Box3>, Fault<'a>>
-    ensures none { ((header.now.root ≡ 0) ⊎ (header.now.front ≢ finished_front))
-        ↔ (result ≡ Ok None) }
-    ensures some { IfOk result (λ extent. IfSome extent (λ bounds.
-        IsTrue (S.seen store.old).is_faithful
-        → option_and_then box_of (stored_payload (S.seen store.old) header.now.root)
-        ≡ Some bounds)) }
-    ensures refused { IfErr result (IsUnread header.now.root
-        (option_and_then box_of (stored_payload (S.seen store.old) header.now.root) ≡ None)
-        (S.seen store.old) (S.seen store.new)) }
-    ensures stays { Stays (S.seen store.old) (S.seen store.new) }
-{
+) -> Result<Option<Box3>, Fault<'a>> {
     let root = header.root;
     if root == 0 || header.front != FINISHED {
         return Ok(None);

@@ -1,14 +1,5 @@
 //! `mftb run`: a script over the database that a file keeps.
-ghost use Rattle.std.specs.Prelude.{◌≡◌, ◌⊎◌, ◌<◌, ◌↔◌, [], Err, None, IfErr, IfOk, IsTrue, false, map, max, true};
-ghost use Rattle.sessions.specs.declared.fault.Fault.{Fault};
-ghost use Rattle.monitor.specs.Notes.{refused_of};
-ghost use Rattle.trajdb.specs.Calls.{HasLoad};
-ghost use Rattle.trajdb.specs.Script.{lines_of};
-ghost use Rattle.trajdb.specs.declared.RunFault.{RunFault};
-ghost use Rattle.mftb.specs.Reading.{AreRead, IsOneUnread};
-ghost use Rattle.mftb.specs.RunAsked.{IsRunBy, IsRunRefused};
-ghost use Rattle.mftb.specs.Running.{IsRun, IsRunInPlace, IsLeftUnsaid, RunsInPlace, AnswersRun};
-ghost use Rattle.mftb.specs.declared.outcome.Outcome.{Outcome};
+ghost use Rattle.std.specs.Prelude.{◌<◌};
 
 use crate::locks::hold_name;
 use crate::names::Names;
@@ -37,15 +28,14 @@ struct Work {
     files: Files,
     names: Names,
     how: Opening,
+    ghost cached: { 0 < how.cache_pages },
 }
 
 /// What a run came to, and why the store was not closed, where that does not say so.
 type Ended<'a> = (Result<(), Fault<'a>>, Option<RunFault>);
 
 /// Whether that fault is what is said of a run.
-fn is_said(said: &Result<(), Fault<'_>>, fault: RunFault) -> bool
-    ensures { IsTrue result ↔ (said.now ≡ Err (Fault.Run fault)) }
-{
+fn is_said(said: &Result<(), Fault<'_>>, fault: RunFault) -> bool {
     match said {
         Err(Fault::Run(ran)) => *ran == fault,
         _ => false,
@@ -53,9 +43,7 @@ fn is_said(said: &Result<(), Fault<'_>>, fault: RunFault) -> bool
 }
 
 /// Why a store was not closed, where the fault of the run does not say so; of a database that failed the run does.
-fn unsaid(said: &Result<(), Fault<'_>>, closed: Result<(), RunFault>) -> Option<RunFault>
-    ensures { IsLeftUnsaid said.now closed result }
-{
+fn unsaid(said: &Result<(), Fault<'_>>, closed: Result<(), RunFault>) -> Option<RunFault> {
     match closed {
         Ok(()) => None,
         Err(fault) => {
@@ -73,11 +61,7 @@ fn run_over<'a, S: PageStore + Drop, O: Output>(
     store: S,
     work: &Work,
     out: &mut O,
-) -> (S, Ended<'a>)
-    requires { 0 < work.now.how.cache_pages }
-    ensures { RunsInPlace work.now (S.seen store) (S.seen result.0) (O.seen out.old)
-        (O.seen out.new) result.1.0 result.1.1 }
-{
+) -> (S, Ended<'a>) {
     let how = work.how;
     let opened = database(how.alloc, how.keys, store, how.is_new, how.cache_pages);
     let (store, said, closed) = answer(how.alloc, opened, &work.script, &work.files, out);
@@ -91,10 +75,7 @@ fn ask<'a, R: rt::Files<File = File> + rt::Clock + Eprint, O: Output>(
     work: &Work,
     progress: &Progress<'_, R>,
     out: &mut O,
-) -> Ended<'a>
-    requires { 0 < work.now.how.cache_pages }
-    ensures { IsRunInPlace work.now (O.seen out.old) (O.seen out.new) result.0 result.1 }
-{
+) -> Ended<'a> {
     sweep(rt, &work.names);
     match open_asked(rt, &work.names) {
         Ok(store) => {
@@ -111,10 +92,7 @@ fn open_and_run<'a, R: rt::Files<File = File> + rt::Clock + Eprint, O: Output>(
     work: &Work,
     progress: &Progress<'_, R>,
     out: &mut O,
-) -> Ended<'a>
-    requires { 0 < work.now.how.cache_pages }
-    ensures { IsRunInPlace work.now (O.seen out.old) (O.seen out.new) result.0 result.1 }
-{
+) -> Ended<'a> {
     match open_in_place(rt, &work.names) {
         Ok(store) => {
             let (_store, ended) = run_over(Noted::new(store, progress), work, out);
@@ -131,10 +109,7 @@ fn run_in_place<'a, R: rt::Files<File = File> + rt::Clock + Eprint, O: Output>(
     work: &Work,
     progress: &Progress<'_, R>,
     out: &mut O,
-) -> Ended<'a>
-    requires { 0 < work.now.how.cache_pages }
-    ensures { IsRunInPlace work.now (O.seen out.old) (O.seen out.new) result.0 result.1 }
-{
+) -> Ended<'a> {
     let names = &work.names;
     let lock = match hold_name(rt, names.lock.as_str()) {
         Err(Fault::InUse) => return (Err(Fault::InUse), None),
@@ -156,10 +131,7 @@ fn run_beside<'a, R: rt::Files<File = File> + rt::Clock + Eprint, O: Output>(
     work: &Work,
     progress: &Progress<'_, R>,
     out: &mut O,
-) -> Result<(), Fault<'a>>
-    requires { 0 < work.now.how.cache_pages }
-    ensures { IsRun work.now (O.seen out.old) (O.seen out.new) result }
-{
+) -> Result<(), Fault<'a>> {
     let mut folder = SystemFolder::take(rt, &work.names, progress)?;
     let result = run_on_copy(&mut folder, work.how, &work.script, &work.files, out);
     folder.give_back();
@@ -167,9 +139,7 @@ fn run_beside<'a, R: rt::Files<File = File> + rt::Clock + Eprint, O: Output>(
 }
 
 /// How a run ended in which so many lines and files were refused.
-fn outcome_of(is_strict: bool, refused: u64) -> Outcome
-    ensures { (result ≡ Outcome.Refused) ↔ (IsTrue is_strict × (0 < refused)) }
-{
+fn outcome_of(is_strict: bool, refused: u64) -> Outcome {
     if is_strict && refused > 0 {
         Outcome::Refused
     } else {
@@ -184,20 +154,7 @@ fn run_as_asked<'a, R: rt::Files<File = File> + rt::Clock + Eprint, O: Output>(
     work: &Work,
     progress: &Progress<'_, R>,
     out: &mut O,
-) -> Ended<'a>
-    requires { 0 < work.now.how.cache_pages }
-    ensures runs { IsRun work.now (O.seen out.old) (O.seen out.new) result.0 }
-
-    // Something is left unsaid only of a store that was run over as it lies there; and where that is asked for, or the
-    // store is there and the script only asks, just what the answer leaves unsaid.
-    ensures unsaid { (result.1 ≡ None)
-        ⊎ IsRunInPlace work.now (O.seen out.old) (O.seen out.new) result.0 result.1 }
-    ensures in_place { IsTrue is_in_place
-        → IsRunInPlace work.now (O.seen out.old) (O.seen out.new) result.0 result.1 }
-    ensures asks { work.now.how.is_new ≡ false
-        → (HasLoad (lines_of work.now.script.items) → ⊥)
-        → IsRunInPlace work.now (O.seen out.old) (O.seen out.new) result.0 result.1 }
-{
+) -> Ended<'a> {
     let how = work.how;
     let loads = match has_load(how.alloc, &work.script) {
         Ok(loads) => loads,
@@ -218,10 +175,7 @@ fn is_without_legs<R: rt::Files<File = File>>(rt: &R, name: &str, is_told: bool)
 }
 
 /// The files that a run may load.
-fn files_of<'a, R: rt::Files + AllocGlobal>(rt: &R, run: &Run<'a>) -> Result<Files, Fault<'a>>
-    ensures read { IfOk result (AreRead [] (map (λ n. n.now) run.now.files.items)) }
-    ensures refused { IfErr result (IsOneUnread (map (λ n. n.now) run.now.files.items)) }
-{
+fn files_of<'a, R: rt::Files + AllocGlobal>(rt: &R, run: &Run<'a>) -> Result<Files, Fault<'a>> {
     read_files(rt, &run.files)
 }
 
@@ -229,16 +183,7 @@ fn files_of<'a, R: rt::Files + AllocGlobal>(rt: &R, run: &Run<'a>) -> Result<Fil
 fn read_work<'a, R: rt::Files<File = File> + AllocGlobal + RandomSource>(
     rt: &R,
     run: &Run<'a>,
-) -> Result<Work, Fault<'a>>
-    ensures some { IfOk result (λ work. 0 < work.how.cache_pages) }
-    ensures cache_pages { IfOk result (λ work. work.how.cache_pages
-        ≡ max run.now.cache_pages 1) }
-    ensures existing { IfOk result (λ work. run.now.is_existing ≡ true
-        → work.how.is_new ≡ false) }
-    ensures files { IfOk result (λ work. AreRead [] (map (λ n. n.now) run.now.files.items)
-        work.files) }
-    ensures refused { IfErr result (IsRunRefused run.now) }
-{
+) -> Result<Work, Fault<'a>> {
     let script = read_named(rt, run.script, MOST_BYTES)?;
     let files = files_of(rt, run)?;
     let Ok(keys) = RandomState::new(rt) else {
@@ -269,11 +214,7 @@ fn told<'a, R: rt::Files<File = File> + Eprint + AllocGlobal + RandomSource>(
     work: &Work,
     notes: &Notes,
     ended: Result<(), Fault<'a>>,
-) -> Result<Outcome, Fault<'a>>
-    ensures says { AnswersRun ended.entry result }
-    ensures strict { IfOk result (λ outcome. (outcome ≡ Outcome.Refused)
-        ↔ (IsTrue run.now.is_strict × (0 < refused_of notes.now))) }
-{
+) -> Result<Outcome, Fault<'a>> {
     let given = Given {
         name: run.script,
         script: &work.script,
@@ -291,11 +232,7 @@ pub(crate) fn run<
     'a,
     R: rt::Files<File = File> + rt::Clock + Eprint + AllocGlobal + RandomSource,
     O: Output + Drop,
->(rt: &R, run: &Run<'a>, out: O, is_terminal: bool) -> (O, Result<Outcome, Fault<'a>>)
-    ensures runs { IsRunBy run.now (O.seen out) (O.seen result.0) result.1 }
-    ensures strict { IfOk result.1 (λ outcome. outcome ≡ Outcome.Refused
-        → IsTrue run.now.is_strict) }
-{
+>(rt: &R, run: &Run<'a>, out: O, is_terminal: bool) -> (O, Result<Outcome, Fault<'a>>) {
     let work = match read_work(rt, run) {
         Ok(work) => work,
         Err(fault) => return (out, Err(fault)),
@@ -312,8 +249,8 @@ pub(crate) fn run<
         let fault = work.names.caused(Fault::Run(fault));
         let _ = eprintln!(rt; "mftb: {fault}");
     }
-    let is_made = ended.is_ok() && is_told && how.is_new;
-    if is_made && has_load(how.alloc, &work.script) == Ok(false) {
+    let is_made = ended.is_ok() && how.is_new && progress.loads() == 0;
+    if is_made && run.telling != Telling::Never {
         tell_made(rt, run.store);
     }
     let (out, notes) = out.into_parts();

@@ -1,10 +1,4 @@
 //! The program, over any runtime and writers.
-ghost use Rattle.std.specs.Prelude.{◌≡◌, ◌↔◌, codes, map, Any, IsTrue};
-ghost use Rattle.std.specs.String.{string_bytes};
-ghost use Rattle.clap.specs.Words.{kind_of};
-ghost use Rattle.mftb.specs.Status.{exit_status};
-ghost use Rattle.mftb.specs.Performing.{ends_as, EndsBy, EndsTask, EndsUnread, Performs};
-
 use crate::check::check;
 use crate::file_part::print_part;
 use crate::file_parts::write_parts;
@@ -19,17 +13,13 @@ use clap::Error;
 use clap::error::ErrorKind;
 use outputs::{CountedOutput, Output};
 use sessions::Fault;
-use std::convert::AsStr;
 use std::fs::File;
 use std::io::{Eprint, Write};
 use std::random::RandomSource;
 use std::rt;
-use std::str::FromStr;
 
 /// How the program ended that has nothing to say of what it did.
-fn done<'a>(ended: Result<(), Fault<'a>>) -> Result<Outcome, Fault<'a>>
-    ensures { result ≡ ends_as ended.entry }
-{
+fn done<'a>(ended: Result<(), Fault<'a>>) -> Result<Outcome, Fault<'a>> {
     match ended {
         Ok(()) => Ok(Outcome::Done),
         Err(fault) => Err(fault),
@@ -41,44 +31,26 @@ fn perform<
     'a,
     R: rt::Files<File = File> + rt::Clock + Eprint + AllocGlobal + RandomSource,
     O: Output + Drop,
->(rt: &R, task: &Task<'a>, mut out: O, is_terminal: bool) -> (O, Result<Outcome, Fault<'a>>)
-    ensures { Performs task.now (O.seen out) (O.seen result.0) result.1 }
-{
+>(rt: &R, task: &Task<'a>, mut out: O, is_terminal: bool) -> (O, Result<Outcome, Fault<'a>>) {
     let ended = match task {
         Task::Run(task) => return run(rt, task, out, is_terminal),
         Task::Check(task) => check(rt, task, &mut out),
         Task::Migrate(task) => migrate(rt, task, &mut out),
         Task::Part(task) => print_part(rt, task, &mut out),
         Task::Parts(task) => write_parts(rt, task),
-        Task::Moments(task) => print_moments(rt, task, &mut out),
+        Task::Moments(task) => print_moments(rt, task, &mut out, is_terminal),
         Task::Info(task) => print_info(rt, task, &mut out),
     };
     (out, done(ended))
 }
 
-/// Whether a word is `--strict`.
-fn is_strict(word: &str) -> bool
-    ensures { IsTrue result ↔ (word.now ≡ codes "--strict") }
-{
-    word == "--strict"
-}
-
 /// Whether one of the words is `--strict`.
-fn has_strict(words: &[String]) -> bool
-    ensures { IsTrue result ↔ Any (λ w. string_bytes w ≡ codes "--strict") words.now }
-{
-    for i in 0..words.len() {
-        if is_strict(words[i].as_str()) {
-            return true;
-        }
-    }
-    false
+fn has_strict(words: &[String]) -> bool {
+    words.iter().any(|word| word.as_str() == "--strict")
 }
 
 /// Says why the words are not read, or gives the help that they ask for: the exit status.
-fn answer_words<W: Write, V: Write>(error: &Error, out: &mut W, faults: &mut V) -> u8
-    ensures { EndsUnread (kind_of error.now) result }
-{
+fn answer_words<W: Write, V: Write>(error: &Error, out: &mut W, faults: &mut V) -> u8 {
     if error.kind() == ErrorKind::OutOfMemory {
         let _ = writeln!(faults, "mftb: memory");
         1
@@ -92,9 +64,7 @@ fn answer_words<W: Write, V: Write>(error: &Error, out: &mut W, faults: &mut V) 
 }
 
 /// The exit status of a task that ended so, where `--strict` is among the words or not.
-fn status_of(ended: &Result<Outcome, Fault<'_>>, is_strict: bool) -> u8
-    ensures { result ≡ exit_status ended.now is_strict }
-{
+fn status_of(ended: &Result<Outcome, Fault<'_>>, is_strict: bool) -> u8 {
     match ended {
         Ok(Outcome::Refused) if is_strict => 3,
         Ok(_) => 0,
@@ -107,9 +77,7 @@ fn answer_task<
     R: rt::Files<File = File> + rt::Clock + Eprint + AllocGlobal + RandomSource,
     W: Write,
     V: Write,
->(rt: &R, task: &Task<'_>, words: &[String], out: &mut W, faults: &mut V, is_terminal: bool) -> u8
-    ensures { EndsTask words.now task.now result }
-{
+>(rt: &R, task: &Task<'_>, words: &[String], out: &mut W, faults: &mut V, is_terminal: bool) -> u8 {
     let before = Before::new(rt, task, is_terminal);
     let (_out, ended) = perform(rt, task, CountedOutput::new(out), is_terminal);
     if let Err(fault) = &ended {
@@ -133,10 +101,7 @@ pub fn start<
     R: rt::Files<File = File> + rt::Clock + Eprint + AllocGlobal + RandomSource,
     W: Write,
     V: Write,
->(rt: &R, words: &[String], out: &mut W, faults: &mut V, is_terminal: bool) -> u8
-    ensures { EndsBy ⟦<u32 as FromStr>⟧.from_str_gives
-        (map ⟦<String as AsStr>⟧.text words.now) words.now result }
-{
+>(rt: &R, words: &[String], out: &mut W, faults: &mut V, is_terminal: bool) -> u8 {
     match read_words(rt.alloc(), words) {
         Ok(task) => answer_task(rt, &task, words, out, faults, is_terminal),
         Err(error) => answer_words(&error, out, faults),

@@ -1,7 +1,6 @@
 //! The folder of a store's file, as the system has it.
-ghost use Rattle.std.specs.Prelude.{◌≡◌, false, None, IfErr, IsTrue, OnOk};
+ghost use Rattle.std.specs.Prelude.{◌≡◌, None, IfErr, IsTrue, OnOk};
 ghost use Rattle.sessions.specs.Folder.{IsOfFolder};
-ghost use Rattle.mftb.specs.Unopened.{IsUnheld};
 
 use crate::held_file::HeldFile;
 use crate::locks::{Held, Hold, hold_name, is_named, open_held};
@@ -47,9 +46,7 @@ pub(crate) struct SystemFolder<'a, 'p, R: Files<File = File> + Clock + Eprint> {
 }
 
 /// Takes a file's name away, where it has one.
-fn remove<'a, R: Files>(rt: &R, name: &str) -> Result<(), Fault<'a>>
-    ensures { IfErr result IsUnheld }
-{
+fn remove<'a, R: Files>(rt: &R, name: &str) -> Result<(), Fault<'a>> {
     match fs::remove_file(rt, name) {
         Ok(()) => Ok(()),
         Err(error) if error.kind() == io::ErrorKind::NotFound => Ok(()),
@@ -58,9 +55,7 @@ fn remove<'a, R: Files>(rt: &R, name: &str) -> Result<(), Fault<'a>>
 }
 
 /// Takes the store's file to be read, where there is one that this run may write as well.
-fn take_store<'a, R: Files<File = File>>(rt: &R, names: &Names) -> Result<Option<File>, Fault<'a>>
-    ensures { IfErr result IsUnheld }
-{
+fn take_store<'a, R: Files<File = File>>(rt: &R, names: &Names) -> Result<Option<File>, Fault<'a>> {
     let mut how = File::options();
     how.read(true).write(true);
     match open_held(rt, names.store.as_str(), &how, Hold::Shared)? {
@@ -70,9 +65,7 @@ fn take_store<'a, R: Files<File = File>>(rt: &R, names: &Names) -> Result<Option
 }
 
 /// Takes away the copy that a killed run left, where the lock says that no run works there.
-fn clear<'a, R: Files<File = File>>(rt: &R, names: &Names, lock: &Held) -> Result<(), Fault<'a>>
-    ensures { IfErr result IsUnheld }
-{
+fn clear<'a, R: Files<File = File>>(rt: &R, names: &Names, lock: &Held) -> Result<(), Fault<'a>> {
     if lock.is_locked {
         return remove(rt, names.copy.as_str());
     }
@@ -84,9 +77,7 @@ fn clear_and_take<'a, R: Files<File = File>>(
     rt: &R,
     names: &Names,
     lock: &Held,
-) -> Result<Option<File>, Fault<'a>>
-    ensures { IfErr result IsUnheld }
-{
+) -> Result<Option<File>, Fault<'a>> {
     clear(rt, names, lock)?;
     take_store(rt, names)
 }
@@ -157,9 +148,7 @@ impl<'a, 'p, R: Files<File = File> + Clock + Eprint> SystemFolder<'a, 'p, R> {
         rt: &'a R,
         names: &'a Names,
         progress: &'a Progress<'p, R>,
-    ) -> Result<SystemFolder<'a, 'p, R>, Fault<'b>>
-        ensures { IfErr result IsUnheld }
-    {
+    ) -> Result<SystemFolder<'a, 'p, R>, Fault<'b>> {
         let lock = hold_name(rt, names.lock.as_str())?;
         match clear_and_take(rt, names, &lock) {
             Ok(store) => Ok(SystemFolder {
@@ -215,9 +204,6 @@ impl<'a, 'p, R: Files<File = File> + Clock + Eprint> SystemFolder<'a, 'p, R> {
 }
 
 impl<'a, 'p, R: Files<File = File> + Clock + Eprint> Folder for SystemFolder<'a, 'p, R> {
-    ghost use Rattle.monitor.specs.Noted.{was_written};
-    ghost use Rattle.sessions.specs.Folder.{HasPagesHeld};
-
     type Store = Noted<'a, 'p, FileStore<HeldFile<'a, File>>, R>;
 
     ghost held = { λ _. None };
@@ -245,12 +231,7 @@ impl<'a, 'p, R: Files<File = File> + Clock + Eprint> Folder for SystemFolder<'a,
     }
 
     /// Whether a page of the copy was to be written.
-    fn differs(&self, store: &Noted<'a, 'p, FileStore<HeldFile<'a, File>>, R>) -> bool
-        ensures held { result ≡ false → HasPagesHeld
-            (⟦<Noted<'a, 'p, FileStore<HeldFile<'a, File>>, R> as PageStore>⟧.seen store.now)
-            (⟦<SystemFolder<'a, 'p, R> as Folder>⟧.held self.now) }
-        ensures noted { result ≡ was_written store.now }
-    {
+    fn differs(&self, store: &Noted<'a, 'p, FileStore<HeldFile<'a, File>>, R>) -> bool {
         store.is_written()
     }
 

@@ -203,7 +203,27 @@ pub(crate) fn tell<R: rt::Files<File = File> + Eprint + AllocGlobal + RandomSour
     }
 }
 
-/// Says that a store was made by a run that loads nothing.
+/// Says why no leg is inside a rectangle in a period, where the store has none there.
+pub(crate) fn tell_elsewhere<R: rt::Files<File = File> + Eprint + AllocGlobal>(
+    rt: &R,
+    store: &str,
+    asked: &Box3,
+) {
+    match reach_of(rt, store) {
+        Reach::Nowhere => {
+            let _ = eprintln!(rt; "mftb: the store has no legs");
+        }
+        Reach::Within(reach) => {
+            if let Ok(Some(words)) = reach_words(rt.alloc(), asked, &reach) {
+                let words = words.as_str();
+                let _ = eprintln!(rt; "mftb: {words}");
+            }
+        }
+        Reach::Unknown => {}
+    }
+}
+
+/// Says that a store was made by a run that has loaded nothing.
 pub(crate) fn tell_made<R: Eprint>(rt: &R, store: &str) {
     let store = Shown(store);
     let _ = eprintln!(rt; "mftb: there was no store {store}: an empty one was made");
@@ -218,7 +238,7 @@ fn store_of<'a>(task: &Task<'a>) -> (&'a str, Telling) {
         Task::Migrate(migrate) => (migrate.new, Telling::OnTerminal),
         Task::Part(part) => (part.file, Telling::OnTerminal),
         Task::Parts(parts) => (parts.file, Telling::OnTerminal),
-        Task::Moments(moments) => (moments.store, Telling::OnTerminal),
+        Task::Moments(moments) => (moments.store, moments.telling),
         Task::Info(info) => (info.store, Telling::OnTerminal),
     }
 }

@@ -7,21 +7,20 @@ use trajdb::{Db, OpenFault};
 /// Bringing a database of version 1 over into a new store: with it `Db::migrate` is a call of
 /// [`Db`].
 pub trait Migrate<T: PageStore> {
-    ghost use Rattle.std.specs.Prelude.{◌≡◌, ◌<◌, ◌≤◌, List, None, IsTrue, IfErr, IfOk, false, true};
+    ghost use Rattle.std.specs.Prelude.{◌≡◌, ◌<◌, ◌≤◌, None, IsTrue, IfErr, IfOk, false, true};
     ghost use Rattle.legs.specs.Book.{Book};
     ghost use Rattle.legs.specs.Costs.{ShapeView};
     ghost use Rattle.legs.specs.Limits.{LimitsView};
     ghost use Rattle.pages.specs.Store.{Stays};
     ghost use Rattle.pagecache.specs.Cache.{stored_payload};
     ghost use Rattle.catalogue.specs.Beginning.{IsLeftOver};
-    ghost use Rattle.version1.specs.Migrating.{IsBrought, IsMigratingFault, IsRightlyFull};
+    ghost use Rattle.version1.specs.Migrating.{IsBrought, IsMigratingFault};
     ghost use Rattle.version1.specs.OldStore.{old_first_fault, present_shape, HoldsOldBook};
     ghost use Rattle.trajdb.specs.Database.{catalogue_of};
     ghost use Rattle.trajdb.specs.Db.{HasPages};
     ghost use Rattle.register.specs.Lasting.{ComesFirst};
     ghost use Rattle.register.specs.Saving.{IsSavingStop};
     ghost use Rattle.trajdb.specs.Lasting.{HasBook};
-    ghost use Rattle.migration.specs.Bringing.{RefusesOld};
 
     /// Brings the database of a finished store of version 1 over into an empty store, with a cache of
     /// at most that many pages, at least 1: the same legs, names, attribute values, base, coordinate
@@ -66,13 +65,6 @@ pub trait Migrate<T: PageStore> {
         ensures brought { IfOk result (λ db. IsTrue (S.seen old.old).is_faithful
             → IsTrue (T.seen new).is_faithful
             → IsBrought (S.seen old.old) (catalogue_of db) db.index) }
-        ensures refuses { IfErr result (λ back. IsTrue (S.seen old.old).is_faithful
-            → IsTrue (T.seen new).is_faithful → RefusesOld (S.seen old.old) back.1) }
-
-        // The new store is said to be full only where it may have no page, or has no room for the legs.
-        ensures full { IfErr result (λ back. back.1 ≡ OpenFault.StoreFull
-            → IsTrue (S.seen old.old).is_faithful → IsTrue (T.seen new).is_faithful
-            → IsRightlyFull (S.seen old.old) (T.seen new) (T.seen back.0)) }
 
         // It has begun: page 0 of the new store says that it is not finished.
         ensures begun { IfOk result (λ db. db.begun ≡ true) }
@@ -88,8 +80,6 @@ pub trait Migrate<T: PageStore> {
 
         // The store of version 1 stays as it is; of the other this is left.
         ensures stays { Stays (S.seen old.old) (S.seen old.new) }
-        ensures most { IfOk result (λ db. db.index.cache.store.most ≡ (T.seen new).most) }
-        ensures capacity { IfOk result (λ db. db.index.cache.capacity ≡ cache_pages) }
         ensures faults { IfOk result (λ db. (T.seen new).faults ≤ db.index.cache.store.faults) }
         ensures left { IfErr result (λ back. IsTrue (S.seen old.old).is_faithful
             → IsTrue (T.seen new).is_faithful → IsLeftOver (T.seen new) (T.seen back.0)) }

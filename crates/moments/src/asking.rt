@@ -1,9 +1,7 @@
 //! The stays that a database tells.
 ghost use Rattle.std.specs.Prelude.{◌≡◌, All, Err, false, IfErr, IfOk, map, OnOk, true};
-ghost use Rattle.legs.specs.Asking.{Recalls};
 ghost use Rattle.legs.specs.Boxes.{box_over};
 ghost use Rattle.legs.specs.Costs.{search_cost};
-ghost use Rattle.legs.specs.Questions.{InBox};
 ghost use Rattle.pages.specs.Store.{Store};
 ghost use Rattle.boxsearch.specs.Index.{words};
 ghost use Rattle.trajdb.specs.Answers.{HoldsOfLeg};
@@ -11,7 +9,6 @@ ghost use Rattle.trajdb.specs.Calls.{Asks, IsRefused, LeavesBook};
 ghost use Rattle.trajdb.specs.Db.{HasPages, IsSoundDb};
 ghost use Rattle.trajdb.specs.Lasting.{IsIdle, IsSafe};
 ghost use Rattle.trajdb.specs.Picks.{Picks};
-ghost use Rattle.trajdb.specs.Telling.{Names};
 ghost use Rattle.trajdb.specs.declared.RunFault.{RunFault};
 ghost use Rattle.predicates.specs.declared.Predicate.{Predicate};
 ghost use Rattle.moments.specs.Asking.{AreTold};
@@ -52,13 +49,10 @@ pub fn stays<S: PageStore>(
     // page that is named is one that was met and is not what it is to be there, or the first one
     // that was met beyond as many as the store has.
     ensures says { IfOk result (λ stays. AreTold words db.old rect.now period.now stays.items) }
-    ensures named { IfErr result (Names words db.old
-        (λ page. words.denies db.old.index (InBox (box_over rect.now period.now)) page)) }
     ensures asks { OnOk result (Asks words db.old db.new
         (search_cost (box_over rect.now period.now))) }
 
     // What the index knew of the leaves of its features it knows afterwards.
-    ensures recalls { Recalls words db.old.index db.new.index }
     ensures leaves { LeavesBook words db.old db.new }
     ensures refused { IfErr result (λ fault. db.old.failed ≡ false
         → IsRefused words db.old db.new fault) }

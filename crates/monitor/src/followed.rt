@@ -1,6 +1,5 @@
 //! An output whose answers are followed.
 ghost use Rattle.std.specs.Prelude.{◌≡◌};
-ghost use Rattle.monitor.specs.Notes.{refused_of, Counts};
 
 use crate::notes::Notes;
 use crate::progress::Progress;
@@ -18,9 +17,7 @@ pub struct Followed<'a, 'b, O: Output + Drop, R: Clock + Eprint> {
 
 impl<'a, 'b, O: Output + Drop, R: Clock + Eprint> Followed<'a, 'b, O, R> {
     /// That output, followed.
-    pub fn new(out: O, progress: &'a Progress<'b, R>, notes: Notes) -> Followed<'a, 'b, O, R>
-        ensures { ⟦<Followed<'a, 'b, O, R> as Output>⟧.seen result ≡ O.seen out }
-    {
+    pub fn new(out: O, progress: &'a Progress<'b, R>, notes: Notes) -> Followed<'a, 'b, O, R> {
         Followed {
             out,
             progress,
@@ -29,16 +26,13 @@ impl<'a, 'b, O: Output + Drop, R: Clock + Eprint> Followed<'a, 'b, O, R> {
     }
 
     /// The output, and what is noted of the answers.
-    pub fn into_parts(self) -> (O, Notes)
-        ensures { O.seen result.0 ≡ ⟦<Followed<'a, 'b, O, R> as Output>⟧.seen self.entry }
-    {
+    pub fn into_parts(self) -> (O, Notes) {
         (self.out, self.notes)
     }
 
     /// An answer was taken.
     fn follow(&mut self, answer: &[u8])
-        ensures out { self.new.out ≡ self.old.out }
-        ensures counts { Counts (refused_of self.old.notes) (refused_of self.new.notes) answer.now }
+        ensures { self.new.out ≡ self.old.out }
     {
         let (place, text) = self.progress.at();
         self.notes.note(answer, place, text, self.progress.legs());

@@ -1,7 +1,4 @@
 //! What is noted of a run's answers, to be said in words.
-ghost use Rattle.std.specs.Prelude.{◌≡◌};
-ghost use Rattle.monitor.specs.Notes.{refused_of, Counts};
-
 use predicates::Predicate;
 use querylang::{Command, parse_line};
 use reasons::Refusal;
@@ -95,9 +92,7 @@ fn doubt_of(alloc: Global, answer: &[u8], text: &[u8], is_empty: bool) -> Option
 
 impl Notes {
     /// No notes of a run over a store that has no legs, or may have some.
-    pub fn new(alloc: Global, is_told: bool, is_empty: bool) -> Notes
-        ensures { refused_of result ≡ 0 }
-    {
+    pub fn new(alloc: Global, is_told: bool, is_empty: bool) -> Notes {
         Notes {
             alloc,
             is_told,
@@ -111,9 +106,7 @@ impl Notes {
     }
 
     /// How many lines and files were refused.
-    pub fn refused(&self) -> u64
-        ensures { result ≡ refused_of self.now }
-    {
+    pub fn refused(&self) -> u64 {
         self.refused
     }
 
@@ -123,9 +116,7 @@ impl Notes {
     }
 
     /// Whether a note of that is to be kept: that the store had no legs is noted once.
-    fn is_new(&mut self, what: What) -> bool
-        ensures { refused_of self.new ≡ refused_of self.old }
-    {
+    fn is_new(&mut self, what: What) -> bool {
         if !self.is_told {
             return false;
         }
@@ -138,9 +129,7 @@ impl Notes {
     }
 
     /// Keeps a note, where there is room for one: whether it is kept. Refusals have room of their own.
-    fn push(&mut self, note: Note, is_refusal: bool) -> bool
-        ensures { refused_of self.new ≡ refused_of self.old }
-    {
+    fn push(&mut self, note: Note, is_refusal: bool) -> bool {
         let doubts = self.doubts;
         let held = if is_refusal {
             self.kept.len().saturating_sub(doubts)
@@ -157,9 +146,7 @@ impl Notes {
     }
 
     /// Keeps a note, or counts a refusal that is not kept.
-    fn keep(&mut self, note: Note)
-        ensures { refused_of self.new ≡ refused_of self.old }
-    {
+    fn keep(&mut self, note: Note) {
         let is_refusal = matches!(note.what, What::Refused(_));
         if !self.push(note, is_refusal) && is_refusal {
             self.missed = self.missed.saturating_add(1);
@@ -167,9 +154,7 @@ impl Notes {
     }
 
     /// Notes what is to be said of the answer to a line, as so many legs were loaded.
-    pub fn note(&mut self, answer: &[u8], place: LineSpan, text: &[u8], legs: u64)
-        ensures { Counts (refused_of self.old) (refused_of self.new) answer.now }
-    {
+    pub fn note(&mut self, answer: &[u8], place: LineSpan, text: &[u8], legs: u64) {
         let is_empty = self.is_empty && legs == 0;
         let what = match self.count(answer) {
             Some(refusal) => Some(What::Refused(refusal)),
@@ -184,9 +169,7 @@ impl Notes {
     }
 
     /// The refusal that an answer is, which is counted.
-    fn count(&mut self, answer: &[u8]) -> Option<Refusal>
-        ensures { Counts (refused_of self.old) (refused_of self.new) answer.now }
-    {
+    fn count(&mut self, answer: &[u8]) -> Option<Refusal> {
         let read = Refusal::read(answer);
         if read.is_some() {
             self.refused = self.refused.saturating_add(1);

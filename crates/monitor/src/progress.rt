@@ -80,7 +80,8 @@ pub struct Progress<'a, R: Clock + Eprint> {
     place: Cell<usize>,
     line: Cell<u64>,
     command: Cell<&'a str>,
-    /// How many legs were loaded.
+    /// How many files were loaded, and how many legs.
+    loads: Cell<u64>,
     legs: Cell<u64>,
     /// How many pages were read or written.
     pages: Cell<u64>,
@@ -132,6 +133,7 @@ impl<'a, R: Clock + Eprint> Progress<'a, R> {
             place: Cell::new(0),
             line: Cell::new(0),
             command: Cell::new(""),
+            loads: Cell::new(0),
             legs: Cell::new(0),
             pages: Cell::new(0),
             due: Cell::new(LONG),
@@ -167,6 +169,11 @@ impl<'a, R: Clock + Eprint> Progress<'a, R> {
             end: self.end.get(),
         };
         (place, place.text_in(self.script))
+    }
+
+    /// How many files were loaded so far.
+    pub fn loads(&self) -> u64 {
+        self.loads.get()
     }
 
     /// How many legs were loaded so far.
@@ -228,7 +235,8 @@ impl<'a, R: Clock + Eprint> Progress<'a, R> {
 
     /// A command was answered so.
     pub fn answered(&self, answer: &[u8]) {
-        if self.command.get() == "load" {
+        if self.command.get() == "load" && answer.starts_with(b"ok ".as_slice()) {
+            self.loads.set(self.loads.get().saturating_add(1));
             self.legs
                 .set(self.legs.get().saturating_add(legs_in(answer)));
         }

@@ -4,6 +4,8 @@
 #[cfg(test)]
 mod cached_bytes;
 #[cfg(test)]
+mod digests_tests;
+#[cfg(test)]
 mod pagecache_tests;
 #[cfg(test)]
 mod pages_tests;

@@ -331,3 +331,76 @@ fn faults_print_sentences(rt: HostRuntime) -> Result<(), Fail> {
     assert!(rt; prints(rt.alloc(), CacheFault::Memory, "memory ran out")?);
     Ok(())
 }
+
+/// A cache with some pages that were added to be changed, each with its number as a byte.
+fn filled(alloc: Global, capacity: usize, pages: u8) -> Result<PageCache<MemStore>, Memory>
+    requires { 0 < capacity }
+{
+    let mut cache = cache_over(alloc, MemStore::new(alloc, 100), capacity)?;
+    for number in 0..pages {
+        let _ = cache.add_changed(with_byte(number));
+    }
+    Ok(cache)
+}
+
+/// How many pages are changed.
+fn changed(cache: &PageCache<MemStore>) -> usize {
+    let mut count = 0usize;
+    for number in 0..cache.count() {
+        if cache.is_changed(number) {
+            count = count.saturating_add(1);
+        }
+    }
+    count
+}
+
+#[test]
+fn eight_pages_are_written_where_one_leaves(rt: HostRuntime) -> Result<(), Fail> {
+    let mut cache = filled(rt.alloc(), 10, 10)?;
+    assert!(rt; changed(&cache) == 10);
+    assert!(rt; cache.add_changed(with_byte(10)) == Ok(10));
+    assert!(rt; changed(&cache) == 3 && cache.held() == 10);
+    assert!(rt; !cache.is_changed(7) && cache.is_changed(8));
+    assert!(rt; byte(&mut cache, 0, PLACE) == Ok(0));
+    Ok(())
+}
+
+#[test]
+fn fewer_than_four_pages_are_written_one_by_one(rt: HostRuntime) -> Result<(), Fail> {
+    let mut cache = filled(rt.alloc(), 3, 3)?;
+    assert!(rt; cache.add_changed(with_byte(3)) == Ok(3));
+    assert!(rt; changed(&cache) == 3 && cache.held() == 3);
+    Ok(())
+}
+
+/// A cache of some capacity over the pages of another one, of which page 3 is damaged.
+fn over_damaged(alloc: Global, capacity: usize) -> Result<PageCache<MemStore>, Memory>
+    requires { 0 < capacity }
+{
+    let mut cache = filled(alloc, 64, 24)?;
+    let _ = cache.flush();
+    let mut store = cache.into_store();
+    let _ = misplace(&mut store, 9, 3);
+    cache_over(alloc, store, capacity)
+}
+
+#[test]
+fn pages_are_brought_at_once(rt: HostRuntime) -> Result<(), Fail> {
+    let mut cache = over_damaged(rt.alloc(), 64)?;
+    assert!(rt; cache.bring(&[2, 3, 4, 5, 5, 6, 99]) == Ok(()));
+    assert!(rt; cache.held() == 4 && cache.asked() == 0);
+    assert!(rt; byte(&mut cache, 3, PLACE) == Err(CacheFault::Damaged(3)));
+    assert!(rt; byte(&mut cache, 6, PLACE) == Ok(6));
+    assert!(rt; cache.held() == 4 && cache.asked() == 2);
+    assert!(rt; cache.bring(&[7, 8, 9]) == Ok(()));
+    assert!(rt; cache.held() == 4);
+    Ok(())
+}
+
+#[test]
+fn a_small_cache_is_brought_nothing(rt: HostRuntime) -> Result<(), Fail> {
+    let mut cache = over_damaged(rt.alloc(), 15)?;
+    assert!(rt; cache.bring(&[4, 5, 6, 7, 8, 9, 10, 11]) == Ok(()));
+    assert!(rt; cache.held() == 0);
+    Ok(())
+}

@@ -73,7 +73,7 @@ pub settled : (c : Cache) → IsSound c → IsSettled c
 settled c s f n u = settled_at c n (in_memory c n) s f refl u
 
 -- the pages as written
-page_of-below : (c : Cache) (n : ℕ) → n < c.count → page_of c n ≡ slice_get c.store.pages n
+pub page_of-below : (c : Cache) (n : ℕ) → n < c.count → page_of c n ≡ slice_get c.store.pages n
 unfolding page_of pages_as_written
 page_of-below c n h = slice_get-take c.count n c.store.pages h
 
@@ -141,7 +141,7 @@ Sets c n w d = (m : ℕ) → in_memory d m ≡ cond (nat_eq n m) (Some w) (in_me
 pub set_here : (c d : Cache) (n : ℕ) (w : Held) → Sets c n w d → in_memory d n ≡ Some w
 set_here c d n w look = look n ∙ ap (λ b. cond b (Some w) (in_memory c n)) (eq-eqb n n refl)
 
-set_other : (c d : Cache) (n m : ℕ) (w : Held) → Sets c n w d → n ≢ m → in_memory d m ≡ in_memory c m
+pub set_other : (c d : Cache) (n m : ℕ) (w : Held) → Sets c n w d → n ≢ m → in_memory d m ≡ in_memory c m
 set_other c d n m w look ne = look m ∙ ap (λ b. cond b (Some w) (in_memory c m)) (ne_eqb n m ne)
 
 -- a page that is not changed is another than one that is

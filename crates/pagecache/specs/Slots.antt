@@ -1,9 +1,11 @@
 -- What is seen of the inner cache, and what holds of it.
-use Rattle.std.specs.Prelude.{ℕ, List, map, filter, false, ◌≡◌, ◌-◌, ◌<◌, ◌≤◌, Some, length, slice_get, IsTrue, IsSome}
+use Rattle.std.specs.Prelude.{ℕ, Bool, List, [], map, slice_index, slice_index_or, filter, false, Option, option_map, IfSome, ◌≡◌, ◌-◌, ◌<◌, ◌≤◌, Some, length, slice_get, IsTrue, IsSome}
 use Rattle.std.specs.Box.{box_value}
 use Rattle.pages.specs.Store as store
+use Rattle.pages.specs.Unsealed.{unsealed}
+use Rattle.pages.specs.declared.payload.Payload.{Payload}
 use Rattle.pages.specs.Store.{Faulted}
-use Rattle.pagecache.specs.Cache.{Cache, in_memory, sealed_payload, is_changed, KeepsPayloads, UnsyncsNone}
+use Rattle.pagecache.specs.Cache.{Cache, in_memory, page_of, sealed_payload, is_changed, KeepsPayloads, UnsyncsNone}
 use Rattle.pagecache.specs.declared.fault.CacheFault.{CacheFault}
 use Rattle.pagecache.specs.declared.fault.CacheFault.TheVariants.{Store}
 use Rattle.pagecache.specs.declared.slots.Held.{Held}
@@ -47,6 +49,18 @@ IsFirst c n = (h : Held) × (slice_get c.held 0 ≡ Some (n, h))
 abbrev pub HasFailed : CacheFault → Cache → Cache → Type 0
 HasFailed fault old new = (fault ≡ Store) × Faulted old.store new.store
 
+-- the payload of page n in memory
+abbrev pub held_payload : Cache → ℕ → Option Payload
+held_payload c n = option_map (λ h. box_value h.payload) (in_memory c n)
+
+-- each page in memory has the payload that it had, and no other page is there
+abbrev pub SameInMemory : Cache → Cache → Type 0
+SameInMemory old new = (n : ℕ) → held_payload new n ≡ held_payload old n
+
+-- a page seals the payload of page n in memory, where that one is there
+abbrev pub Seals : Cache → ℕ → List ℕ → Type 0
+Seals c n page = IfSome (held_payload c n) (λ p. unsealed n page ≡ Some p)
+
 -- what every step inside keeps
 pub record Steps (old new : Cache) : Type 0 where
   pub sound : IsSound new
@@ -57,3 +71,14 @@ pub record Steps (old new : Cache) : Type 0 where
 -- the numbers of the changed pages
 abbrev pub changed_numbers : List (ℕ × Held) → List ℕ
 changed_numbers held = map (λ e. e.0) (filter (λ e. e.1.changed) held)
+
+-- page n is there and not changed, and it is a page as written
+pub record IsRead (c : Cache) (n : ℕ) (page : List ℕ) : Type 0 where
+  pub below : n < c.count
+  pub unchanged : is_changed c n ≡ false
+  pub written : IsTrue c.store.is_faithful → page_of c n ≡ Some page
+
+-- so are those of the first k of some pages that were found
+pub record AreRead (c : Cache) (numbers : List ℕ) (found : List Bool) (pages : List (List ℕ)) (k : ℕ) : Type 0 where
+  pub each : (j : ℕ) → j < k → IsTrue (slice_index_or found j false)
+      → IsRead c (slice_index numbers j) (slice_index_or pages j [])

@@ -4,9 +4,11 @@
 //! leaves only once its write has been answered with `Ok`.
 #![tactic(auto)]
 
+mod bringing;
 mod cache;
 mod fault;
 mod slots;
+mod writing;
 
 pub use cache::PageCache;
 pub use fault::CacheFault;

@@ -16,15 +16,15 @@ use std::num::NonZeroUsize;
 /// A page in memory. The payload is boxed, so that no move of an entry copies 4 KB.
 #[derive(Drop)]
 pub struct Held {
-    payload: Box<Payload>,
+    pub(crate) payload: Box<Payload>,
     /// Whether the page may differ from the page as written.
-    changed: bool,
+    pub(crate) changed: bool,
 }
 
 /// The pages in memory, the one used last first, over the store.
 pub struct Slots<S> {
     pub(crate) store: S,
-    held: LruCache<u32, Held>,
+    pub(crate) held: LruCache<u32, Held>,
     pub(crate) count: u32,
     pub(crate) asked: u64,
     alloc: Global,
@@ -44,7 +44,7 @@ impl<S: Drop> Drop for Slots<S> {
 }
 
 /// A page of zero bytes.
-fn blank() -> [u8; 4096] {
+pub(crate) fn blank() -> [u8; 4096] {
     [0; 4096]
 }
 
@@ -88,29 +88,6 @@ impl<S: PageStore> Slots<S> {
         store
     }
 
-    /// Writes a page that is changed.
-    fn write_back(&mut self, number: u32) -> Result<(), CacheFault>
-        requires { IsSound (seen_of S.seen self.old) }
-        ensures steps { Steps (seen_of S.seen self.old) (seen_of S.seen self.new) }
-        ensures length { SameLength (seen_of S.seen self.old) (seen_of S.seen self.new) }
-        ensures written { OnOk result (is_changed (seen_of S.seen self.new) number ≡ false) }
-        ensures keys { keys_of self.new.held.entries ≡ keys_of self.old.held.entries }
-        ensures cause { IfErr result
-            (λ fault. HasFailed fault (seen_of S.seen self.old) (seen_of S.seen self.new)) }
-    {
-        match self.held.peek_mut(&number) {
-            None => Ok(()),
-            Some(held) => {
-                if held.changed {
-                    let page = seal(number, &*held.payload);
-                    self.store.write(number, &page)?;
-                    held.changed = false;
-                }
-                Ok(())
-            }
-        }
-    }
-
     /// The page that is to be written before another can come in.
     fn leaving(&self) -> Option<u32>
         ensures within { IsWithin (seen_of S.seen self.now) }
@@ -127,8 +104,8 @@ impl<S: PageStore> Slots<S> {
         }
     }
 
-    /// Writes the page that would leave, where it is changed.
-    fn make_room(&mut self) -> Result<(), CacheFault>
+    /// Writes the page that would leave, where it is changed, and others that are to leave soon.
+    pub(crate) fn make_room(&mut self) -> Result<(), CacheFault>
         requires { IsSound (seen_of S.seen self.old) }
         ensures steps { Steps (seen_of S.seen self.old) (seen_of S.seen self.new) }
         ensures length { SameLength (seen_of S.seen self.old) (seen_of S.seen self.new) }
@@ -139,12 +116,12 @@ impl<S: PageStore> Slots<S> {
     {
         match self.leaving() {
             None => Ok(()),
-            Some(number) => self.write_back(number),
+            Some(number) => self.write_leaving(number),
         }
     }
 
     /// Puts a page into memory that is as it was written.
-    fn keep(&mut self, number: u32, payload: Payload) -> Result<(), CacheFault>
+    pub(crate) fn keep(&mut self, number: u32, payload: Payload) -> Result<(), CacheFault>
         requires sound { IsSound (seen_of S.seen self.old) }
         requires below { number < self.old.count }
         requires absent { in_memory (seen_of S.seen self.old) number ≡ None }
@@ -292,25 +269,6 @@ impl<S: PageStore> Slots<S> {
             .filter(|(_, held)| held.changed)
             .map(|(number, _)| *number)
             .collect(self.alloc)
-    }
-
-    /// Writes those of some pages that are changed.
-    fn write_all(&mut self, numbers: &[u32]) -> Result<(), CacheFault>
-        requires { IsSound (seen_of S.seen self.old) }
-        ensures steps { Steps (seen_of S.seen self.old) (seen_of S.seen self.new) }
-        ensures length { SameLength (seen_of S.seen self.old) (seen_of S.seen self.new) }
-        ensures written { OnOk result (EachIndex numbers.now
-            (λ k. is_changed (seen_of S.seen self.new) (slice_index numbers.now k) ≡ false)) }
-        ensures cause { IfErr result
-            (λ fault. HasFailed fault (seen_of S.seen self.old) (seen_of S.seen self.new)) }
-    {
-        for number in numbers {
-            match self.write_back(*number) {
-                Ok(()) => {}
-                Err(fault) => return Err(fault),
-            }
-        }
-        Ok(())
     }
 
     /// Makes the store last.

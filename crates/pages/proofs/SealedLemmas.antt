@@ -1,5 +1,5 @@
 -- The parts of a sealed page.
-use Rattle.std.proofs.Common.{◌≡◌, ℕ, ◌+◌, List, length, take, drop, get_or, refl, sym, ap, ◌∙◌, arith, length-append, Some}
+use Rattle.std.proofs.Common.{◌≡◌, ℕ, ◌+◌, List, ◌++◌, length, take, drop, get_or, refl, sym, ap, ◌∙◌, arith, length-append, Some}
 use Rattle.std.proofs.lemmas.List.{take_at}
 use Rattle.sha2.specs.Sha256.{sha256}
 use Rattle.sha2.proofs.Facts256.{length-sha256}
@@ -39,3 +39,26 @@ pub body_at : (page start body : List ℕ) (n m : ℕ) (p : Payload) → m + 32 
     → start ≡ take m page → body ≡ drop 8 start → page ≡ sealed n p → body ≡ p.bytes
 body_at page start body n m p size s b e =
     b ∙ ap (drop 8) (s ∙ front_of_sealed page n m p size e) ∙ body_of_front n p
+
+-- a page with the digest of its own front
+pub resealed : (page : List ℕ) (n m : ℕ) (p : Payload) (digest : List ℕ) → m + 32 ≡ length page → digest ≡ sha256 (take m page)
+    → front n p ++ digest ≡ page → page ≡ sealed n p
+unfolding sealed
+resealed page n m p digest size e same =
+    let l : length page ≡ length (front n p) + 32 =
+    sym (ap length same) ∙ length-append (front n p) digest ∙ ap (λ (d : List ℕ). length (front n p) + length d) e ∙ ap (λ k. length (front n p) + k) (length-sha256 (take m page)) in
+    let s : m ≡ length (front n p) = omega (arith, l) in
+    let t : take m page ≡ front n p = ap (take m) (sym same) ∙ take_at (front n p) digest m (sym s) in
+    sym same ∙ ap (λ (d : List ℕ). front n p ++ d) (e ∙ ap sha256 t)
+
+pub signed_same : (page : List ℕ) (n m : ℕ) (p : Payload) (digest : List ℕ) → m + 32 ≡ length page → digest ≡ sha256 (take m page)
+    → page ≡ sealed n p → front n p ++ digest ≡ page
+unfolding sealed
+signed_same page n m p digest size e same =
+    ap (λ (d : List ℕ). front n p ++ d) (e ∙ ap sha256 (front_of_sealed page n m p size same)) ∙ sym same
+
+-- a page whose first bytes are a front, and the front's digest behind them
+pub sealed_front : (page : List ℕ) (n m : ℕ) (p : Payload) (digest : List ℕ) → take m page ≡ front n p → digest ≡ sha256 (take m page)
+    → take m page ++ digest ≡ sealed n p
+unfolding sealed
+sealed_front page n m p digest t e = ap (λ (d : List ℕ). take m page ++ d) (e ∙ ap sha256 t) ∙ ap (λ (x : List ℕ). x ++ sha256 (front n p)) t

@@ -6,6 +6,7 @@
 #![tactic(auto)]
 
 mod byte_file;
+mod eights;
 mod file_store;
 mod fuse;
 mod mem_file;
@@ -18,13 +19,14 @@ mod system_file;
 mod unsynced;
 
 pub use byte_file::ByteFile;
+pub use eights::{seal_eight, unseal_eight};
 pub use file_store::FileStore;
 pub use fuse::Fuse;
 pub use mem_file::MemFile;
 pub use mem_store::MemStore;
 pub use payload::{Kind, PageFault, Payload};
 pub use refusals::Refusals;
-pub use sealing::{seal, unseal};
+pub use sealing::{seal, unseal, unseal_with};
 pub use store::{PageStore, StoreFault};
 pub use system_file::SystemFile;
 pub use unsynced::Unsynced;

@@ -1,7 +1,8 @@
 //! Pages as they are written.
-ghost use Rattle.std.specs.Prelude.{◌≡◌, ◌≢◌, length, Some, IfOk, OnErr};
+ghost use Rattle.std.specs.Prelude.{◌≡◌, ◌≢◌, ◌++◌, length, take, Some, IfOk, OnErr};
 ghost use Rattle.std.specs.Option.{ok_or};
 ghost use Rattle.pages.specs.declared.payload.Payload.{Payload};
+ghost use Rattle.digests.specs.Pages.{digest_of};
 ghost use Rattle.pages.specs.Sealed.{front, sealed};
 ghost use Rattle.pages.specs.Unsealed.{unsealed};
 
@@ -45,11 +46,34 @@ pub fn seal(number: u32, payload: &Payload) -> [u8; 4096]
     page
 }
 
-/// The payload whose seal under the number the page is; `Damaged` with the number where there is
-/// none.
-pub fn unseal(number: u32, page: &[u8; 4096]) -> Result<Payload, PageFault>
+/// The page that holds a payload under a number, with other bytes in the place of the digest.
+pub(crate) fn page_with(number: u32, payload: &Payload, digest: &[u8; 32]) -> [u8; 4096]
+    ensures whole { result ≡ front number payload.now ++ digest.now }
+    ensures start { take 4064 result ≡ front number payload.now }
+{
+    let mut page = blank();
+    let (start, end) = page.split_at_mut(4064);
+    put_front(start, number, payload);
+    end.copy_from_slice(digest);
+    page
+}
+
+/// The SHA-256 of all of a page but its digest.
+fn digest(page: &[u8; 4096]) -> [u8; 32]
+    ensures { result ≡ digest_of page.now }
+{
+    Sha256::digest(&page[..4064])
+}
+
+/// What `unseal` gives, where the SHA-256 of the page's first 4,064 bytes is known.
+pub fn unseal_with(number: u32, page: &[u8; 4096], digest: &[u8; 32]) -> Result<Payload, PageFault>
+    // The digest that is given is the page's.
+    requires { digest.now ≡ digest_of page.now }
+    // It is exactly what the definition of a sealed page gives.
     ensures value { result ≡ ok_or (unsealed number page.now) (PageFault.Damaged number) }
+    // A page whose payload is given is the seal of it.
     ensures sealed { IfOk result (λ payload. page.now ≡ sealed number payload) }
+    // A page that is damaged is the seal of no payload.
     ensures damaged { OnErr result ((payload : Payload) → page.now ≢ sealed number payload) }
 {
     let (start, _) = page.split_at(4064);
@@ -60,9 +84,19 @@ pub fn unseal(number: u32, page: &[u8; 4096]) -> Result<Payload, PageFault>
     let mut bytes = blank_bytes();
     bytes.copy_from_slice(body);
     let payload = Payload { kind, bytes };
-    if seal(number, &payload) == *page {
+    if page_with(number, &payload, digest) == *page {
         Ok(payload)
     } else {
         Err(PageFault::Damaged(number))
     }
+}
+
+/// The payload whose seal under the number the page is; `Damaged` with the number where there is
+/// none.
+pub fn unseal(number: u32, page: &[u8; 4096]) -> Result<Payload, PageFault>
+    ensures value { result ≡ ok_or (unsealed number page.now) (PageFault.Damaged number) }
+    ensures sealed { IfOk result (λ payload. page.now ≡ sealed number payload) }
+    ensures damaged { OnErr result ((payload : Payload) → page.now ≢ sealed number payload) }
+{
+    unseal_with(number, page, &digest(page))
 }

@@ -1,6 +1,4 @@
 //! The codes of refusals, and the rule that stands behind each.
-ghost use Rattle.std.specs.Prelude.{◌≡◌};
-
 use std::fmt;
 
 /// The code of a refusal: of a file, as `F18`, or of a line of a script, as `Q4`.
@@ -103,15 +101,8 @@ const CODES: [Code; 30] = [
 ];
 
 impl Code {
-    ghost use Rattle.std.specs.Prelude.{◌≡◌, ◌≢◌, ◌<◌, length, MatchOption};
-    ghost use Rattle.reasons.specs.Codes.{code_text};
-    ghost use Rattle.reasons.specs.declared.codes.Code.{Code};
-
     /// The code of a text, as `F18`; `None` where no code has that text.
-    pub fn read(text: &str) -> Option<Code>
-        ensures { MatchOption result ((code : Code) → code_text code ≢ text.now)
-            (λ code. code_text code ≡ text.now) }
-    {
+    pub fn read(text: &str) -> Option<Code> {
         for code in CODES {
             if code.as_str() == text {
                 return Some(code);
@@ -121,9 +112,7 @@ impl Code {
     }
 
     /// The code as it is printed, as `F18`.
-    pub fn as_str(self) -> &'static str
-        ensures { result.now ≡ code_text self }
-    {
+    pub fn as_str(self) -> &'static str {
         match self {
             Code::F1 => "F1",
             Code::F2 => "F2",
@@ -159,9 +148,7 @@ impl Code {
     }
 
     /// The rule that is broken, in words.
-    pub fn rule(self) -> &'static str
-        ensures { 0 < length result.now }
-    {
+    pub fn rule(self) -> &'static str {
         match self {
             Code::F1 => "a field is not UTF-8",
             Code::F2 => "a header line stands there a second time",
@@ -198,11 +185,6 @@ impl Code {
 }
 
 impl fmt::Display for Code {
-    ghost use Rattle.std.specs.Prelude.{Some};
-    ghost use Rattle.reasons.specs.Codes.{code_text};
-
-    ghost output = { λ c. Some (code_text c) };
-
     fn fmt<W: fmt::Write>(&self, f: &mut fmt::Formatter<W>) -> fmt::Result {
         f.write_str(self.as_str())
     }

@@ -32,7 +32,7 @@ fn reason_of(
         Code::F5 => wrong_start(alloc, found),
         Code::F6 => wrong_unit(alloc, found),
         Code::F7 => wrong_columns(alloc, found),
-        Code::F8 => early_record(alloc, &found.heads),
+        Code::F8 => early_record(alloc, found),
         Code::F9 => other_reference(alloc, found, known),
         Code::F10 => other_columns(alloc, found, known),
         Code::F11 => wrong_fields(alloc, found),

@@ -5,6 +5,7 @@ use crate::finding::{Found, Heads, column_count, has_tag};
 use crate::known::Known;
 use crate::line_reasons::instant_fault;
 use crate::shown::Shown;
+use crate::sources::source_hint;
 use legs::BookHead;
 use mfcsv::{Column, Dimension};
 use std::alloc::{AllocError, Global};
@@ -66,9 +67,9 @@ fn missing(heads: &Heads) -> &'static str {
 }
 
 /// A data record before both header lines.
-pub(crate) fn early_record(alloc: Global, heads: &Heads) -> Result<String, AllocError> {
-    let missing = missing(heads);
-    format!(in alloc; "a data record before {missing}")
+pub(crate) fn early_record(alloc: Global, found: &Found) -> Result<String, AllocError> {
+    let (missing, hint) = (missing(&found.heads), source_hint(found));
+    format!(in alloc; "a data record before {missing}{hint}")
 }
 
 /// A file that ends without both header lines.

@@ -13,6 +13,7 @@ mod reach;
 mod record_reasons;
 mod refusal;
 mod shown;
+mod sources;
 
 pub use codes::Code;
 pub use file_reasons::file_words;

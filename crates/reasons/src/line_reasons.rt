@@ -38,6 +38,12 @@ fn form_of(command: &str) -> (&'static str, usize) {
 }
 
 fn unknown_command(alloc: Global, line: &str) -> Result<String, AllocError> {
+    if line.starts_with('\u{feff}') {
+        return String::from_str(
+            alloc,
+            "the line begins with a byte order mark; save the script without one",
+        );
+    }
     let command = Shown(command_of(line));
     format!(in alloc; "unknown command '{command}'")
 }
@@ -59,7 +65,9 @@ fn wrong_words(alloc: Global, line: &str) -> Result<String, AllocError> {
 
 fn unknown_predicate(alloc: Global, line: &str) -> Result<String, AllocError> {
     let predicate = Shown(word_at(line, 1));
-    format!(in alloc; "unknown predicate '{predicate}'")
+    format!(in alloc;
+        "unknown predicate '{predicate}'; there are ever, always, enters, leaves, crosses and bypasses"
+    )
 }
 
 /// Why a coordinate is not read; `None` where it is.

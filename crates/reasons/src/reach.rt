@@ -1,8 +1,4 @@
 //! Whether a question is asked of where, or of when, a store has legs.
-ghost use Rattle.std.specs.Prelude.{◌≡◌, false, true, IfOk, IsSome, None};
-ghost use Rattle.legs.specs.Boxes.{boxes_meet, intervals_meet, meet_in_plane};
-ghost use Rattle.timebase.specs.Instant.{IsMoment};
-
 use crate::moments::{beside, instant_of};
 use fixedpoint::{Coord, push_coord};
 use legs::Box3;
@@ -11,16 +7,12 @@ use std::str;
 use timebase::Ms;
 
 /// Whether the closed intervals from `a` to `b` and from `c` to `d` meet.
-fn meet(a: i64, b: i64, c: i64, d: i64) -> bool
-    ensures { result ≡ intervals_meet a b c d }
-{
+fn meet(a: i64, b: i64, c: i64, d: i64) -> bool {
     a <= d && c <= b
 }
 
 /// Whether a rectangle meets another one.
-fn meet_in_plane(asked: &Box3, reach: &Box3) -> bool
-    ensures { result ≡ meet_in_plane asked.now reach.now }
-{
+fn meet_in_plane(asked: &Box3, reach: &Box3) -> bool {
     meet(asked.x_min, asked.x_max, reach.x_min, reach.x_max)
         && meet(asked.y_min, asked.y_max, reach.y_min, reach.y_max)
 }
@@ -82,9 +74,7 @@ fn off_in_time(alloc: Global, begin: Ms, end: Ms) -> Result<String, AllocError> 
 }
 
 /// The moments between which a store has legs.
-fn period_in(reach: &Box3) -> Option<(Ms, Ms)>
-    ensures { IsMoment reach.now.t_min → IsMoment reach.now.t_max → IsSome result }
-{
+fn period_in(reach: &Box3) -> Option<(Ms, Ms)> {
     match (Ms::new(reach.t_min), Ms::new(reach.t_max)) {
         (Some(begin), Some(end)) => Some((begin, end)),
         _ => None,
@@ -93,11 +83,11 @@ fn period_in(reach: &Box3) -> Option<(Ms, Ms)>
 
 /// Why a rectangle and a period meet no leg of a store whose legs all lie in that box; `None` where the box does not
 /// tell.
-pub fn reach_words(alloc: Global, asked: &Box3, reach: &Box3) -> Result<Option<String>, AllocError>
-    ensures apart { IfOk result (λ words. IsSome words → boxes_meet asked.now reach.now ≡ false) }
-    ensures meets { IfOk result (λ words. words ≡ None → IsMoment reach.now.t_min
-        → IsMoment reach.now.t_max → boxes_meet asked.now reach.now ≡ true) }
-{
+pub fn reach_words(
+    alloc: Global,
+    asked: &Box3,
+    reach: &Box3,
+) -> Result<Option<String>, AllocError> {
     if !meet_in_plane(asked, reach) {
         return Ok(Some(off_in_plane(alloc, asked, reach)?));
     }

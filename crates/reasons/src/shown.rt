@@ -1,7 +1,4 @@
 //! How a value that someone else wrote is shown.
-ghost use Rattle.std.specs.Prelude.{◌≡◌};
-ghost use Rattle.reasons.specs.Shown.{is_command, is_hidden, is_seen};
-
 use std::fmt;
 
 /// How many characters of a value are shown.
@@ -13,16 +10,12 @@ const MOST: usize = 60;
 pub struct Shown<'a>(pub &'a str);
 
 /// Whether a character may move the cursor, or turn what stands beside it.
-fn is_command(c: char) -> bool
-    ensures { result ≡ is_command c }
-{
+fn is_command(c: char) -> bool {
     c.is_control() || matches!(c, '\u{2028}'..='\u{202e}' | '\u{2066}'..='\u{2069}')
 }
 
 /// Whether a character is not seen, or looks like a space: a byte order mark, a no-break space, one without width.
-fn is_hidden(c: char) -> bool
-    ensures { result ≡ is_hidden c }
-{
+fn is_hidden(c: char) -> bool {
     matches!(
         c,
         '\u{a0}' | '\u{ad}' | '\u{200b}'..='\u{200f}' | '\u{202f}' | '\u{2060}' | '\u{feff}'
@@ -30,9 +23,7 @@ fn is_hidden(c: char) -> bool
 }
 
 /// Whether a character is seen as itself on a terminal.
-pub fn is_seen(c: char) -> bool
-    ensures { result ≡ is_seen c }
-{
+pub fn is_seen(c: char) -> bool {
     !is_command(c) && !is_hidden(c)
 }
 

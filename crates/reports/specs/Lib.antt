@@ -1,4 +1,2 @@
 pub mod Printing
 pub mod StayTexts
-pub mod StorePieces
-pub mod StoreTexts

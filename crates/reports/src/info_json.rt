@@ -1,14 +1,4 @@
 //! What a store holds, as JSON for programs.
-ghost use Rattle.std.specs.Prelude.{◌≡◌, ◌++◌, ◌∷◌, [], ◌/◌, ◌%◌, false, map, IfErr, IfSome, OnOk, codes, decimal, flat_map, option_copied, Some};
-ghost use Rattle.std.specs.Fmt.{digits};
-ghost use Rattle.std.specs.List.{join_with_byte};
-ghost use Rattle.timebase.specs.Instant.{IsMoment};
-ghost use Rattle.timebase.specs.InstantText.{instant_text};
-ghost use Rattle.trajdb.specs.declared.RunFault.{RunFault};
-ghost use Rattle.reports.specs.Printing.{HasCoords, IsPrintable, IsPrintFault};
-ghost use Rattle.reports.specs.StorePieces.{count_members, extent_members, head_members, next_member, store_members};
-ghost use Rattle.reports.specs.StoreTexts.{column_text, columns_text, comma, corners_text, escaped, json_text, member, quoted, string_text};
-
 use crate::info_text::{StoreReport, bytes_of, places};
 use crate::pushed::{push_corners, push_hex, push_moment, push_number, push_text};
 use legs::{BookHead, Box3};
@@ -17,11 +7,7 @@ use timebase::{Ms, push_instant};
 use trajdb::RunFault;
 
 /// Appends a byte below a blank in a string of JSON.
-fn push_control(text: &mut Vec<u8>, byte: u8) -> Result<(), RunFault>
-    ensures text { OnOk result (text.new.items ≡ text.old.items
-        ++ (codes "\\u00" ++ digits 16 false (byte / 16) ++ digits 16 false (byte % 16))) }
-    ensures fault { IfErr result (λ fault. fault ≡ RunFault.Memory) }
-{
+fn push_control(text: &mut Vec<u8>, byte: u8) -> Result<(), RunFault> {
     push_text(text, "\\u00")?;
     push_hex(text, (byte / 16) as u32)?;
     push_hex(text, (byte % 16) as u32)?;
@@ -29,20 +15,14 @@ fn push_control(text: &mut Vec<u8>, byte: u8) -> Result<(), RunFault>
 }
 
 /// Appends a backslash, and a byte.
-fn push_behind_backslash(text: &mut Vec<u8>, byte: u8) -> Result<(), RunFault>
-    ensures text { OnOk result (text.new.items ≡ text.old.items ++ (codes "\\" ++ byte ∷ [])) }
-    ensures fault { IfErr result (λ fault. fault ≡ RunFault.Memory) }
-{
+fn push_behind_backslash(text: &mut Vec<u8>, byte: u8) -> Result<(), RunFault> {
     text.push(b'\\')?;
     text.push(byte)?;
     Ok(())
 }
 
 /// Appends a character of a string of JSON, by a byte of its UTF-8.
-fn push_escaped(text: &mut Vec<u8>, byte: u8) -> Result<(), RunFault>
-    ensures text { OnOk result (text.new.items ≡ text.old.items ++ escaped byte) }
-    ensures fault { IfErr result (λ fault. fault ≡ RunFault.Memory) }
-{
+fn push_escaped(text: &mut Vec<u8>, byte: u8) -> Result<(), RunFault> {
     if byte < b' ' {
         return push_control(text, byte);
     }
@@ -53,10 +33,7 @@ fn push_escaped(text: &mut Vec<u8>, byte: u8) -> Result<(), RunFault>
 }
 
 /// Appends the bytes of a string of JSON.
-fn push_escapes(text: &mut Vec<u8>, bytes: &[u8]) -> Result<(), RunFault>
-    ensures text { OnOk result (text.new.items ≡ text.old.items ++ flat_map escaped bytes.now) }
-    ensures fault { IfErr result (λ fault. fault ≡ RunFault.Memory) }
-{
+fn push_escapes(text: &mut Vec<u8>, bytes: &[u8]) -> Result<(), RunFault> {
     for byte in bytes {
         push_escaped(text, *byte)?;
     }
@@ -64,11 +41,7 @@ fn push_escapes(text: &mut Vec<u8>, bytes: &[u8]) -> Result<(), RunFault>
 }
 
 /// Appends a text as a string of JSON.
-#[tactic(auto, unfolding(crate::specs::StoreTexts::string_text))]
-fn push_string(text: &mut Vec<u8>, said: &str) -> Result<(), RunFault>
-    ensures text { OnOk result (text.new.items ≡ text.old.items ++ string_text said.now) }
-    ensures fault { IfErr result (λ fault. fault ≡ RunFault.Memory) }
-{
+fn push_string(text: &mut Vec<u8>, said: &str) -> Result<(), RunFault> {
     push_text(text, "\"")?;
     push_escapes(text, said.as_bytes())?;
     push_text(text, "\"")?;
@@ -76,10 +49,7 @@ fn push_string(text: &mut Vec<u8>, said: &str) -> Result<(), RunFault>
 }
 
 /// Appends a word as a string of JSON.
-fn push_quoted(text: &mut Vec<u8>, word: &str) -> Result<(), RunFault>
-    ensures text { OnOk result (text.new.items ≡ text.old.items ++ quoted word.now) }
-    ensures fault { IfErr result (λ fault. fault ≡ RunFault.Memory) }
-{
+fn push_quoted(text: &mut Vec<u8>, word: &str) -> Result<(), RunFault> {
     push_text(text, "\"")?;
     push_text(text, word)?;
     push_text(text, "\"")?;
@@ -87,10 +57,7 @@ fn push_quoted(text: &mut Vec<u8>, word: &str) -> Result<(), RunFault>
 }
 
 /// Appends an instant as a string of JSON.
-fn push_quoted_instant(text: &mut Vec<u8>, at: Ms) -> Result<(), RunFault>
-    ensures text { OnOk result (text.new.items ≡ text.old.items ++ quoted (instant_text at)) }
-    ensures fault { IfErr result (λ fault. fault ≡ RunFault.Memory) }
-{
+fn push_quoted_instant(text: &mut Vec<u8>, at: Ms) -> Result<(), RunFault> {
     push_text(text, "\"")?;
     push_instant(text, at)?;
     push_text(text, "\"")?;
@@ -98,11 +65,7 @@ fn push_quoted_instant(text: &mut Vec<u8>, at: Ms) -> Result<(), RunFault>
 }
 
 /// Appends a bound of a box, in milliseconds, as a string of JSON.
-fn push_quoted_moment(text: &mut Vec<u8>, millis: i64) -> Result<(), RunFault>
-    ensures moment { OnOk result (IsMoment millis) }
-    ensures text { OnOk result (text.new.items ≡ text.old.items ++ quoted (instant_text millis)) }
-    ensures fault { IfErr result (IsPrintFault (IsMoment millis)) }
-{
+fn push_quoted_moment(text: &mut Vec<u8>, millis: i64) -> Result<(), RunFault> {
     push_text(text, "\"")?;
     push_moment(text, millis)?;
     push_text(text, "\"")?;
@@ -110,12 +73,7 @@ fn push_quoted_moment(text: &mut Vec<u8>, millis: i64) -> Result<(), RunFault>
 }
 
 /// Appends the bounds of x and y as an array.
-fn push_array(text: &mut Vec<u8>, bounds: &Box3) -> Result<(), RunFault>
-    ensures coords { OnOk result (HasCoords bounds.now) }
-    ensures text { OnOk result (text.new.items
-        ≡ text.old.items ++ (codes "[" ++ corners_text comma bounds.now ++ codes "]")) }
-    ensures fault { IfErr result (IsPrintFault (HasCoords bounds.now)) }
-{
+fn push_array(text: &mut Vec<u8>, bounds: &Box3) -> Result<(), RunFault> {
     push_text(text, "[")?;
     push_corners(text, bounds, b',')?;
     push_text(text, "]")?;
@@ -123,130 +81,77 @@ fn push_array(text: &mut Vec<u8>, bounds: &Box3) -> Result<(), RunFault>
 }
 
 /// Appends the key of a member, and a colon.
-fn push_key(text: &mut Vec<u8>, key: &str) -> Result<(), RunFault>
-    ensures text { OnOk result (text.new.items ≡ text.old.items ++ (quoted key.now ++ codes ":")) }
-    ensures fault { IfErr result (λ fault. fault ≡ RunFault.Memory) }
-{
+fn push_key(text: &mut Vec<u8>, key: &str) -> Result<(), RunFault> {
     push_quoted(text, key)?;
     push_text(text, ":")?;
     Ok(())
 }
 
 /// Appends a member whose value is a number.
-#[tactic(auto, unfolding(crate::specs::StoreTexts::member))]
-fn push_first_number(text: &mut Vec<u8>, key: &str, number: u64) -> Result<(), RunFault>
-    ensures text { OnOk result (text.new.items
-        ≡ text.old.items ++ member key.now (decimal number)) }
-    ensures fault { IfErr result (λ fault. fault ≡ RunFault.Memory) }
-{
+fn push_first_number(text: &mut Vec<u8>, key: &str, number: u64) -> Result<(), RunFault> {
     push_key(text, key)?;
     push_number(text, number)?;
     Ok(())
 }
 
 /// Appends a member whose value is a text.
-#[tactic(auto, unfolding(crate::specs::StoreTexts::member))]
-fn push_first_string(text: &mut Vec<u8>, key: &str, said: &str) -> Result<(), RunFault>
-    ensures text { OnOk result (text.new.items
-        ≡ text.old.items ++ member key.now (string_text said.now)) }
-    ensures fault { IfErr result (λ fault. fault ≡ RunFault.Memory) }
-{
+fn push_first_string(text: &mut Vec<u8>, key: &str, said: &str) -> Result<(), RunFault> {
     push_key(text, key)?;
     push_string(text, said)?;
     Ok(())
 }
 
 /// Appends a comma, the key of a member, and a colon.
-fn push_next_key(text: &mut Vec<u8>, key: &str) -> Result<(), RunFault>
-    ensures text { OnOk result (text.new.items
-        ≡ text.old.items ++ (codes "," ++ (quoted key.now ++ codes ":"))) }
-    ensures fault { IfErr result (λ fault. fault ≡ RunFault.Memory) }
-{
+fn push_next_key(text: &mut Vec<u8>, key: &str) -> Result<(), RunFault> {
     push_text(text, ",")?;
     push_key(text, key)?;
     Ok(())
 }
 
 /// Appends a comma, and a member whose value is a number.
-#[tactic(auto, unfolding(crate::specs::StorePieces::next_member, crate::specs::StoreTexts::member))]
-fn push_next_number(text: &mut Vec<u8>, key: &str, number: u64) -> Result<(), RunFault>
-    ensures text { OnOk result (text.new.items
-        ≡ text.old.items ++ next_member key.now (decimal number)) }
-    ensures fault { IfErr result (λ fault. fault ≡ RunFault.Memory) }
-{
+fn push_next_number(text: &mut Vec<u8>, key: &str, number: u64) -> Result<(), RunFault> {
     push_next_key(text, key)?;
     push_number(text, number)?;
     Ok(())
 }
 
 /// Appends a comma, and a member whose value is a word.
-#[tactic(auto, unfolding(crate::specs::StorePieces::next_member, crate::specs::StoreTexts::member))]
-fn push_next_word(text: &mut Vec<u8>, key: &str, word: &str) -> Result<(), RunFault>
-    ensures text { OnOk result (text.new.items
-        ≡ text.old.items ++ next_member key.now (quoted word.now)) }
-    ensures fault { IfErr result (λ fault. fault ≡ RunFault.Memory) }
-{
+fn push_next_word(text: &mut Vec<u8>, key: &str, word: &str) -> Result<(), RunFault> {
     push_next_key(text, key)?;
     push_quoted(text, word)?;
     Ok(())
 }
 
 /// Appends a comma, and a member whose value is a text.
-#[tactic(auto, unfolding(crate::specs::StorePieces::next_member, crate::specs::StoreTexts::member))]
-fn push_next_string(text: &mut Vec<u8>, key: &str, said: &str) -> Result<(), RunFault>
-    ensures text { OnOk result (text.new.items
-        ≡ text.old.items ++ next_member key.now (string_text said.now)) }
-    ensures fault { IfErr result (λ fault. fault ≡ RunFault.Memory) }
-{
+fn push_next_string(text: &mut Vec<u8>, key: &str, said: &str) -> Result<(), RunFault> {
     push_next_key(text, key)?;
     push_string(text, said)?;
     Ok(())
 }
 
 /// Appends a comma, and a member whose value is an instant.
-#[tactic(auto, unfolding(crate::specs::StorePieces::next_member, crate::specs::StoreTexts::member))]
-fn push_next_instant(text: &mut Vec<u8>, key: &str, at: Ms) -> Result<(), RunFault>
-    ensures text { OnOk result (text.new.items
-        ≡ text.old.items ++ next_member key.now (quoted (instant_text at))) }
-    ensures fault { IfErr result (λ fault. fault ≡ RunFault.Memory) }
-{
+fn push_next_instant(text: &mut Vec<u8>, key: &str, at: Ms) -> Result<(), RunFault> {
     push_next_key(text, key)?;
     push_quoted_instant(text, at)?;
     Ok(())
 }
 
 /// Appends a comma, and a member whose value is a bound of a box in milliseconds.
-#[tactic(auto, unfolding(crate::specs::StorePieces::next_member, crate::specs::StoreTexts::member))]
-fn push_next_moment(text: &mut Vec<u8>, key: &str, millis: i64) -> Result<(), RunFault>
-    ensures moment { OnOk result (IsMoment millis) }
-    ensures text { OnOk result (text.new.items
-        ≡ text.old.items ++ next_member key.now (quoted (instant_text millis))) }
-    ensures fault { IfErr result (IsPrintFault (IsMoment millis)) }
-{
+fn push_next_moment(text: &mut Vec<u8>, key: &str, millis: i64) -> Result<(), RunFault> {
     push_next_key(text, key)?;
     push_quoted_moment(text, millis)?;
     Ok(())
 }
 
 /// Appends a comma, and the member of the bounds of x and y.
-#[tactic(auto, unfolding(crate::specs::StorePieces::next_member, crate::specs::StoreTexts::member))]
-fn push_next_corners(text: &mut Vec<u8>, bounds: &Box3) -> Result<(), RunFault>
-    ensures coords { OnOk result (HasCoords bounds.now) }
-    ensures text { OnOk result (text.new.items ≡ text.old.items
-        ++ next_member (codes "extent") (codes "[" ++ corners_text comma bounds.now ++ codes "]")) }
-    ensures fault { IfErr result (IsPrintFault (HasCoords bounds.now)) }
-{
+fn push_next_corners(text: &mut Vec<u8>, bounds: &Box3) -> Result<(), RunFault> {
     push_next_key(text, "extent")?;
     push_array(text, bounds)?;
     Ok(())
 }
 
 /// Appends a column as an object.
-#[tactic(auto, unfolding(crate::specs::StoreTexts::column_text, crate::specs::StorePieces::next_member, crate::specs::StoreTexts::member))]
-fn push_column(text: &mut Vec<u8>, column: &Column) -> Result<(), RunFault>
-    ensures text { OnOk result (text.new.items ≡ text.old.items ++ column_text column.now) }
-    ensures fault { IfErr result (λ fault. fault ≡ RunFault.Memory) }
-{
+fn push_column(text: &mut Vec<u8>, column: &Column) -> Result<(), RunFault> {
     push_text(text, "{")?;
     push_first_string(text, "name", column.name.as_str())?;
     push_next_string(text, "type", column.kind.as_str())?;
@@ -255,11 +160,7 @@ fn push_column(text: &mut Vec<u8>, column: &Column) -> Result<(), RunFault>
 }
 
 /// Appends columns, a comma before each.
-fn push_more_columns(text: &mut Vec<u8>, columns: &[Column]) -> Result<(), RunFault>
-    ensures text { OnOk result (text.new.items ≡ text.old.items
-        ++ flat_map (λ column. codes "," ++ column_text column) columns.now) }
-    ensures fault { IfErr result (λ fault. fault ≡ RunFault.Memory) }
-{
+fn push_more_columns(text: &mut Vec<u8>, columns: &[Column]) -> Result<(), RunFault> {
     for column in columns {
         push_text(text, ",")?;
         push_column(text, column)?;
@@ -268,11 +169,7 @@ fn push_more_columns(text: &mut Vec<u8>, columns: &[Column]) -> Result<(), RunFa
 }
 
 /// Appends columns, with a comma between two of them.
-fn push_listed_columns(text: &mut Vec<u8>, columns: &[Column]) -> Result<(), RunFault>
-    ensures text { OnOk result (text.new.items ≡ text.old.items
-        ++ join_with_byte comma (map column_text columns.now)) }
-    ensures fault { IfErr result (λ fault. fault ≡ RunFault.Memory) }
-{
+fn push_listed_columns(text: &mut Vec<u8>, columns: &[Column]) -> Result<(), RunFault> {
     match columns.first() {
         Some(first) => {
             push_column(text, first)?;
@@ -283,11 +180,7 @@ fn push_listed_columns(text: &mut Vec<u8>, columns: &[Column]) -> Result<(), Run
 }
 
 /// Appends the columns as an array.
-#[tactic(auto, unfolding(crate::specs::StoreTexts::columns_text))]
-fn push_columns(text: &mut Vec<u8>, columns: &[Column]) -> Result<(), RunFault>
-    ensures text { OnOk result (text.new.items ≡ text.old.items ++ columns_text columns.now) }
-    ensures fault { IfErr result (λ fault. fault ≡ RunFault.Memory) }
-{
+fn push_columns(text: &mut Vec<u8>, columns: &[Column]) -> Result<(), RunFault> {
     push_text(text, "[")?;
     push_listed_columns(text, columns)?;
     push_text(text, "]")?;
@@ -295,23 +188,14 @@ fn push_columns(text: &mut Vec<u8>, columns: &[Column]) -> Result<(), RunFault>
 }
 
 /// Appends a comma, and the member of the columns.
-#[tactic(auto, unfolding(crate::specs::StorePieces::next_member, crate::specs::StoreTexts::member))]
-fn push_next_columns(text: &mut Vec<u8>, columns: &[Column]) -> Result<(), RunFault>
-    ensures text { OnOk result (text.new.items
-        ≡ text.old.items ++ next_member (codes "columns") (columns_text columns.now)) }
-    ensures fault { IfErr result (λ fault. fault ≡ RunFault.Memory) }
-{
+fn push_next_columns(text: &mut Vec<u8>, columns: &[Column]) -> Result<(), RunFault> {
     push_next_key(text, "columns")?;
     push_columns(text, columns)?;
     Ok(())
 }
 
 /// Appends the members of what the first file said of all.
-#[tactic(auto, unfolding(crate::specs::StorePieces::head_members))]
-fn push_head_members(text: &mut Vec<u8>, head: &BookHead) -> Result<(), RunFault>
-    ensures text { OnOk result (text.new.items ≡ text.old.items ++ head_members (Some head.now)) }
-    ensures fault { IfErr result (λ fault. fault ≡ RunFault.Memory) }
-{
+fn push_head_members(text: &mut Vec<u8>, head: &BookHead) -> Result<(), RunFault> {
     push_next_string(text, "crs", head.crs.as_str())?;
     push_next_number(text, "dimension", places(head.dimension))?;
     push_next_instant(text, "start", head.base)?;
@@ -320,12 +204,7 @@ fn push_head_members(text: &mut Vec<u8>, head: &BookHead) -> Result<(), RunFault
 }
 
 /// Appends the members of the first file; without one, they are null.
-#[tactic(auto, unfolding(crate::specs::StorePieces::head_members, crate::specs::StorePieces::next_member, crate::specs::StoreTexts::member))]
-fn push_file_members(text: &mut Vec<u8>, said: &StoreReport<'_>) -> Result<(), RunFault>
-    ensures text { OnOk result (text.new.items
-        ≡ text.old.items ++ head_members (option_copied said.now.head)) }
-    ensures fault { IfErr result (λ fault. fault ≡ RunFault.Memory) }
-{
+fn push_file_members(text: &mut Vec<u8>, said: &StoreReport<'_>) -> Result<(), RunFault> {
     match said.head {
         Some(head) => push_head_members(text, head),
         None => push_text(
@@ -336,13 +215,7 @@ fn push_file_members(text: &mut Vec<u8>, said: &StoreReport<'_>) -> Result<(), R
 }
 
 /// Appends the members of the moments and the places between which all legs lie.
-#[tactic(auto, unfolding(crate::specs::StorePieces::extent_members))]
-fn push_extent_members(text: &mut Vec<u8>, bounds: &Box3) -> Result<(), RunFault>
-    ensures printable { OnOk result (IsPrintable bounds.now) }
-    ensures text { OnOk result (text.new.items
-        ≡ text.old.items ++ extent_members (Some bounds.now)) }
-    ensures fault { IfErr result (IsPrintFault (IsPrintable bounds.now)) }
-{
+fn push_extent_members(text: &mut Vec<u8>, bounds: &Box3) -> Result<(), RunFault> {
     push_next_moment(text, "first", bounds.t_min)?;
     push_next_moment(text, "last", bounds.t_max)?;
     push_next_corners(text, bounds)?;
@@ -350,13 +223,7 @@ fn push_extent_members(text: &mut Vec<u8>, bounds: &Box3) -> Result<(), RunFault
 }
 
 /// Appends the members of the box over all legs; without a leg, they are null.
-#[tactic(auto, unfolding(crate::specs::StorePieces::extent_members, crate::specs::StorePieces::next_member, crate::specs::StoreTexts::member))]
-fn push_box_members(text: &mut Vec<u8>, said: &StoreReport<'_>) -> Result<(), RunFault>
-    ensures printable { OnOk result (IfSome said.now.extent IsPrintable) }
-    ensures text { OnOk result (text.new.items
-        ≡ text.old.items ++ extent_members said.now.extent) }
-    ensures fault { IfErr result (IsPrintFault (IfSome said.now.extent IsPrintable)) }
-{
+fn push_box_members(text: &mut Vec<u8>, said: &StoreReport<'_>) -> Result<(), RunFault> {
     match &said.extent {
         Some(bounds) => push_extent_members(text, bounds),
         None => push_text(text, ",\"first\":null,\"last\":null,\"extent\":null"),
@@ -364,11 +231,7 @@ fn push_box_members(text: &mut Vec<u8>, said: &StoreReport<'_>) -> Result<(), Ru
 }
 
 /// Appends the members of the store, the first of the object among them.
-#[tactic(auto, unfolding(crate::specs::StorePieces::store_members))]
-fn push_store_members(text: &mut Vec<u8>, said: &StoreReport<'_>) -> Result<(), RunFault>
-    ensures text { OnOk result (text.new.items ≡ text.old.items ++ store_members said.now) }
-    ensures fault { IfErr result (λ fault. fault ≡ RunFault.Memory) }
-{
+fn push_store_members(text: &mut Vec<u8>, said: &StoreReport<'_>) -> Result<(), RunFault> {
     push_first_number(text, "version", said.version as u64)?;
     push_next_word(text, "state", "finished")?;
     push_next_number(text, "pages", said.pages as u64)?;
@@ -377,11 +240,7 @@ fn push_store_members(text: &mut Vec<u8>, said: &StoreReport<'_>) -> Result<(), 
 }
 
 /// Appends the members of the counts.
-#[tactic(auto, unfolding(crate::specs::StorePieces::count_members))]
-fn push_count_members(text: &mut Vec<u8>, said: &StoreReport<'_>) -> Result<(), RunFault>
-    ensures text { OnOk result (text.new.items ≡ text.old.items ++ count_members said.now) }
-    ensures fault { IfErr result (λ fault. fault ≡ RunFault.Memory) }
-{
+fn push_count_members(text: &mut Vec<u8>, said: &StoreReport<'_>) -> Result<(), RunFault> {
     push_next_number(text, "legs", said.legs)?;
     push_next_number(text, "features", said.features)?;
     push_next_number(text, "most_legs", said.limits.legs())?;
@@ -390,11 +249,7 @@ fn push_count_members(text: &mut Vec<u8>, said: &StoreReport<'_>) -> Result<(), 
 }
 
 /// Appends one object of JSON, and a line end; without a file, and without a leg, some members are null.
-pub fn push_json(text: &mut Vec<u8>, said: &StoreReport<'_>) -> Result<(), RunFault>
-    ensures printable { OnOk result (IfSome said.now.extent IsPrintable) }
-    ensures text { OnOk result (text.new.items ≡ text.old.items ++ json_text said.now) }
-    ensures fault { IfErr result (IsPrintFault (IfSome said.now.extent IsPrintable)) }
-{
+pub fn push_json(text: &mut Vec<u8>, said: &StoreReport<'_>) -> Result<(), RunFault> {
     push_text(text, "{")?;
     push_store_members(text, said)?;
     push_file_members(text, said)?;

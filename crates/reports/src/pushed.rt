@@ -1,14 +1,4 @@
 //! What is appended to a text in memory.
-ghost use Rattle.std.specs.Prelude.{◌≡◌, ◌++◌, false, IfErr, OnOk, decimal};
-ghost use Rattle.std.specs.Fmt.{digits};
-ghost use Rattle.fixedpoint.specs.Number.{IsInRange};
-ghost use Rattle.fixedpoint.specs.NumberText.{coord_text};
-ghost use Rattle.timebase.specs.Instant.{IsMoment};
-ghost use Rattle.timebase.specs.InstantText.{instant_text};
-ghost use Rattle.trajdb.specs.declared.RunFault.{RunFault};
-ghost use Rattle.reports.specs.Printing.{HasCoords, IsPrintFault};
-ghost use Rattle.reports.specs.StoreTexts.{corners_text};
-
 use fixedpoint::{Coord, push_coord};
 use legs::Box3;
 use std::io::Write;
@@ -16,19 +6,13 @@ use timebase::{Ms, push_instant};
 use trajdb::RunFault;
 
 /// Appends a text.
-pub(crate) fn push_text(text: &mut Vec<u8>, said: &str) -> Result<(), RunFault>
-    ensures text { OnOk result (text.new.items ≡ text.old.items ++ said.now) }
-    ensures fault { IfErr result (λ fault. fault ≡ RunFault.Memory) }
-{
+pub(crate) fn push_text(text: &mut Vec<u8>, said: &str) -> Result<(), RunFault> {
     text.extend_from_slice(said.as_bytes())?;
     Ok(())
 }
 
 /// Appends a number.
-pub(crate) fn push_number(text: &mut Vec<u8>, number: u64) -> Result<(), RunFault>
-    ensures text { OnOk result (text.new.items ≡ text.old.items ++ decimal number) }
-    ensures fault { IfErr result (λ fault. fault ≡ RunFault.Memory) }
-{
+pub(crate) fn push_number(text: &mut Vec<u8>, number: u64) -> Result<(), RunFault> {
     match write!(text, "{number}") {
         Ok(()) => Ok(()),
         Err(_) => Err(RunFault::Memory),
@@ -36,10 +20,7 @@ pub(crate) fn push_number(text: &mut Vec<u8>, number: u64) -> Result<(), RunFaul
 }
 
 /// Appends a number in hexadecimal digits.
-pub(crate) fn push_hex(text: &mut Vec<u8>, number: u32) -> Result<(), RunFault>
-    ensures text { OnOk result (text.new.items ≡ text.old.items ++ digits 16 false number) }
-    ensures fault { IfErr result (λ fault. fault ≡ RunFault.Memory) }
-{
+pub(crate) fn push_hex(text: &mut Vec<u8>, number: u32) -> Result<(), RunFault> {
     match write!(text, "{number:x}") {
         Ok(()) => Ok(()),
         Err(_) => Err(RunFault::Memory),
@@ -47,11 +28,7 @@ pub(crate) fn push_hex(text: &mut Vec<u8>, number: u32) -> Result<(), RunFault>
 }
 
 /// Appends a bound of a box, in units of 10^-7, as a coordinate.
-fn push_bound(text: &mut Vec<u8>, units: i64) -> Result<(), RunFault>
-    ensures range { OnOk result (IsInRange units) }
-    ensures text { OnOk result (text.new.items ≡ text.old.items ++ coord_text units) }
-    ensures fault { IfErr result (IsPrintFault (IsInRange units)) }
-{
+fn push_bound(text: &mut Vec<u8>, units: i64) -> Result<(), RunFault> {
     match Coord::new(units) {
         Some(coord) => Ok(push_coord(text, coord)?),
         None => Err(RunFault::Failed),
@@ -59,11 +36,7 @@ fn push_bound(text: &mut Vec<u8>, units: i64) -> Result<(), RunFault>
 }
 
 /// Appends a bound of a box, in milliseconds, as an instant.
-pub(crate) fn push_moment(text: &mut Vec<u8>, millis: i64) -> Result<(), RunFault>
-    ensures moment { OnOk result (IsMoment millis) }
-    ensures text { OnOk result (text.new.items ≡ text.old.items ++ instant_text millis) }
-    ensures fault { IfErr result (IsPrintFault (IsMoment millis)) }
-{
+pub(crate) fn push_moment(text: &mut Vec<u8>, millis: i64) -> Result<(), RunFault> {
     match Ms::new(millis) {
         Some(at) => Ok(push_instant(text, at)?),
         None => Err(RunFault::Failed),
@@ -71,12 +44,7 @@ pub(crate) fn push_moment(text: &mut Vec<u8>, millis: i64) -> Result<(), RunFaul
 }
 
 /// Appends the bounds of x and y, with a byte between two of them.
-pub(crate) fn push_corners(text: &mut Vec<u8>, bounds: &Box3, between: u8) -> Result<(), RunFault>
-    ensures coords { OnOk result (HasCoords bounds.now) }
-    ensures text { OnOk result (text.new.items
-        ≡ text.old.items ++ corners_text between bounds.now) }
-    ensures fault { IfErr result (IsPrintFault (HasCoords bounds.now)) }
-{
+pub(crate) fn push_corners(text: &mut Vec<u8>, bounds: &Box3, between: u8) -> Result<(), RunFault> {
     push_bound(text, bounds.x_min)?;
     text.push(between)?;
     push_bound(text, bounds.y_min)?;

@@ -1,6 +1,6 @@
 -- What a check and its closing leave, and why they are refused.
 use Rattle.std.proofs.lemmas.Int.{clamps}
-use Rattle.std.proofs.Common.{arith, ℕ, ◌≡◌, ◌≤◌, ◌⊎◌, ◌∙◌, refl, sym, inl, inr, true, false, Bool, Result, Ok, Err, subst}
+use Rattle.std.proofs.Common.{arith, ◌≡◌, ◌≤◌, ◌⊎◌, ◌∙◌, refl, sym, inl, inr, true, false, Bool, Result, Ok, Err, subst}
 use Rattle.std.specs.Prelude.{IsErrOf, OnErr, OnOk}
 use Rattle.legs.specs.Book.{Book}
 use Rattle.legs.specs.Costs.{ShapeView}
@@ -25,13 +25,6 @@ of_load (run.Damaged page) h = h
 of_load run.StoreFull h = absurd h
 of_load run.Failed h = h
 of_load run.Output h = h
-
--- which names no page
-same_fault : (x y : RunFault) → ◌≡◌ {A = Result Report RunFault} (Err x) (Err y) → x ≡ y
-same_fault x y o = cc
-
-pub no_page : (P : Type 0) (e : RunFault) (page : ℕ) → IsLoadFault e → IsErrOf {T = Report} {E = RunFault} (Err e) (run.Damaged page) → P
-no_page P e page h is = absurd (subst IsLoadFault (same_fault e (run.Damaged page) is) h)
 
 -- why a check does not pass, by its store as the closing leaves it
 pub check_fault : (old new : DbView) (s : Store) (e : RunFault) → old.index.cache.store.faults ≤ new.index.cache.store.faults → new.index.cache.store.faults ≤ s.faults

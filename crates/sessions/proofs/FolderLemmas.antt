@@ -1,5 +1,5 @@
 -- What a run on a copy makes of a store's name.
-use Rattle.std.proofs.Common.{ap, ℕ, arith, ◌≤◌, ◌≡◌, ◌⊎◌, ◌∙◌, refl, sym, subst, inl, inr, [], ◌∷◌, true, false, Bool, IsTrue, List, Option, Some, None, Result, Ok, Err}
+use Rattle.std.proofs.Common.{ap, ℕ, ◌≡◌, ◌⊎◌, ◌∙◌, refl, sym, subst, inl, inr, [], ◌∷◌, true, false, Bool, IsTrue, List, Option, Some, None, Result, Ok, Err}
 use Rattle.std.proofs.KnownBytes.{Appends-nil}
 use Rattle.std.specs.Prelude.{is_ok, IfErr, IfOk, IfSome, IsOk, OnErr, OnOk}
 use Rattle.legs.specs.Book.{Book, empty_book}
@@ -21,7 +21,7 @@ use Rattle.register.specs.declared.fault.CatalogueFault.{CatalogueFault}
 use Rattle.trajdb.specs.declared.RunFault.{RunFault}
 use Rattle.sessions.specs.Answers.{said, Answers, ClosesAfter, Ends, FailsToLoad, RunsOver, SendsFront, new_limits, new_shape}
 use Rattle.sessions.specs.declared.fault.Fault.{Fault}
-use Rattle.sessions.specs.Folder.{BeginsWith, History, HoldsNow, IsRefusedBeside, IsRefusedByFolder, Makes, NameIsKept, OpensOrMakes, RunsBeside, store_in}
+use Rattle.sessions.specs.Folder.{BeginsWith, History, HoldsNow, IsRefusedBeside, Makes, NameIsKept, OpensOrMakes, RunsBeside, store_in}
 use Rattle.sessions.proofs.AnswerLemmas.{front_done}
 
 -- what a folder tells of a store's name is faithful
@@ -188,21 +188,6 @@ module _ {S O : Type 0} (seen : S → Store) (shown : O → OutputView) (files :
   pub over_ended : (answered : Result (Unit {0}) Fault) (closed : Result (Unit {0}) RunFault) (o : Result DbView (S × CatalogueFault)) → RunsOver seen shown o files out out' lines answered closed store → IfOk o (λ db. Ended files (shown out).contents (shown out').contents lines store db answered)
   over_ended answered closed (Ok db) h = (h.0, closed, h.1, h.2.ends)
   over_ended answered closed (Err back) h = tt
-
--- what is so of an answer and of all is so of both
-pub on_both : {T E : Type 0} (A B : Type 0) (r : Result T E) → A → OnOk r B → OnOk r (A × B)
-on_both A B (Ok x) a b = (a, b)
-on_both A B (Err e) a b = tt
-
--- what a folder was refused lasts
-pub widened : (first before after last : ℕ) (said : Option Fault) (fault : Fault) → first ≤ before → after ≤ last → IsRefusedByFolder before after said fault → IsRefusedByFolder first last said fault
-widened first before after last said fault early late h = (h.0, (let rises = h.1 in omega (arith, early, late, rises)), h.2)
-
--- a run that is answered is refused as its folder refuses it
-pub refused_by_folder : (first before after : ℕ) (said : Option Fault) (answered r : Result (Unit {0}) Fault) → first ≤ before → answered ≡ Ok tt → IfErr r (IsRefusedByFolder before after said)
-    → IfErr r (λ fault. (answered ≡ Err fault) ⊎ ((answered ≡ Ok tt) × IsRefusedByFolder first after said fault))
-refused_by_folder first before after said answered (Ok x) later is named = tt
-refused_by_folder first before after said answered (Err fault) later is named = inr (is, widened first before after after said fault later (omega arith) named)
 
 -- a database is made, or it is not, of a store without pages
 pub made_or_not : {S : Type 0} (seen : S → Store) (pages : ℕ) (r : Result DbView (S × CatalogueFault)) (s : Store)

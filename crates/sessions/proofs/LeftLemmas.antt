@@ -3,9 +3,6 @@ use Rattle.std.proofs.Common.{arith, ℕ, ◌≡◌, ◌<◌, ◌≤◌, ◌⊎�
 use Rattle.std.proofs.lemmas.Int.{clamps}
 use Rattle.std.proofs.lemmas.List.{take_all}
 use Rattle.std.specs.Prelude.{IfErr, IsErrOf, OnErr, OnOk}
-use Rattle.legs.specs.Book.{Book}
-use Rattle.legs.specs.Costs.{ShapeView}
-use Rattle.legs.specs.Limits.{LimitsView}
 use Rattle.pages.specs.Store.{Store, Faulted, IsSynced}
 use Rattle.boxsearch.specs.Index.{words}
 use Rattle.catalogue.specs.Holding.{HoldsBook, HoldsButFirst, IsUnfinishedStore}

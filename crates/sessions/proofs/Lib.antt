@@ -1,5 +1,4 @@
 pub mod AnswerLemmas
-pub mod BroughtLemmas
 pub mod CheckLemmas
 pub mod FolderLemmas
 mod LeftLemmas

@@ -6,15 +6,11 @@ use Rattle.legs.specs.Costs.{ShapeView}
 use Rattle.legs.specs.Limits.{limits_of, LimitsView}
 use Rattle.outputs.specs.Output.{OutputView}
 use Rattle.pages.specs.Store.{Store, Faulted, IsSynced}
-use Rattle.boxsearch.specs.Index.{written, IndexView, words}
-use Rattle.catalogue.specs.Holding.{HoldsBook, HoldsButFirst, HoldsIndex, HoldsIndexButFirst, IsUnfinishedStore}
+use Rattle.boxsearch.specs.Index.{written, words}
+use Rattle.catalogue.specs.Holding.{HoldsBook, HoldsButFirst, IsUnfinishedStore}
 use Rattle.catalogue.specs.Beginning.{IsLeftOver}
-use Rattle.version1.specs.Migrating.{IsBrought, IsMigratingFault}
-use Rattle.register.specs.Earlier.{AddsFew, HasNoRoom}
-use Rattle.register.specs.Saved.{CatalogueView}
-use Rattle.register.specs.Saving.{contents_of}
-use Rattle.register.specs.Text.{catalogue_text}
-use Rattle.trajdb.specs.Calls.{IsLoadFault, LoadsBy, LoadsWholeSome, Speaks}
+use Rattle.version1.specs.Migrating.{IsMigratingFault}
+use Rattle.trajdb.specs.Calls.{IsLoadFault, LoadsBy, Speaks}
 use Rattle.trajdb.specs.Db.{page_count_of, shape_of, store_of, DbView, HasPages, IsSoundDb}
 use Rattle.trajdb.specs.Faults.{IsNotOutput}
 use Rattle.trajdb.specs.Lasting.{IsFaultless, IsIdle, IsSafe, IsSafeStore}
@@ -141,17 +137,6 @@ abbrev pub RunBegins : DbView → List (List ℕ × List ℕ) → List (List ℕ
 RunBegins db files lines =
     (db.begun ≡ true) ⊎ (IsSoundDb db × AcceptsSome db.limits files db.book lines)
 
--- no line begins it: it is sound, and no file is accepted, or no line is a `load` of a file without a fault of its text
-abbrev pub NoneBegins : DbView → List (List ℕ × List ℕ) → List (List ℕ) → Type 0
-NoneBegins db files lines =
-    (IsSoundDb db × (AcceptsSome db.limits files db.book lines → ⊥))
-    ⊎ (LoadsWholeSome files lines → ⊥)
-
--- no line is a `load` of a file that is there
-abbrev pub OnlyAsks : List (List ℕ × List ℕ) → List (List ℕ) → Type 0
-OnlyAsks files lines =
-    (k : ℕ) → k < length lines → LoadsBy files (slice_index_or lines k []) → ⊥
-
 -- how a run and its closing are answered: the run's own fault comes first
 abbrev pub said : Result (Unit {0}) RunFault → Result (Unit {0}) RunFault → Result (Unit {0}) Fault
 said (Ok x) (Ok y) = Ok tt
@@ -214,34 +199,6 @@ IsCheckFault db left (run.Damaged page) = Unit {0}
 IsCheckFault db left run.StoreFull = (db.begun ≡ true) × (left.count ≡ left.most)
 IsCheckFault db left run.Failed = (db.failed ≡ true) ⊎ (words.is_spent db.index ≡ true)
 IsCheckFault db left run.Output = ⊥
-
--- a finished store of version 1, whose pages keep a catalogue, and chains of leaves that hold one list of legs, is
--- brought over: the new store keeps that catalogue, and an index of these legs, and has no page more than these take,
--- and the text of the catalogue
-pub record BringsWhole (old left : Store) : Type 0 where
-  pub catalogue : CatalogueView
-  pub index : IndexView
-  pub brought : IsBrought old catalogue index
-  pub kept : HoldsIndex left catalogue index
-  pub few : AddsFew index.cache.count
-      (catalogue_text (contents_of catalogue index.places)) [] left.count
-
--- such a one is not brought over, as the closing is refused: the new store is not finished, or all of its pages but page 0
--- are those of one that keeps that catalogue and an index of these legs, and are synced
-pub record BringsButFirst (old left : Store) : Type 0 where
-  pub catalogue : CatalogueView
-  pub index : IndexView
-  pub brought : IsBrought old catalogue index
-  pub behind : IsUnfinishedStore left ⊎ HoldsIndexButFirst left catalogue index
-
--- such a one is brought over, and not closed, as the new store is full: it may have fewer pages than these legs take,
--- and the text of the catalogue
-pub record BringsTooMuch (old new : Store) : Type 0 where
-  pub catalogue : CatalogueView
-  pub index : IndexView
-  pub brought : IsBrought old catalogue index
-  pub full : HasNoRoom index.cache.count new.most
-      (catalogue_text (contents_of catalogue index.places)) []
 
 -- a store failed, or is full, where that is said of bringing one over: either store, or in the closing the new one
 abbrev pub IsOverFault : (old after new left : Store) → Fault → Type 0

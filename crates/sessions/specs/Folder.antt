@@ -1,9 +1,8 @@
 -- What the name of a store stands for, from moment to moment, and what a run makes of it.
-use Rattle.std.specs.Prelude.{ℕ, ◌≡◌, ◌<◌, ◌⊎◌, ◌^◌, ◌-◌, List, [], ◌∷◌, length, Bool, Option, Some, None, IfErr, IfSome, IsErr, IsTrue, OnOk, Err, Ok, Result, false, true, ⊤}
+use Rattle.std.specs.Prelude.{ℕ, ◌≡◌, ◌<◌, ◌⊎◌, ◌^◌, ◌-◌, List, [], ◌∷◌, length, Bool, Option, Some, None, IfSome, IsTrue, Err, Ok, Result, false, true, ⊤}
 use Rattle.legs.specs.Book.{Book, empty_book}
 use Rattle.legs.specs.Costs.{ShapeView}
 use Rattle.legs.specs.Limits.{LimitsView}
-use Rattle.outputs.specs.Output.{OutputView}
 use Rattle.pages.specs.Sealed.{sealed}
 use Rattle.pages.specs.Store.{Store, HasRisen, IsSynced, Keeps, Writes}
 use Rattle.pages.specs.declared.unsynced.Unsynced.TheVariants.{Others}
@@ -20,7 +19,7 @@ use Rattle.trajdb.specs.Run.{HasRun}
 use Rattle.register.specs.declared.fault.CatalogueFault.{CatalogueFault}
 use Rattle.trajdb.specs.declared.RunFault.{RunFault}
 use Rattle.trajdb.specs.declared.RunFault.TheVariants.{Memory, Store as StoreFailed}
-use Rattle.sessions.specs.Answers.{Answers, RunsOver, new_limits, new_shape}
+use Rattle.sessions.specs.Answers.{Answers, new_limits, new_shape}
 use Rattle.sessions.specs.declared.fault.Fault.{Fault}
 use Rattle.sessions.specs.declared.fault.Fault.TheVariants.{Bounds, CannotRead, CannotWrite, InUse, NoPart, NoStore, NoSuchStore, NotEmpty, Open, Run}
 
@@ -108,12 +107,6 @@ abbrev pub IsRefusedByFolder : (before after : ℕ) (last : Option Fault) → Fa
 IsRefusedByFolder before after last fault =
     IsOfFolder fault × HasRisen before after × (last ≡ Some fault)
 
--- a run is refused so, before there is a database
-abbrev pub IsRefusedEarly : (before after : ℕ) (last : Option Fault)
-    → Result (Unit {0}) Fault → Type 0
-IsRefusedEarly before after last result =
-    IsErr result × IfErr result (IsRefusedByFolder before after last)
-
 -- how a run on a copy over a book is refused: nothing was sent of it, or all was, or it says which kind of fault it is: of
 -- the output, want of memory, or of a store that failed or is full; that it is so, this does not say
 abbrev pub IsRefusedBeside : LimitsView → Book → List (List ℕ × List ℕ)
@@ -155,24 +148,3 @@ pub record OpensOrMakes {S : Type 0} (seen : S → Store) (store : Store) (is_ne
     (cache_pages : ℕ) (opened : Result DbView (S × CatalogueFault)) : Type 0 where
   pub opens : (is_new ≡ false) ⊎ (0 < store.count) → OpenCall seen store cache_pages opened
   pub makes : IsTrue is_new → store.count ≡ 0 → Makes seen store cache_pages opened
-
--- a run on a copy of what the name stood for, whatever that held: it was opened, or made a database (`OpensOrMakes`), run over
--- and closed (`RunsOver`). Where that is answered, the name is kept as
--- `NameIsKept` says; it is refused as that was, or as the folder did not make it last, or give it the name
-pub record RunsOnCopy {S O : Type 0} (seen : S → Store) (shown : O → OutputView)
-    (is_new : Bool) (cache_pages before after : ℕ) (last : Option Fault)
-    (old new : Option History)
-    (files : List (List ℕ × List ℕ)) (out out' : O) (lines : List (List ℕ))
-    (result : Result (Unit {0}) Fault) : Type 0 where
-  pub copy : Store
-  pub copies : IfSome old (λ past. copy ≡ store_in past)
-  pub opened : Result DbView (S × CatalogueFault)
-  pub opens : OpensOrMakes seen copy is_new cache_pages opened
-  pub answered : Result (Unit {0}) Fault
-  pub closed : Result (Unit {0}) RunFault
-  pub store : Store
-  pub run : RunsOver seen shown opened files out out' lines answered closed store
-  pub kept : OnOk result ((answered ≡ Ok tt) × NameIsKept store old new)
-  pub refused : IfErr result
-      (λ fault. (answered ≡ Err fault)
-      ⊎ ((answered ≡ Ok tt) × IsRefusedByFolder before after last fault))

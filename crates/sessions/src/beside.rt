@@ -1,11 +1,11 @@
 //! A run that works on a copy beside the store.
-ghost use Rattle.std.specs.Prelude.{◌≡◌, ◌<◌, ◌⊎◌, ◌+◌, ◌-◌, ◌^◌, min, IfErr, IfSome, IsTrue, OnErr, OnOk, false};
+ghost use Rattle.std.specs.Prelude.{◌≡◌, ◌<◌, ◌+◌, ◌-◌, ◌^◌, min, IfErr, IfSome, IsTrue, OnErr, OnOk, false};
 ghost use Rattle.legs.specs.Book.{Book};
 ghost use Rattle.legs.specs.Costs.{ShapeView};
 ghost use Rattle.legs.specs.Limits.{LimitsView};
 ghost use Rattle.trajdb.specs.Script.{lines_of};
 ghost use Rattle.sessions.specs.Answers.{SendsFront};
-ghost use Rattle.sessions.specs.Folder.{BeginsWith, NameIsKept, IsRefusedEarly, IsRefusedByFolder, IsRefusedBeside, IsReplaced, RunsBeside, RunsOnCopy, store_in};
+ghost use Rattle.sessions.specs.Folder.{BeginsWith, NameIsKept, IsRefusedByFolder, IsRefusedBeside, IsReplaced, RunsBeside, store_in};
 
 use crate::fault::Fault;
 use crate::folder::Folder;
@@ -103,16 +103,6 @@ pub fn run_on_copy<'a, F: Folder, O: Output>(
         → BeginsWith how.is_new (store_in past) shape limits book
         → RunsBeside shape limits book files.now (O.seen out.old).contents
         (O.seen out.new).contents (lines_of script.now) (F.held folder.old) (F.held folder.new))) }
-
-    // Whatever the store held, a call of the folder was refused, which says why, and nothing was sent, or a database over
-    // the copy was opened or refused, run over and closed, and the name given to what that left, or not.
-    ensures over { (IsRefusedEarly (F.refusals folder.old) (F.refusals folder.new)
-        (F.last_fault folder.new) result
-        × (O.seen out.new ≡ O.seen out.old))
-        ⊎ RunsOnCopy F.Store.PageStore.seen O.seen how.is_new how.cache_pages
-        (F.refusals folder.old) (F.refusals folder.new) (F.last_fault folder.new)
-        (F.held folder.old) (F.held folder.new) files.now out.old out.new (lines_of script.now)
-        result }
 
     // The name is on the disk as far as the system can make it so.
     ensures settled { OnOk result (IsTrue (F.is_settled folder.old)

@@ -1,9 +1,8 @@
 //! A database that is checked, and closed.
-ghost use Rattle.std.specs.Prelude.{ℕ, ◌≡◌, false, true, IfErr, IfOk, IsErrOf, IsTrue, OnOk};
+ghost use Rattle.std.specs.Prelude.{◌≡◌, false, true, IfErr, IfOk, IsTrue, OnOk};
 ghost use Rattle.pages.specs.Store.{IsSynced};
 ghost use Rattle.catalogue.specs.Holding.{HoldsBook};
 ghost use Rattle.trajdb.specs.Calls.{IsLoadFault, IsQuestionFault};
-ghost use Rattle.trajdb.specs.Checking.{IsFirstFault};
 ghost use Rattle.trajdb.specs.Db.{shape_of, store_of, HasPages, IsSoundDb};
 ghost use Rattle.trajdb.specs.Lasting.{IsIdle};
 ghost use Rattle.sessions.specs.Answers.{Checks, ChecksAndCloses, HasWritten, HoldsOrNot};
@@ -52,8 +51,6 @@ pub fn check_and_close<S: PageStore>(
         → IsQuestionFault fault) }
     ensures stops { IfErr result.1 (λ fault. IsSoundDb database → HasPages database
         → IsIdle database → database.failed ≡ false → IsLoadFault fault) }
-    ensures named { IsTrue (store_of database).is_faithful
-        → (page : ℕ) → IsErrOf result.1 (RunFault.Damaged page) → IsFirstFault database page }
     ensures caused { IfErr result.1 (IsCheckFault database (S.seen result.0)) }
 {
     let checked = database.check();

@@ -1,5 +1,5 @@
 //! Why the program failed.
-ghost use Rattle.std.specs.Prelude.{◌≡◌, ◌≤◌, ◌↔◌, IsTrue};
+ghost use Rattle.std.specs.Prelude.{◌≡◌, ◌↔◌, IsTrue};
 ghost use Rattle.sessions.specs.Texts.{bounds_words, status_of, IsOfStore};
 
 use crate::cause::Cause;

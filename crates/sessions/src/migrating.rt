@@ -1,21 +1,15 @@
 //! A store of version 1 that is brought over into a new one, and closed.
-ghost use Rattle.std.specs.Prelude.{◌≡◌, ◌⊎◌, List, None, Err, IfErr, IsErrOf, IsTrue, OnOk};
+ghost use Rattle.std.specs.Prelude.{◌≡◌, ◌⊎◌, Err, IfErr, IsErrOf, IsTrue, OnOk};
 ghost use Rattle.legs.specs.Costs.{ShapeView};
 ghost use Rattle.legs.specs.Limits.{LimitsView};
 ghost use Rattle.legs.specs.Book.{Book};
 ghost use Rattle.pages.specs.Store.{IsSynced, Stays};
 ghost use Rattle.catalogue.specs.Beginning.{IsLeftOver};
 ghost use Rattle.catalogue.specs.Holding.{HoldsBook, HoldsButFirst, IsUnfinishedStore};
-ghost use Rattle.pagecache.specs.Cache.{stored_payload};
-ghost use Rattle.version1.specs.Migrating.{IsRightlyFull};
-ghost use Rattle.version1.specs.OldStore.{old_first_fault, present_shape, HoldsOldBook};
-ghost use Rattle.migration.specs.Bringing.{RefusesOld};
-ghost use Rattle.trajdb.specs.Calls.{IsLoadFault};
-ghost use Rattle.register.specs.Lasting.{ComesFirst};
+ghost use Rattle.version1.specs.OldStore.{present_shape, HoldsOldBook};
 ghost use Rattle.register.specs.declared.fault.CatalogueFault.{CatalogueFault};
-ghost use Rattle.trajdb.specs.Lasting.{IsFaultless};
 ghost use Rattle.trajdb.specs.declared.RunFault.{RunFault};
-ghost use Rattle.sessions.specs.Answers.{BringsButFirst, BringsTooMuch, BringsWhole, IsNotOver, IsOverFault};
+ghost use Rattle.sessions.specs.Answers.{IsNotOver, IsOverFault};
 
 use crate::fault::Fault;
 use crate::session::CACHE_PAGES;
@@ -50,11 +44,6 @@ pub fn migrate_and_close<'a, S: PageStore, T: PageStore>(
     // one keeps that catalogue and an index of those legs; one that holds a book is refused for
     // memory, a store that failed, or a full one alone, and then the new one is not taken for a
     // finished one, unless it failed in the closing.
-    ensures finished { OnOk result.1 (IsTrue (S.seen old.old).is_faithful
-        → old_first_fault (S.seen old.old).count (stored_payload (S.seen old.old) 0) ≡ None) }
-    ensures whole { OnOk result.1 (IsTrue (S.seen old.old).is_faithful
-        → IsTrue (T.seen new).is_faithful
-        → BringsWhole (S.seen old.old) (T.seen result.0)) }
     ensures left { IfErr result.1 (λ fault. IsTrue (S.seen old.old).is_faithful
         → IsTrue (T.seen new).is_faithful
         → (shape : ShapeView) (limits : LimitsView) (book : Book)
@@ -69,25 +58,6 @@ pub fn migrate_and_close<'a, S: PageStore, T: PageStore>(
     ensures caused { IfErr result.1 (IsOverFault (S.seen old.old) (S.seen old.new) (T.seen new)
         (T.seen result.0)) }
 
-    // Then the fault of page 0 comes first, and else it is what the pages keep that says why.
-    ensures first { (fault : CatalogueFault) → result.1 ≡ Err (Fault.Open fault)
-        → IsTrue (S.seen old.old).is_faithful → ComesFirst
-        (old_first_fault (S.seen old.old).count (stored_payload (S.seen old.old) 0)) fault }
-    ensures refuses { (fault : CatalogueFault) → result.1 ≡ Err (Fault.Open fault)
-        → IsTrue (S.seen old.old).is_faithful → IsTrue (T.seen new).is_faithful
-        → RefusesOld (S.seen old.old) fault }
-
-    // That it is full is said before the closing only where it may have no page, or has no room for the legs.
-    ensures full { result.1 ≡ Err (Fault.Open OpenFault.StoreFull)
-        → IsTrue (S.seen old.old).is_faithful → IsTrue (T.seen new).is_faithful
-        → IsRightlyFull (S.seen old.old) (T.seen new) (T.seen result.0) }
-
-    // That it is full is said in the closing only where the new one has no room for the catalogue beside the pages that
-    // the legs take.
-    ensures closing_full { IsErrOf result.1 (Fault.Run RunFault.StoreFull)
-        → IsTrue (S.seen old.old).is_faithful → IsTrue (T.seen new).is_faithful
-        → BringsTooMuch (S.seen old.old) (T.seen new) }
-
     // Where the closing is refused, the new one is not finished, or all of its pages but page 0 are
     // those of a store that holds the book, and are synced; so it is of whatever the other store
     // keeps.
@@ -97,18 +67,6 @@ pub fn migrate_and_close<'a, S: PageStore, T: PageStore>(
         → HoldsOldBook (S.seen old.old) shape limits book
         → IsUnfinishedStore (T.seen result.0)
         ⊎ HoldsButFirst (T.seen result.0) (present_shape shape) limits book }
-    ensures behind { (why : RunFault) → IsErrOf result.1 (Fault.Run why)
-        → IsTrue (S.seen old.old).is_faithful → IsTrue (T.seen new).is_faithful
-        → BringsButFirst (S.seen old.old) (T.seen result.0) }
-
-    // Whatever the other store keeps, the closing is refused for memory, a store that failed, or a
-    // full one alone, and where it is for memory or a full one, the new one is not finished.
-    ensures only { (why : RunFault) → IsErrOf result.1 (Fault.Run why)
-        → IsTrue (S.seen old.old).is_faithful → IsTrue (T.seen new).is_faithful
-        → IsLoadFault why }
-    ensures unfinished { (why : RunFault) → IsErrOf result.1 (Fault.Run why)
-        → IsTrue (S.seen old.old).is_faithful → IsTrue (T.seen new).is_faithful
-        → IsFaultless why → IsUnfinishedStore (T.seen result.0) }
 
     // The store of version 1 stays as it is.
     ensures stays { Stays (S.seen old.old) (S.seen old.new) }

@@ -1,5 +1,5 @@
 //! The files of all parts of a file.
-ghost use Rattle.std.specs.Prelude.{◌≡◌, ◌<◌, ◌≤◌, ◌+◌, ◌^◌, ◌∷◌, [], List, ℕ, ◌⊎◌, Option, IfErr, IsErrOf, OnErr, OnOk, length, map};
+ghost use Rattle.std.specs.Prelude.{◌≡◌, ◌<◌, ◌≤◌, ◌+◌, ◌^◌, ◌∷◌, [], ℕ, ◌⊎◌, Option, IfErr, IsErrOf, OnErr, OnOk, length, map};
 ghost use Rattle.pages.specs.Store.{HasRisen};
 ghost use Rattle.sessions.specs.Parts.{HasFirst, HasFirstTexts, Puts, parts_from, numbered, with_puts};
 

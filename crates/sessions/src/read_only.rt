@@ -30,8 +30,6 @@ impl<S: PageStore> ReadOnly<S> {
 }
 
 impl<S: PageStore> PageStore for ReadOnly<S> {
-    ghost use Rattle.pages.specs.Store.{Store, IsLawful};
-
     ghost seen = { λ s. record (S.seen s.store) { faults = s.faults; unsynced = Nothing; has_lost = false } };
 
     ghost lawful = { λ s. let l = S.lawful s.store in

@@ -9,7 +9,7 @@ ghost use Rattle.pages.specs.Store.{Faulted, IsSynced};
 ghost use Rattle.trajdb.specs.Db.{shape_of, store_of, HasPages, IsSoundDb};
 ghost use Rattle.trajdb.specs.Lasting.{HasBook, IsIdle};
 ghost use Rattle.sessions.specs.Folder.{OpensOrMakes};
-ghost use Rattle.sessions.specs.Answers.{new_limits, said, Answers, HasWritten, NoneBegins, OnlyAsks, RunBegins, RunsAndCloses, RunsOver, SendsFront};
+ghost use Rattle.sessions.specs.Answers.{new_limits, said, Answers, RunBegins, RunsAndCloses, RunsOver, SendsFront};
 
 use crate::fault::Fault;
 use legs::Limits;
@@ -84,20 +84,9 @@ pub fn run_and_close<S: PageStore, O: Output>(
         files.now (O.seen out.old).contents (O.seen out.new).contents (lines_of script.now)
         (S.seen result.0))) }
 
-    // Where the database had begun, or a file was accepted, all of the store is synced then; where
-    // none begins it the store has the pages that the database counted, as they were written.
+    // Where the database had begun, or a file was accepted, all of the store is synced then.
     ensures synced { OnOk result.1 (OnOk result.2 (RunBegins database files.now
         (lines_of script.now) → IsSynced (S.seen result.0))) }
-    ensures stays { OnOk result.1 (IsTrue (store_of database).is_faithful
-        → IsIdle database → database.begun ≡ false
-        → NoneBegins database files.now (lines_of script.now)
-        → HasWritten database (S.seen result.0)) }
-
-    // So it has, whatever is answered, where no line is a load of a file that is there.
-    ensures asked { IsTrue (store_of database).is_faithful → IsIdle database
-        → database.begun ≡ false → database.failed ≡ false
-        → OnlyAsks files.now (lines_of script.now) → HasWritten database (S.seen result.0) }
-
     // Whatever is answered, what was sent is the front of that text.
     ensures sent { IsSoundDb database → database.failed ≡ false
         → SendsFront database.limits database.book files.now (O.seen out.old).contents
@@ -151,19 +140,9 @@ pub fn answer<'a, S: PageStore, O: Output>(
         → Answers (shape_of db) db.limits db.book files.now (O.seen out.old).contents
         (O.seen out.new).contents (lines_of script.now) (S.seen result.0))) }
 
-    // Where the database had begun, or a file was accepted, all of the store is synced then; where
-    // none begins it the store has the pages that the database counted, as they were written.
+    // Where the database had begun, or a file was accepted, all of the store is synced then.
     ensures synced { OnOk result.1 (IfOk database (λ db. RunBegins db files.now
         (lines_of script.now) → IsSynced (S.seen result.0))) }
-    ensures stays { OnOk result.1 (IfOk database (λ db. IsTrue (store_of db).is_faithful
-        → IsIdle db → db.begun ≡ false → NoneBegins db files.now (lines_of script.now)
-        → HasWritten db (S.seen result.0))) }
-
-    // So it has, whatever is answered, where no line is a load of a file that is there.
-    ensures asked { IfOk database (λ db. IsTrue (store_of db).is_faithful → IsIdle db
-        → db.begun ≡ false → db.failed ≡ false → OnlyAsks files.now (lines_of script.now)
-        → HasWritten db (S.seen result.0)) }
-
     // Where it is refused, what was sent is the front of that text.
     ensures sent { OnErr result.1 (IfOk database (λ db. IsSoundDb db → db.failed ≡ false
         → SendsFront db.limits db.book files.now (O.seen out.old).contents (O.seen out.new).contents

@@ -1,5 +1,5 @@
 -- Where legs are that were put in, and that other leaves stay.
-use Rattle.std.proofs.Common.{ℕ, suc, ◌<◌, ◌≡◌, ◌≢◌, ◌==◌, ◌&&◌, nat_lt, true, All, List, [], ◌∷◌, ◌++◌, refl, sym, ap, ◌∙◌, arith, ⊎_elim, append_assoc, Some}
+use Rattle.std.proofs.Common.{ℕ, ◌<◌, ◌≡◌, ◌≢◌, ◌==◌, ◌&&◌, nat_lt, true, All, List, [], ◌∷◌, refl, sym, ap, ◌∙◌, arith, ⊎_elim, Some}
 use Rattle.std.specs.Prelude.{Result, Ok, Err, IfOk, OnOk}
 use Rattle.std.proofs.lemmas.Bool.{cases_eq, eqb-true}
 use Rattle.std.proofs.lemmas.List.Elements.{All-cons, All-nil}
@@ -70,16 +70,3 @@ ends_linked old new p q r ys w h = ⊎_elim
 -- and where leaves stay as they are
 pub ends_kept : (old new : Pages LegView BoxView) (p : ℕ) (ys : List LegView) → KeepsLeaves old new → HasAtEnd old p ys → HasAtEnd new p ys
 ends_kept old new p ys k h = record { above = h.above; leaf = h.leaf; is = k p (with_legs ys h.leaf) h.is; own = h.own }
-
--- legs are at the end where more are
-pub ends_fewer : (nodes : Pages LegView BoxView) (p : ℕ) (xs ys : List LegView) → HasAtEnd nodes p (xs ++ ys) → HasAtEnd nodes p ys
-ends_fewer nodes p xs ys h = record {
-  above = h.above;
-  leaf = with_legs xs h.leaf;
-  is = h.is ∙ ap (λ (l : List LegView). Some (Some (ALeaf (record h.leaf { legs = l })))) (sym (append_assoc h.leaf.legs xs ys));
-  own = back xs h.own;
-}
-  where
-    back : (xs : List LegView) → All (λ leg. leg.feature ≡ h.leaf.feature) (xs ++ ys) → All (λ leg. leg.feature ≡ h.leaf.feature) ys
-    back [] all = all
-    back (x ∷ xs) all = back xs (λ i d l. all (suc i) d (omega (arith, l)))

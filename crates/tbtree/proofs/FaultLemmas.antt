@@ -2,7 +2,7 @@
 use Rattle.std.proofs.Common.{ℕ}
 use Rattle.pagecache.specs.declared.fault.CacheFault.{CacheFault}
 use Rattle.pagecache.specs.declared.fault.CacheFault.TheVariants as cache
-use Rattle.tbtree.specs.Faults.{FillsInCache, IfFull, IfMalformed, IfNamed, NamesEach, NamesInCache}
+use Rattle.tbtree.specs.Faults.{IfNamed, NamesEach, NamesInCache}
 use Rattle.tbtree.specs.declared.fault.TreeFault.{TreeFault}
 use Rattle.tbtree.specs.declared.fault.TreeFault.TheVariants.{Cache as OfCache, Malformed, Spent}
 
@@ -21,19 +21,3 @@ names_then P Q R S f g Spent h = tt
 -- of one that is damaged or malformed, and of one that is malformed
 pub named_then : (P Q : ℕ → Type 0) → ((n : ℕ) → P n → Q n) → (fault : TreeFault) → IfNamed P fault → IfNamed Q fault
 named_then P Q f fault h = names_then P P Q Q f f fault h
-
-pub malformed_then : (P Q : ℕ → Type 0) → ((n : ℕ) → P n → Q n) → (fault : TreeFault) → IfMalformed P fault → IfMalformed Q fault
-malformed_then P Q f fault h = names_then (λ _. Unit {0}) P (λ _. Unit {0}) Q (λ n u. u) f fault h
-
--- of a store that is said to be full
-fills_in_cache : (P Q : Type 0) (fault : CacheFault) → (P → Q) → FillsInCache P fault → FillsInCache Q fault
-fills_in_cache P Q cache.NoPage f h = tt
-fills_in_cache P Q cache.Store f h = tt
-fills_in_cache P Q (cache.Damaged n) f h = tt
-fills_in_cache P Q cache.StoreFull f h = f h
-fills_in_cache P Q cache.Memory f h = tt
-
-pub full_then : (P Q : Type 0) → (P → Q) → (fault : TreeFault) → IfFull P fault → IfFull Q fault
-full_then P Q f (OfCache fault) h = fills_in_cache P Q fault f h
-full_then P Q f (Malformed n) h = tt
-full_then P Q f Spent h = tt

@@ -1,18 +1,16 @@
 -- Legs of one feature, put in part by part.
-use Rattle.std.proofs.Common.{ℕ, ◌+◌, ◌-◌, ◌%◌, ◌<◌, ◌≤◌, ◌≡◌, ◌≢◌, arith, ⊎_elim, All, List, [], ◌∷◌, ◌++◌, take, drop, length, sym, ap, ◌∙◌, subst, append_assoc, Result, Ok, Err}
-use Rattle.std.proofs.lemmas.Bool.{cases_eq}
+use Rattle.std.proofs.Common.{ℕ, ◌+◌, ◌-◌, ◌≤◌, ◌≡◌, arith, All, List, [], ◌∷◌, ◌++◌, take, drop, length, sym, ap, ◌∙◌, subst, append_assoc, Result, Ok, Err}
 use Rattle.std.proofs.lemmas.List.{append-nil, take-append-drop, length-take-le, length-drop}
 use Rattle.std.proofs.lemmas.List.Elements.{All-take, All-drop}
 use Rattle.std.proofs.Math.Seq.{take-add, take-append_seam, drop-append_seam}
 use Rattle.legs.specs.Boxes.{BoxView}
 use Rattle.legs.specs.Legs.{LegView}
 use Rattle.tbtree.specs.Insert.{IsPlace}
-use Rattle.tbtree.specs.Joining.{in_last_leaf, CanJoinInTurn, Holds, JoinsAll}
+use Rattle.tbtree.specs.Joining.{CanJoinInTurn, Holds, JoinsAll}
 use Rattle.tbtree.specs.Nodes.{Pages}
 use Rattle.tbtree.specs.declared.fault.TreeFault.{TreeFault}
 use Rattle.tbtree.specs.declared.tree.Place.{Place}
 use Rattle.tbtree.specs.declared.tree.TbTree.{TbTree}
-use Rattle.tbtree.proofs.RoomLemmas.{mod_below_next}
 
 all_front : {X : Type 0} (P : X → Type 0) (xs ys : List X) → All P (xs ++ ys) → All P xs
 all_front P xs ys all = subst (λ l. All P l) (take-append_seam xs ys) (All-take P (length xs) (xs ++ ys) all)
@@ -82,30 +80,3 @@ module _ (a b c : Pages LegView BoxView) (t u v : TbTree) (p q r : Place) (legs 
   part_refused x first more =
       subst (λ l. JoinsAll a c t v p r l (Err x)) (ap (λ l. l ++ drop (n + k) legs) (sym (take-add n k legs)) ∙ take-append-drop (n + k) legs)
       (refused_front a c t v p r (take n legs ++ take k (drop n legs)) (drop (n + k) legs) x (then_joins a b c t u v p q r (take n legs) (take k (drop n legs)) (Err x) first (own_part (Err x) more)))
-
-module _ (leaf count n k : ℕ) (legs : List LegView) (some : 0 < k) (within : n + k ≤ length legs) (room : count % leaf + k ≤ leaf) where
-  -- k legs more, which go into one leaf
-  last_count : (count + k - 1) % leaf + 1 ≡ count % leaf + k
-  last_count =
-      let one : k - 1 + 1 ≡ k = omega (arith, some) in
-      let before : count + k - 1 ≡ count + (k - 1) = omega (arith, some) in
-      let m = ap (λ c. c % leaf) before ∙ mod_below_next count (k - 1) leaf (omega (arith, room, some)) in
-      omega (arith, m, one)
-
-  -- those of the legs so far that are in the last leaf are these, where they fill it up from its first on, or are the first
-  pub part_in_last : (0 < n → count % leaf ≡ 0) → in_last_leaf leaf (count + k) (take (n + k) legs) ≡ take (n + k - n) (drop n legs)
-  part_in_last full =
-      let len : length (take (n + k) legs) ≡ n + k = length-take-le (n + k) legs within in
-      let begun : length (take n legs) ≡ n = length-take-le n legs (omega (arith, within)) in
-      let from : length (take (n + k) legs) - ((count + k - 1) % leaf + 1) ≡ length (take n legs) = ⊎_elim
-      (λ (z : n ≡ 0). let c = last_count in omega (arith, len, begun, c, z))
-      (λ (u : n ≢ 0). let c = last_count in let e = full (omega (arith, u)) in omega (arith, len, begun, c, e))
-      (cases_eq n 0) in
-      ap (λ m. drop m (take (n + k) legs)) from ∙ ap (drop (length (take n legs))) (take-add n k legs)
-      ∙ drop-append_seam (take n legs) (take k (drop n legs)) ∙ sym (part_is legs n k)
-
--- legs for which the last leaf has room are all in it
-pub all_in_last : (leaf count : ℕ) (legs : List LegView) → 0 < length legs → count % leaf + length legs ≤ leaf → in_last_leaf leaf (count + length legs) legs ≡ legs
-all_in_last leaf count legs some room =
-    let c = last_count leaf count 0 (length legs) legs some (omega arith) room in
-    ap (λ m. drop m legs) (let z : length legs - ((count + length legs - 1) % leaf + 1) ≡ 0 = omega (arith, c) in z)

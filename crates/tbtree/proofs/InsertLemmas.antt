@@ -19,7 +19,7 @@ use Rattle.legs.specs.Hull.{hull, leg_boxes}
 use Rattle.legs.specs.Costs.{leg_feature}
 use Rattle.tbtree.specs.Nodes.{Pages, HasLastLeaf}
 use Rattle.tbtree.specs.Stands.{head_or_zero, page_at, pages_of, owner, marks, leaf_of, PlaceStands, NumbersStand, LeavesStand, TreeStands}
-use Rattle.tbtree.specs.Filling.{NamesLast}
+use Rattle.tbtree.specs.Insert.{NamesLast}
 use Rattle.tbtree.specs.Way.{Hanging, Hung, Hangs}
 use Rattle.tbtree.specs.Insert.{Grows, Begins, IsPlace, Inserts}
 use Rattle.tbtree.specs.Joining.{AllJoined, Holds, Joined, Joins, JoinsAll}

@@ -5,13 +5,9 @@ pub mod CoverLemmas
 pub mod Still
 pub mod HullLemmas
 pub mod Widening
-pub mod ElementLemmas
 pub mod KindLemmas
-pub mod GraftLemmas
-pub mod LeadLemmas
 pub mod FullLemmas
 pub mod RoomLemmas
-pub mod RoomyPages
 pub mod BeginLemmas
 pub mod NewRun
 pub mod PushLemmas
@@ -45,12 +41,8 @@ pub mod TurnLemmas
 pub mod HeldLemmas
 pub mod BlockOrder
 pub mod TakenOrder
-pub mod OldLeaf
-pub mod ContentLemmas
 pub mod EndLemmas
 pub mod FillLemmas
 pub mod LeafLemmas
-pub mod FillCosts
 pub mod NeedsLemmas
-pub mod FitLemmas
 pub mod PlantedPages

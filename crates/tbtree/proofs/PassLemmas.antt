@@ -1,12 +1,12 @@
 -- One call after another.
 use Rattle.std.proofs.Common.{◌∙◌, refl, arith, Result, Ok, Err}
-use Rattle.pages.specs.Store.{Store, Faulted}
+use Rattle.pages.specs.Store.{Store}
 use Rattle.pages.specs.Store as store
 use Rattle.pagecache.specs.Cache.{Cache}
 use Rattle.pagecache.specs.declared.fault.CacheFault.{CacheFault}
 use Rattle.pagecache.specs.declared.fault.CacheFault.TheVariants as cache
 use Rattle.tbtree.specs.Faults.{RefusesWrite, RefusesWriteInCache}
-use Rattle.tbtree.specs.Passes.{KeepsOthers, Passes, Touches}
+use Rattle.tbtree.specs.Passes.{Passes, Touches}
 use Rattle.tbtree.specs.declared.fault.TreeFault.{TreeFault}
 use Rattle.tbtree.specs.declared.fault.TreeFault.TheVariants.{Cache as OfCache, Malformed, Spent}
 
@@ -38,12 +38,6 @@ passes_trans a b c p q = record {
   written = λ f h u. q.written (p.store.faithful ∙ f) (omega (arith, h, p.count)) (p.unmarked h u) ∙ p.written f h u;
 }
 
-pub others_refl : (a : Cache) → KeepsOthers a a
-others_refl a f p payload e none = e
-
-pub others_trans : (a b c : Cache) → Passes a b → KeepsOthers a b → KeepsOthers b c → KeepsOthers a c
-others_trans a b c p q r f n payload e none = r (p.store.faithful ∙ f) n payload (q f n payload e none) none
-
 caused_in_cache : (a b c : Cache) (e : CacheFault) → Passes a b → RefusesWriteInCache b c e → RefusesWriteInCache a c e
 caused_in_cache a b c cache.NoPage p h = h
 caused_in_cache a b c cache.Store p h = omega (arith, h, p.store.faults)
@@ -58,11 +52,11 @@ caused_after a b c Spent p h = h
 
 -- no call, and one after another
 pub touches_none : {T : Type 0} (a : Cache) (x : T) → Touches a a (Ok x)
-touches_none a x = record { passes = passes_refl a; others = λ f p payload e none. e; length = λ e. e; caused = tt }
+touches_none a x = record { passes = passes_refl a; length = λ e. e; caused = tt }
 
 pub touches_then : {T U : Type 0} (a b c : Cache) (x : T) (r : Result U TreeFault) → Touches a b (Ok x) → Touches b c r → Touches a c r
-touches_then a b c x (Ok y) t u = record { passes = passes_trans a b c t.passes u.passes; others = others_trans a b c t.passes t.others u.others; length = λ e. u.length (t.length e); caused = tt }
-touches_then a b c x (Err e) t u = record { passes = passes_trans a b c t.passes u.passes; others = others_trans a b c t.passes t.others u.others; length = tt; caused = caused_after a b c e t.passes u.caused }
+touches_then a b c x (Ok y) t u = record { passes = passes_trans a b c t.passes u.passes; length = λ e. u.length (t.length e); caused = tt }
+touches_then a b c x (Err e) t u = record { passes = passes_trans a b c t.passes u.passes; length = tt; caused = caused_after a b c e t.passes u.caused }
 
 -- what a call after another may cite
-pub ruleset passing = (passes_trans, passes_refl, others_trans, others_refl, caused_after)
+pub ruleset passing = (passes_trans, passes_refl, caused_after)

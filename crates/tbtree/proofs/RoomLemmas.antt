@@ -2,7 +2,7 @@
 use Rattle.std.proofs.Common.{ℕ, zero, suc, ◌+◌, ◌%◌, ◌<◌, ◌≤◌, ◌≡◌, ◌≢◌, ◌==◌, ◌/◌, ◌*◌, All, true, false, cond, ◌&&◌, nat_lt, List, [], ◌∷◌, ◌++◌, take, set, length, map, refl, sym, ap, ◌∙◌, arith, append_assoc, lt-ltb, le-ltb, eq-eqb, subst, ⊎_elim, Some, slice_get}
 use Rattle.std.specs.List.{filter, count_by}
 use Rattle.std.proofs.lemmas.List.Sums.{length-filter, sum_by-append, sum_by-cons}
-use Rattle.std.proofs.Math.Nat.{add-mod_right, mod-eq_of_lt, mod_self, mul-add-mod_self_right}
+use Rattle.std.proofs.Math.Nat.{add-mod_right, mod-eq_of_lt, mul-add-mod_self_right}
 use Rattle.std.proofs.lemmas.Nat.{div-add-mod', mod_below}
 use Rattle.std.proofs.lemmas.Bool.{cases_lt, cases_eq, eqb-true}
 use Rattle.std.proofs.lemmas.List.{take_all, length-take-le, append-nil}
@@ -23,9 +23,6 @@ mod_more c k n =
 
 pub mod_below_next : (c k n : ℕ) → c % n + k < n → (c + k) % n ≡ c % n + k
 mod_below_next c k n l = mod_more c k n ∙ mod-eq_of_lt l
-
-pub mod_at_next : (c k n : ℕ) → c % n + k ≡ n → (c + k) % n ≡ 0
-mod_at_next c k n e = mod_more c k n ∙ ap (λ a. a % n) e ∙ mod_self n
 
 set_set : {X : Type 0} (xs : List X) (i : ℕ) (v w : X) → set (set xs i v) i w ≡ set xs i w
 set_set [] i v w = refl
@@ -242,3 +239,12 @@ runs_begun key zero xs y h b = absurd (omega (arith, h))
 runs_begun key (suc m) xs y h b =
     runs-push key (suc m) xs y h ∙ ap (λ v. map (grown key (suc m) y) (runs key (suc m) xs) ++ cond v ((y ∷ []) ∷ []) []) b
     ∙ ap (λ l. l ++ (y ∷ []) ∷ []) (runs_after-full key m [] xs y b)
+
+-- where several fit, one does too
+pub fits : (leaf count many : ℕ) → 0 < leaf → (1 < many → count % leaf + many ≤ leaf) → count % leaf + many ≤ leaf
+fits leaf count many some room =
+    let below : count % leaf < leaf = mod_below count leaf some in
+    ⊎_elim
+    room
+    (λ (few : many ≤ 1). omega (arith, few, below))
+    (cases_lt 1 many)

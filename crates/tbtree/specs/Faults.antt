@@ -105,25 +105,8 @@ NamesEach P Q Spent = Unit {0}
 abbrev pub IfNamed : (ℕ → Type 0) → TreeFault → Type 0
 IfNamed P fault = NamesEach P P fault
 
--- Q of the page that is said to be malformed
-abbrev pub IfMalformed : (ℕ → Type 0) → TreeFault → Type 0
-IfMalformed Q fault = NamesEach (λ _. Unit {0}) Q fault
-
 -- a page that is named is that one; it is malformed only if it is page 0, or is not there, or has a payload
 abbrev pub IsNamed : Pages LegView BoxView → Option ℕ → TreeFault → Type 0
 IsNamed nodes at fault =
     NamesEach (λ n. at ≡ Some n)
     (λ n. (at ≡ Some n) × (0 < n → n < nodes.count → nodes.at n ≢ None)) fault
-
--- of a store that is said to be full P holds
-abbrev pub FillsInCache : Type 0 → CacheFault → Type 0
-FillsInCache P cache.NoPage = Unit {0}
-FillsInCache P cache.Store = Unit {0}
-FillsInCache P (cache.Damaged n) = Unit {0}
-FillsInCache P cache.StoreFull = P
-FillsInCache P cache.Memory = Unit {0}
-
-abbrev pub IfFull : Type 0 → TreeFault → Type 0
-IfFull P (OfCache fault) = FillsInCache P fault
-IfFull P (Malformed n) = Unit {0}
-IfFull P Spent = Unit {0}

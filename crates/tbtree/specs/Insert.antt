@@ -64,3 +64,7 @@ Inserts old new tree tree' place place' y result =
     → IsPlace tree legs pages y.feature place
     → CanFollow legs y
     → GivesWrite result (λ _. Inserted new tree tree' legs pages y place')
+
+-- a place that has legs names their last leaf, and one that has none names none
+abbrev pub NamesLast : Place → Type 0
+NamesLast place = (place.legs ≡ 0 → place.last ≡ 0) × (place.last ≡ 0 → place.legs ≡ 0)

@@ -1,5 +1,5 @@
 -- A leg more in a tree, whatever the order in which the legs before it came.
-use Rattle.std.specs.Prelude.{ℕ, ◌≡◌, ◌≢◌, ◌<◌, ◌≤◌, ◌+◌, ◌-◌, ◌%◌, List, [], ◌∷◌, ◌++◌, drop, take, length, All, Some, Result}
+use Rattle.std.specs.Prelude.{ℕ, ◌≡◌, ◌≢◌, ◌<◌, ◌≤◌, List, [], ◌∷◌, ◌++◌, length, All, Some, Result}
 use Rattle.legs.specs.Legs.{LegView}
 use Rattle.legs.specs.Boxes.{BoxView}
 use Rattle.legs.specs.Costs.{leg_feature, leaves_of}
@@ -73,20 +73,6 @@ pub record HasAtEnd (nodes : Pages LegView BoxView) (p : ℕ) (legs : List LegVi
   pub leaf : LeafView LegView
   pub is : nodes.at p ≡ Some (Some (ALeaf (with_legs legs leaf)))
   pub own : All (λ leg. leg.feature ≡ leaf.feature) legs
-
--- of the last ones of so many legs of a feature those that are in its last leaf, where each leaf but the last has as
--- many legs as it has room for
-abbrev pub in_last_leaf : ℕ → ℕ → List LegView → List LegView
-in_last_leaf leaf count legs = drop (length legs - ((count - 1) % leaf + 1)) legs
-
--- of legs that are put in where a feature has count of them, those that its last leaf takes: none where it is full, and
--- else as many from the first on as it has room for
-abbrev pub taken_by_last : ℕ → ℕ → List LegView → List LegView
-taken_by_last leaf count legs = take ((leaf - count % leaf) % leaf) legs
-
--- and those behind them, which go into leaves that are made
-abbrev pub left_over : ℕ → ℕ → List LegView → List LegView
-left_over leaf count legs = drop ((leaf - count % leaf) % leaf) legs
 
 -- a leg may be put into the index of some legs: it may join them, and its feature is there, or is the next one
 pub record CanTake (legs : List LegView) (leg : LegView) : Type 0 where

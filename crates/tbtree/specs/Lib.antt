@@ -8,10 +8,7 @@ pub mod Way
 pub mod Insert
 pub mod Order
 pub mod Joining
-pub mod Filling
 pub mod Descent
-pub mod Content
-pub mod Needs
 pub mod Bounds
 pub mod Turn
 pub mod Planting

@@ -1,9 +1,7 @@
 -- What every call of the tree leaves of the cache, answered or not, whatever its pages hold.
-use Rattle.std.specs.Prelude.{ℕ, ◌≡◌, ◌≤◌, ◌<◌, ◌^◌, ◌-◌, min, false, IsTrue, IfErr, OnOk, Result, Some, None}
+use Rattle.std.specs.Prelude.{◌≡◌, ◌≤◌, ◌<◌, ◌^◌, ◌-◌, min, false, IsTrue, IfErr, OnOk, Result}
 use Rattle.pages.specs.Store as store
-use Rattle.pages.specs.declared.payload.Payload.{Payload}
 use Rattle.pagecache.specs.Cache.{Cache, payload_of, page_of, is_changed}
-use Rattle.tbnode.specs.Form.{node_of}
 use Rattle.tbtree.specs.Faults.{RefusesWrite}
 use Rattle.tbtree.specs.declared.fault.TreeFault.{TreeFault}
 
@@ -23,18 +21,10 @@ pub record Passes (old new : Cache) : Type 0 where
 abbrev pub KeepsLength : Cache → Cache → Type 0
 KeepsLength old new = old.count ≡ old.store.count → new.count ≡ new.store.count
 
--- a page that is none of a tree's has its payload
-abbrev pub KeepsOthers : Cache → Cache → Type 0
-KeepsOthers old new =
-    IsTrue old.store.is_faithful → (p : ℕ) (payload : Payload)
-    → payload_of old p ≡ Some payload → node_of payload ≡ None → payload_of new p ≡ Some payload
-
 -- what a call that writes pages of the tree leaves of the cache, and why it is refused
 pub record Touches {T : Type 0} (old new : Cache) (result : Result T TreeFault) : Type 0 where
   -- answered or not: page 0 is kept, and nothing goes
   pub passes : Passes old new
-  -- nor is a page changed that is none of a tree's
-  pub others : KeepsOthers old new
   -- answered: no page is added to the store alone
   pub length : OnOk result (KeepsLength old new)
   -- refused: what the fault says is so

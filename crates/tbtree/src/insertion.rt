@@ -1,23 +1,16 @@
 //! Insertion.
 ghost use Rattle.std.specs.Prelude.{ℕ, suc, [], ◌∷◌, None, length, ◌≢◌, ◌≡◌, ◌<◌, ◌≤◌, ◌+◌, ◌-◌, ◌*◌, ◌%◌, ◌^◌, IfOk, IfErr, OnOk, OnErr, IsTrue, false, true, Err};
-ghost use Rattle.legs.specs.Boxes.{BoxView};
 ghost use Rattle.legs.specs.Costs.{leg_feature};
 ghost use Rattle.legs.specs.Hull.{leg_boxes};
-ghost use Rattle.legs.specs.Legs.{LegView};
-ghost use Rattle.tbtree.specs.Faults.{IfFull, IfNamed, MayRefuseWrite, RefusesWrite};
-ghost use Rattle.tbtree.specs.Needs.{block_of, entry_of, CanGrow, GoesAbove, GoesOn, HasNumbers, IsFit, IsHook, IsNoEnd, IsNoHook, IsOnWayTo, KeepsInners, KeepsTop, KeepsUpper, StopsAbove};
-ghost use Rattle.tbtree.specs.Nodes.{pages_of_cache, HasCover, HasLastLeaf, KeepsLeaves, Pages};
-ghost use Rattle.tbtree.specs.Passes.{Passes, KeepsLength, KeepsOthers, Touches};
+ghost use Rattle.tbtree.specs.Faults.{MayRefuseWrite, RefusesWrite};
+ghost use Rattle.tbtree.specs.Nodes.{pages_of_cache, HasLastLeaf, KeepsLeaves};
+ghost use Rattle.tbtree.specs.Passes.{Passes, KeepsLength, Touches};
 ghost use Rattle.tbtree.specs.Way.{IsOnWay, Hangs};
-ghost use Rattle.tbtree.specs.Content.{Carries, ContentGrows, IsBareBeyond, IsFound, KeepsKids, KeepsKinds, Meets, SaysMore};
-ghost use Rattle.tbtree.specs.Descent.{IsOnLevel};
-ghost use Rattle.tbtree.specs.Insert.{Grows, Begins, Inserts};
-ghost use Rattle.tbtree.specs.Filling.{page_made, place_with, BeginsLeaf, FillsLeaves, GrowsLeaf, NamesLast};
-ghost use Rattle.tbtree.specs.Joining.{HasAtEnd, Joins, JoinsAll};
+ghost use Rattle.tbtree.specs.Insert.{Grows, Begins, Inserts, NamesLast};
+ghost use Rattle.tbtree.specs.Joining.{Joins, JoinsAll};
 ghost use Rattle.tbtree.specs.Payloads.{TakesLegs, are_of_one_leaf};
 ghost use Rattle.tbtree.specs.Shape.{IsShape};
 ghost use Rattle.tbtree.specs.Stands.{owner};
-ghost use Rattle.tbtree.specs.Planting.{HasGrownLeaf, HasHungBlock, HasHungLeaf, HasLacked, HasLackedBlock, HasLackedLeaf, HasLackedRun, HasPlanted, HasRun, HasWidened, IsBlockPage};
 ghost use Rattle.tbtree.specs.declared.fault.TreeFault.{TreeFault};
 
 use crate::fault::TreeFault;
@@ -50,26 +43,6 @@ fn way<S: PageStore>(
         → OnOk result (KeepsLeaves (pages_of_cache cache.old) (pages_of_cache cache.new)) }
     ensures no_more { IsTrue cache.old.store.is_faithful
         → OnOk result (KeepsLeaves (pages_of_cache cache.new) (pages_of_cache cache.old)) }
-    ensures found { IsTrue cache.old.store.is_faithful → IfOk result
-        (IsFound (pages_of_cache cache.old) (pages_of_cache cache.new) tree.now.root
-        tree.now.levels level bounds.now) }
-    ensures reaches { IsTrue cache.old.store.is_faithful → (number n : ℕ)
-        → at ≡ block_of tree.now.shape.inner number level → n + suc level ≡ tree.now.levels
-        → IfOk result (IsOnWayTo (pages_of_cache cache.old) tree.now number n) }
-    ensures blames { IsTrue cache.old.store.is_faithful → (number : ℕ)
-        → at ≡ block_of tree.now.shape.inner number level
-        → IfErr result (IfNamed (StopsAbove (pages_of_cache cache.old) tree.now number level)) }
-    ensures goes { IsTrue cache.old.store.is_faithful → (number : ℕ)
-        → at ≡ block_of tree.now.shape.inner number level
-        → OnOk result (GoesAbove (pages_of_cache cache.old) tree.now number level) }
-    ensures inners { IsTrue cache.old.store.is_faithful
-        → OnOk result (KeepsInners (pages_of_cache cache.old) (pages_of_cache cache.new)) }
-    ensures block { IsTrue cache.old.store.is_faithful
-        → IfOk result (IsBlockPage (pages_of_cache cache.old) tree.now level at) }
-    ensures widened { IsTrue cache.old.store.is_faithful → OnOk result
-        (HasWidened (pages_of_cache cache.old) (pages_of_cache cache.new) tree.now level at
-        bounds.now) }
-    ensures full { IfErr result (IfFull ⊥) }
     ensures touches { Touches cache.old cache.new result }
     ensures asked { cache.new.asked + level + 1 ≤ cache.old.asked + tree.now.levels }
 {
@@ -98,23 +71,6 @@ fn into_leaf<S: PageStore>(
         → Grows leg_boxes leg_feature tree.now.shape.inner tree.now.levels tree.now.root
         (pages_of_cache cache.old) (pages_of_cache cache.new) number last legs.now
         (λ leaf. TakesLegs tree.now.shape.leaf leaf legs.now) result }
-    ensures ends { IsTrue cache.old.store.is_faithful
-        → OnOk result (HasAtEnd (pages_of_cache cache.new) last legs.now) }
-    ensures leaf { IsTrue cache.old.store.is_faithful → OnOk result
-        (GrowsLeaf (pages_of_cache cache.old) (pages_of_cache cache.new) last legs.now) }
-    ensures met { IsTrue cache.old.store.is_faithful → OnOk result
-        (Meets (pages_of_cache cache.old) (pages_of_cache cache.new) tree.now tree.now legs.now) }
-    ensures blames { IsTrue cache.old.store.is_faithful → IfErr result (IfNamed (λ page.
-        GoesOn (pages_of_cache cache.old) tree.now number page
-        → (page ≡ last → CanGrow (pages_of_cache cache.old) tree.now number legs.now page)
-        → ⊥)) }
-    ensures fits { IsTrue cache.old.store.is_faithful → OnOk result ((page : ℕ)
-        → GoesOn (pages_of_cache cache.old) tree.now number page
-        × (page ≡ last → CanGrow (pages_of_cache cache.old) tree.now number legs.now page)) }
-    ensures grown { IsTrue cache.old.store.is_faithful → OnOk result
-        (HasGrownLeaf (pages_of_cache cache.old) (pages_of_cache cache.new) tree.now number last
-        legs.now) }
-    ensures full { IfErr result (IfFull ⊥) }
     ensures touches { Touches cache.old cache.new result }
     ensures asked { cache.new.asked ≤ cache.old.asked + tree.now.levels }
 {
@@ -146,21 +102,6 @@ fn root_over<S: PageStore>(
         → OnOk result (KeepsLeaves (pages_of_cache cache.old) (pages_of_cache cache.new)) }
     ensures no_more { IsTrue cache.old.store.is_faithful
         → OnOk result (KeepsLeaves (pages_of_cache cache.new) (pages_of_cache cache.old)) }
-    ensures carries { IsTrue cache.old.store.is_faithful → tree.now.root < child.now.child
-        → cache.old.count ≡ suc child.now.child
-        → IsOnLevel (pages_of_cache cache.old) level child.now.child → IfOk result
-        (Carries (pages_of_cache cache.old) (pages_of_cache cache.new) tree.now.root
-        tree.now.levels level child.now.bounds child.now.child) }
-    ensures blames { IsTrue cache.old.store.is_faithful → IfErr result (IfNamed (λ page.
-        (page ≡ tree.now.root)
-        × (0 < page → HasCover leg_boxes (pages_of_cache cache.old) page → ⊥))) }
-    ensures bare { IsTrue cache.old.store.is_faithful → OnOk result
-        ((0 < tree.now.root) × HasCover leg_boxes (pages_of_cache cache.old) tree.now.root) }
-    ensures hung { IsTrue cache.old.store.is_faithful → 0 < cache.old.count → (at : ℕ)
-        → IfOk result (HasHungBlock (pages_of_cache cache.old) (pages_of_cache cache.new) tree.now
-        level at child.now) }
-    ensures full { IsTrue cache.old.store.is_faithful → (at : ℕ) → IfErr result (IfFull
-        (HasLackedBlock (pages_of_cache cache.old) tree.now level at child.now cache.new.count)) }
     ensures touches { Touches cache.old cache.new result }
     ensures asked { cache.new.asked ≤ cache.old.asked + 2 }
     ensures levels { IfOk result (λ top. top.levels ≡ tree.now.levels + 1) }
@@ -196,29 +137,6 @@ fn hang<S: PageStore>(
         → OnOk result (KeepsLeaves (pages_of_cache cache.old) (pages_of_cache cache.new)) }
     ensures no_more { IsTrue cache.old.store.is_faithful
         → OnOk result (KeepsLeaves (pages_of_cache cache.new) (pages_of_cache cache.old)) }
-    ensures carries { IsTrue cache.old.store.is_faithful → tree.now.root < child.now.child
-        → cache.old.count ≡ suc child.now.child
-        → IsOnLevel (pages_of_cache cache.old) level child.now.child → IfOk result
-        (Carries (pages_of_cache cache.old) (pages_of_cache cache.new) tree.now.root
-        tree.now.levels level child.now.bounds child.now.child) }
-    ensures blames { IsTrue cache.old.store.is_faithful
-        → (number : ℕ) (was : Pages LegView BoxView)
-        → at ≡ block_of tree.now.shape.inner number level
-        → ((k : ℕ) → k < level → entry_of tree.now.shape.inner number k ≡ 0)
-        → KeepsUpper level was (pages_of_cache cache.old)
-        → IfErr result (IfNamed (IsNoHook was tree.now number)) }
-    ensures hooks { IsTrue cache.old.store.is_faithful
-        → (number : ℕ) (was : Pages LegView BoxView)
-        → at ≡ block_of tree.now.shape.inner number level
-        → ((k : ℕ) → k < level → entry_of tree.now.shape.inner number k ≡ 0)
-        → KeepsUpper level was (pages_of_cache cache.old)
-        → KeepsTop tree.now.root was (pages_of_cache cache.old)
-        → OnOk result ((p : ℕ) → IsHook was tree.now number p) }
-    ensures hung { IsTrue cache.old.store.is_faithful → 0 < cache.old.count
-        → IfOk result (HasHungBlock (pages_of_cache cache.old) (pages_of_cache cache.new) tree.now
-        level at child.now) }
-    ensures full { IsTrue cache.old.store.is_faithful → 0 < cache.old.count → IfErr result (IfFull
-        (HasLackedBlock (pages_of_cache cache.old) tree.now level at child.now cache.new.count)) }
     ensures touches { Touches cache.old cache.new result }
     ensures asked { IfOk result (λ top. cache.new.asked + level
         ≤ cache.old.asked + top.levels) }
@@ -262,25 +180,7 @@ fn into_last<S: PageStore>(
     ensures inserts { IsTrue cache.old.store.is_faithful
         → JoinsAll (pages_of_cache cache.old) (pages_of_cache cache.new) tree.now tree.now
         place.old place.new legs.now result }
-    ensures ends { IsTrue cache.old.store.is_faithful
-        → OnOk result (HasAtEnd (pages_of_cache cache.new) place.new.last legs.now) }
-    ensures leaf { IsTrue cache.old.store.is_faithful → OnOk result
-        (GrowsLeaf (pages_of_cache cache.old) (pages_of_cache cache.new) place.old.last
-        legs.now) }
-    ensures place { OnOk result (place.new ≡ place_with tree.now.leaves place.old legs.now []) }
-    ensures met { IsTrue cache.old.store.is_faithful → OnOk result
-        (Meets (pages_of_cache cache.old) (pages_of_cache cache.new) tree.now tree.now legs.now) }
-    ensures blames { IsTrue cache.old.store.is_faithful → IfErr result
-        (IfNamed (λ page. IsFit (pages_of_cache cache.old) tree.now place.old legs.now page → ⊥)) }
-    ensures fits { IsTrue cache.old.store.is_faithful
-        → HasNumbers (pages_of_cache cache.old) tree.now place.old → NamesLast place.old
-        → OnOk result
-        ((page : ℕ) → IsFit (pages_of_cache cache.old) tree.now place.old legs.now page) }
-    ensures run { IsTrue cache.old.store.is_faithful → OnOk result
-        (HasRun (pages_of_cache cache.old) (pages_of_cache cache.new) tree.now tree.now place.old
-        legs.now) }
-    ensures unmoved { OnErr result (place.new ≡ place.old) }
-    ensures full { IfErr result (IfFull ⊥) }
+    ensures counted { OnOk result (place.new.legs ≡ place.old.legs + length legs.now) }
     ensures touches { Touches cache.old cache.new result }
     ensures asked { cache.new.asked ≤ cache.old.asked + tree.now.levels }
 {
@@ -302,31 +202,13 @@ fn add_last<S: PageStore>(
     ensures begins { IsTrue cache.old.store.is_faithful
         → IfOk result (Begins leg_feature (pages_of_cache cache.old) last legs.now
         (pages_of_cache cache.new)) }
-    ensures ends { IsTrue cache.old.store.is_faithful
-        → IfOk result (λ page. HasAtEnd (pages_of_cache cache.new) page legs.now) }
-    ensures leaf { IsTrue cache.old.store.is_faithful → IfOk result
-        (BeginsLeaf (pages_of_cache cache.old) (pages_of_cache cache.new) last legs.now) }
     ensures number { IfOk result (λ page. page ≡ cache.old.count) }
     ensures only { IsTrue cache.old.store.is_faithful
         → (0 < last → HasLastLeaf (pages_of_cache cache.old) last (owner leg_feature legs.now))
         → last < cache.old.count → are_of_one_leaf legs.now ≡ true
         → IfErr result MayRefuseWrite }
-    ensures says { IsTrue cache.old.store.is_faithful
-        → OnOk result (SaysMore (pages_of_cache cache.old) (pages_of_cache cache.new)) }
-    ensures kids { IsTrue cache.old.store.is_faithful
-        → OnOk result (KeepsKids (pages_of_cache cache.old) (pages_of_cache cache.new)) }
-    ensures kinds { IsTrue cache.old.store.is_faithful → OnOk result
-        (KeepsKinds (pages_of_cache cache.old) (pages_of_cache cache.new) legs.now) }
-    ensures none { OnOk result (IsBareBeyond (pages_of_cache cache.old)) }
     ensures counted { IsTrue cache.old.store.is_faithful
         → OnOk result (cache.new.count ≡ cache.old.count + 1) }
-    ensures blames { IsTrue cache.old.store.is_faithful
-        → IfErr result (IfNamed (IsNoEnd (pages_of_cache cache.old) last legs.now)) }
-    ensures fits { IsTrue cache.old.store.is_faithful → OnOk result
-        ((are_of_one_leaf legs.now ≡ true)
-        × (0 < last → (last < cache.old.count)
-        × HasLastLeaf (pages_of_cache cache.old) last (owner leg_feature legs.now))) }
-    ensures full { IfErr result (IfFull (cache.new.count ≡ cache.old.count)) }
     ensures touches { Touches cache.old cache.new result }
     ensures asked { cache.new.asked ≤ cache.old.asked + 2 }
 {
@@ -358,23 +240,7 @@ fn hang_leaf<S: PageStore>(
         → OnOk result (KeepsLeaves (pages_of_cache cache.old) (pages_of_cache cache.new)) }
     ensures no_more { IsTrue cache.old.store.is_faithful
         → OnOk result (KeepsLeaves (pages_of_cache cache.new) (pages_of_cache cache.old)) }
-    ensures carries { IsTrue cache.old.store.is_faithful → tree.now.root < page.now.child
-        → cache.old.count ≡ suc page.now.child
-        → IsOnLevel (pages_of_cache cache.old) 0 page.now.child → IfOk result
-        (Carries (pages_of_cache cache.old) (pages_of_cache cache.new) tree.now.root
-        tree.now.levels 0 page.now.bounds page.now.child) }
     ensures some { IfOk result (λ top. 0 < top.levels) }
-    ensures blames { IsTrue cache.old.store.is_faithful → (was : Pages LegView BoxView)
-        → KeepsUpper 0 was (pages_of_cache cache.old)
-        → IfErr result (IfNamed (IsNoHook was tree.now tree.now.leaves)) }
-    ensures hooks { IsTrue cache.old.store.is_faithful → (was : Pages LegView BoxView)
-        → KeepsUpper 0 was (pages_of_cache cache.old)
-        → KeepsTop tree.now.root was (pages_of_cache cache.old)
-        → OnOk result ((p : ℕ) → IsHook was tree.now tree.now.leaves p) }
-    ensures hung { IsTrue cache.old.store.is_faithful → 0 < cache.old.count → IfOk result
-        (HasHungLeaf (pages_of_cache cache.old) (pages_of_cache cache.new) tree.now page.now) }
-    ensures full { IsTrue cache.old.store.is_faithful → 0 < cache.old.count → IfErr result (IfFull
-        (HasLackedLeaf (pages_of_cache cache.old) tree.now page.now cache.new.count)) }
     ensures touches { Touches cache.old cache.new result }
     ensures asked { IfOk result (λ top. cache.new.asked ≤ cache.old.asked + top.levels) }
     ensures higher { IfOk result (λ top. tree.now.levels ≤ top.levels) }
@@ -407,29 +273,9 @@ fn begin<S: PageStore>(
     ensures inserts { IsTrue cache.old.store.is_faithful
         → JoinsAll (pages_of_cache cache.old) (pages_of_cache cache.new) tree.old tree.new
         place.old place.new legs.now result }
-    ensures ends { IsTrue cache.old.store.is_faithful
-        → OnOk result (HasAtEnd (pages_of_cache cache.new) place.new.last legs.now) }
-    ensures leaf { IsTrue cache.old.store.is_faithful → OnOk result
-        (BeginsLeaf (pages_of_cache cache.old) (pages_of_cache cache.new) place.old.last legs.now
-        cache.old.count) }
-    ensures place { OnOk result (place.new
-        ≡ place_with tree.old.leaves place.old legs.now (cache.old.count ∷ [])) }
     ensures spent { tree.new.spent ≡ tree.old.spent }
     ensures shape { tree.new.shape ≡ tree.old.shape }
-    ensures met { IsTrue cache.old.store.is_faithful → OnOk result
-        (Meets (pages_of_cache cache.old) (pages_of_cache cache.new) tree.old tree.new legs.now) }
-    ensures blames { IsTrue cache.old.store.is_faithful → IfErr result
-        (IfNamed (λ page. IsFit (pages_of_cache cache.old) tree.old place.old legs.now page → ⊥)) }
-    ensures fits { IsTrue cache.old.store.is_faithful
-        → HasNumbers (pages_of_cache cache.old) tree.old place.old → NamesLast place.old
-        → OnOk result
-        ((page : ℕ) → IsFit (pages_of_cache cache.old) tree.old place.old legs.now page) }
-    ensures run { IsTrue cache.old.store.is_faithful → OnOk result
-        (HasRun (pages_of_cache cache.old) (pages_of_cache cache.new) tree.old tree.new place.old
-        legs.now) }
-    ensures unmoved { OnErr result ((tree.new ≡ tree.old) × (place.new ≡ place.old)) }
-    ensures full { IsTrue cache.old.store.is_faithful → IfErr result (IfFull
-        (HasLackedRun (pages_of_cache cache.old) tree.old place.old legs.now cache.new.count)) }
+    ensures counted { OnOk result (place.new.legs ≡ place.old.legs + length legs.now) }
     ensures touches { Touches cache.old cache.new result }
     ensures asked { OnOk result (cache.new.asked
         ≤ cache.old.asked + (tree.new.levels + 2)) }
@@ -459,7 +305,6 @@ fn begin<S: PageStore>(
 /// Whether a place has legs and names no last leaf, or has none and names one.
 fn is_torn(place: &Place) -> bool
     ensures torn { result ≡ true → NamesLast place.now → ⊥ }
-    ensures whole { result ≡ false → NamesLast place.now }
 {
     if place.legs == 0 {
         place.last != 0
@@ -483,43 +328,11 @@ pub(crate) fn put<S: PageStore>(
         place.old place.new legs.now result }
     ensures spent { tree.new.spent ≡ tree.old.spent }
     ensures shape { tree.new.shape ≡ tree.old.shape }
-    ensures met { IsTrue cache.old.store.is_faithful → OnOk result
-        (Meets (pages_of_cache cache.old) (pages_of_cache cache.new) tree.old tree.new legs.now) }
-    ensures blames { IsTrue cache.old.store.is_faithful → IfErr result
-        (IfNamed (λ page. IsFit (pages_of_cache cache.old) tree.old place.old legs.now page → ⊥)) }
-    ensures fits { IsTrue cache.old.store.is_faithful → OnOk result
-        ((page : ℕ) → IsFit (pages_of_cache cache.old) tree.old place.old legs.now page) }
-    ensures run { IsTrue cache.old.store.is_faithful → OnOk result
-        (HasRun (pages_of_cache cache.old) (pages_of_cache cache.new) tree.old tree.new place.old
-        legs.now) }
-    ensures unmoved { OnErr result ((tree.new ≡ tree.old) × (place.new ≡ place.old)) }
-    ensures full { IsTrue cache.old.store.is_faithful → IfErr result (IfFull
-        (HasLackedRun (pages_of_cache cache.old) tree.old place.old legs.now cache.new.count)) }
+    ensures counted { OnOk result (place.new.legs ≡ place.old.legs + length legs.now) }
     ensures touches { Touches cache.old cache.new result }
     ensures asked { OnOk result (cache.new.asked
         ≤ cache.old.asked + (2 * (tree.new.levels - 1) + 4)) }
     ensures higher { OnOk result (tree.old.levels ≤ tree.new.levels) }
-    ensures ends { IsTrue cache.old.store.is_faithful
-        → OnOk result (HasAtEnd (pages_of_cache cache.new) place.new.last legs.now) }
-    ensures grows { IsTrue cache.old.store.is_faithful → 0 < place.old.legs % tree.old.shape.leaf
-        → OnOk result (GrowsLeaf (pages_of_cache cache.old) (pages_of_cache cache.new)
-        place.old.last legs.now) }
-    ensures begins { IsTrue cache.old.store.is_faithful → place.old.legs % tree.old.shape.leaf ≡ 0
-        → OnOk result (BeginsLeaf (pages_of_cache cache.old) (pages_of_cache cache.new)
-        place.old.last legs.now cache.old.count) }
-    ensures place { OnOk result (place.new ≡ place_with tree.old.leaves place.old legs.now
-        (page_made tree.old.shape.leaf cache.old.count place.old)) }
-    ensures range { IsShape tree.old.shape }
-    ensures rooted { OnOk result (tree.old.root < cache.old.count) }
-    ensures named { OnOk result (NamesLast place.old) }
-    ensures begun { place.old.legs % tree.old.shape.leaf ≡ 0
-        → OnOk result (tree.new.leaves ≡ tree.old.leaves + 1) }
-    ensures grown { 0 < place.old.legs % tree.old.shape.leaf
-        → OnOk result (tree.new.leaves ≡ tree.old.leaves) }
-    ensures begun_asked { place.old.legs % tree.old.shape.leaf ≡ 0
-        → OnOk result (cache.new.asked ≤ cache.old.asked + (tree.new.levels + 2)) }
-    ensures grown_asked { 0 < place.old.legs % tree.old.shape.leaf
-        → OnOk result (cache.new.asked ≤ cache.old.asked + tree.old.levels) }
 {
     let leaf = u64::from(tree.shape.leaf());
     if tree.leaves >= cache.count() || tree.levels >= MOST_LEVELS || place.legs > u64::MAX - leaf {
@@ -561,50 +374,12 @@ pub fn insert<S: PageStore>(
         place.old place.new leg result }
     ensures shape { tree.new.shape ≡ tree.old.shape }
 
-    // Over any faithful pages: the place's last leaf has the leg at its end, where it had room, and else a leaf of the leg
-    // alone is made behind it; each other leaf is as it was. By each test of boxes that a greater box does not fail the
-    // way down meets each page that it met, and finds each leg that it found, and the leg where its box meets; only pages
-    // that are made become entries, and the old root. What all pages say then, and the place, is exactly what a plain program
-    // makes of what they said.
-    ensures fills { IsTrue cache.old.store.is_faithful → OnOk result
-        (FillsLeaves tree.old.shape.leaf (pages_of_cache cache.old) (pages_of_cache cache.new)
-        tree.old.leaves tree.new.leaves place.old place.new (leg ∷ [])
-        (page_made tree.old.shape.leaf cache.old.count place.old)) }
-    ensures met { IsTrue cache.old.store.is_faithful → OnOk result
-        (ContentGrows (pages_of_cache cache.old) (pages_of_cache cache.new) tree.old tree.new
-        (leg ∷ [])) }
-    ensures grown { IsTrue cache.old.store.is_faithful → OnOk result
-        (HasPlanted leg.feature (pages_of_cache cache.old) (pages_of_cache cache.new) tree.old
-        tree.new place.old place.new (leg ∷ [])) }
-    ensures place { OnOk result (place.new ≡ place_with tree.old.leaves place.old (leg ∷ [])
-        (page_made tree.old.shape.leaf cache.old.count place.old)) }
-    ensures named { OnOk result (NamesLast place.old) }
-    ensures rooted { OnOk result (tree.old.root < cache.old.count) }
-
     // What is left of the cache, over any pages.
     ensures passes { Passes cache.old cache.new }
-    ensures others { KeepsOthers cache.old cache.new }
     ensures length { OnOk result (KeepsLength cache.old cache.new) }
     ensures caused { tree.old.spent ≡ false → IfErr result (RefusesWrite cache.old cache.new) }
     ensures asked { OnOk result (cache.new.asked
         ≤ cache.old.asked + (2 * (tree.new.levels - 1) + 4)) }
-
-    // A page that is named, damaged or malformed, was not what the leg needs of it at its place,
-    // before anything was written.
-    ensures blames { tree.old.spent ≡ false → IsTrue cache.old.store.is_faithful
-        → IfErr result (IfNamed (λ page.
-        IsFit (pages_of_cache cache.old) tree.old place.old (leg ∷ []) page → ⊥)) }
-    ensures unmoved { OnErr result ((tree.new ≡ record tree.old { spent = true })
-        × (place.new ≡ place.old)) }
-
-    // Where it is answered, each page is what the leg needs of it at its place.
-    ensures fits { IsTrue cache.old.store.is_faithful → OnOk result
-        ((page : ℕ) → IsFit (pages_of_cache cache.old) tree.old place.old (leg ∷ []) page) }
-
-    // Where the store is said to be full, the leg takes more pages than there are then.
-    ensures lacks { tree.old.spent ≡ false → IsTrue cache.old.store.is_faithful
-        → IfErr result (IfFull (HasLacked leg.feature (pages_of_cache cache.old) tree.old
-        place.old cache.new.count (leg ∷ []))) }
 
     // A refusal is for good.
     ensures works { OnOk result (tree.new.spent ≡ false) }

@@ -4,8 +4,7 @@ ghost use Rattle.legs.specs.Hull.{leg_boxes};
 ghost use Rattle.pagecache.specs.Cache as caches;
 ghost use Rattle.pagecache.specs.Cache.{payload_of, AsksOnce, IsNotAdded, KeepsPayloads};
 ghost use Rattle.tbnode.specs.Edits.{new_inner};
-ghost use Rattle.tbtree.specs.Content.{IsBareBeyond};
-ghost use Rattle.tbtree.specs.Faults.{IfFull, IfNamed, MayRefuseWrite};
+ghost use Rattle.tbtree.specs.Faults.{MayRefuseWrite};
 ghost use Rattle.tbtree.specs.Nodes.{pages_of_cache, AnInner, Adds, Attaches, Covers, HasCover, HasEntry, HasLastLeaf, HasLeafRoom, HasRoom, Links, Pushes, Widens};
 ghost use Rattle.tbtree.specs.Passes.{Touches};
 ghost use Rattle.tbtree.specs.Payloads.{TakesLegs, are_of_one_leaf, leaf_of_legs};
@@ -30,11 +29,6 @@ pub(crate) fn widen<S: PageStore>(
         (pages_of_cache cache.new)) }
     ensures only { IsTrue cache.old.store.is_faithful
         → HasEntry (pages_of_cache cache.old) page level entry → IfErr result MayRefuseWrite }
-    ensures above { OnOk result (0 < page) }
-    ensures blames { IsTrue cache.old.store.is_faithful
-        → IfErr result (IfNamed (λ n. (n ≡ page)
-        × (HasEntry (pages_of_cache cache.old) page level entry → ⊥))) }
-    ensures full { IfErr result (IfFull ⊥) }
     ensures touches { Touches cache.old cache.new result }
     ensures asked { cache.new.asked ≤ cache.old.asked + 1 }
 {
@@ -66,13 +60,6 @@ pub(crate) fn grow<S: PageStore>(
     ensures only { IsTrue cache.old.store.is_faithful
         → HasLeafRoom (pages_of_cache cache.old) page (λ leaf. TakesLegs most leaf legs.now)
         → IfErr result MayRefuseWrite }
-    ensures takes { IsTrue cache.old.store.is_faithful
-        → OnOk result (HasLeafRoom (pages_of_cache cache.old) page
-        (λ leaf. TakesLegs most leaf legs.now)) }
-    ensures blames { IsTrue cache.old.store.is_faithful
-        → IfErr result (IfNamed (λ n. (n ≡ page) × (HasLeafRoom (pages_of_cache cache.old) page
-        (λ leaf. TakesLegs most leaf legs.now) → ⊥))) }
-    ensures full { IfErr result (IfFull ⊥) }
     ensures touches { Touches cache.old cache.new result }
     ensures asked { cache.new.asked ≤ cache.old.asked + 1 }
 {
@@ -101,12 +88,6 @@ pub(crate) fn link<S: PageStore>(
         → OnOk result (Links (pages_of_cache cache.old) page next (pages_of_cache cache.new)) }
     ensures only { IsTrue cache.old.store.is_faithful
         → HasLastLeaf (pages_of_cache cache.old) page feature → IfErr result MayRefuseWrite }
-    ensures last { IsTrue cache.old.store.is_faithful
-        → OnOk result (HasLastLeaf (pages_of_cache cache.old) page feature) }
-    ensures blames { IsTrue cache.old.store.is_faithful
-        → IfErr result (IfNamed (λ n. (n ≡ page)
-        × (HasLastLeaf (pages_of_cache cache.old) page feature → ⊥))) }
-    ensures full { IfErr result (IfFull ⊥) }
     ensures touches { Touches cache.old cache.new result }
     ensures asked { cache.new.asked ≤ cache.old.asked + 1 }
 {
@@ -138,13 +119,6 @@ pub(crate) fn attach<S: PageStore>(
         entry.now.bounds (pages_of_cache cache.new)) }
     ensures only { IsTrue cache.old.store.is_faithful
         → HasRoom (pages_of_cache cache.old) page level most → IfErr result MayRefuseWrite }
-    ensures room { IsTrue cache.old.store.is_faithful
-        → OnOk result (HasRoom (pages_of_cache cache.old) page level most) }
-    ensures above { OnOk result (0 < page) }
-    ensures blames { IsTrue cache.old.store.is_faithful
-        → IfErr result (IfNamed (λ n. (n ≡ page)
-        × (HasRoom (pages_of_cache cache.old) page level most → ⊥))) }
-    ensures full { IfErr result (IfFull ⊥) }
     ensures touches { Touches cache.old cache.new result }
     ensures asked { cache.new.asked ≤ cache.old.asked + 1 }
 {
@@ -197,13 +171,7 @@ pub(crate) fn add_leaf<S: PageStore>(
         (pages_of_cache cache.new)) }
     ensures only { IsTrue cache.old.store.is_faithful
         → are_of_one_leaf legs.now ≡ true → IfErr result MayRefuseWrite }
-    ensures fresh { OnOk result ((pages_of_cache cache.old).at cache.old.count ≡ None) }
-    ensures none { OnOk result (IsBareBeyond (pages_of_cache cache.old)) }
     ensures number { IfOk result (λ page. page ≡ cache.old.count) }
-    ensures one { OnOk result (are_of_one_leaf legs.now ≡ true) }
-    ensures blames { IsTrue cache.old.store.is_faithful → IfErr result
-        (IfNamed (λ n. (n ≡ previous) × (are_of_one_leaf legs.now ≡ true → ⊥))) }
-    ensures full { IfErr result (IfFull (cache.new.count ≡ cache.old.count)) }
     ensures touches { Touches cache.old cache.new result }
     ensures asked { cache.new.asked ≤ cache.old.asked + 1 }
 {
@@ -226,8 +194,6 @@ pub(crate) fn add_inner<S: PageStore>(
         (pages_of_cache cache.new)) }
     ensures fresh { (pages_of_cache cache.old).at cache.old.count ≡ None }
     ensures only { IsTrue cache.old.store.is_faithful → IfErr result MayRefuseWrite }
-    ensures blames { IfErr result (IfNamed (λ n. ⊥)) }
-    ensures full { IfErr result (IfFull (cache.new.count ≡ cache.old.count)) }
     ensures touches { Touches cache.old cache.new result }
     ensures asked { cache.new.asked ≤ cache.old.asked + 1 }
 {
@@ -251,8 +217,6 @@ pub(crate) fn add_root<S: PageStore>(
         (pages_of_cache cache.new)) }
     ensures fresh { (pages_of_cache cache.old).at cache.old.count ≡ None }
     ensures only { IsTrue cache.old.store.is_faithful → IfErr result MayRefuseWrite }
-    ensures blames { IfErr result (IfNamed (λ n. ⊥)) }
-    ensures full { IfErr result (IfFull (cache.new.count ≡ cache.old.count)) }
     ensures touches { Touches cache.old cache.new result }
     ensures asked { cache.new.asked ≤ cache.old.asked + 1 }
 {
@@ -270,11 +234,6 @@ pub(crate) fn cover<S: PageStore>(cache: &mut PageCache<S>, page: u32) -> Result
         (pages_of_cache cache.new)) }
     ensures only { IsTrue cache.old.store.is_faithful → 0 < page
         → HasCover leg_boxes (pages_of_cache cache.old) page → IfErr result MayRefuseWrite }
-    ensures above { OnOk result (0 < page) }
-    ensures blames { IsTrue cache.old.store.is_faithful
-        → IfErr result (IfNamed (λ n. (n ≡ page)
-        × (0 < page → HasCover leg_boxes (pages_of_cache cache.old) page → ⊥))) }
-    ensures full { IfErr result (IfFull ⊥) }
     ensures touches { Touches cache.old cache.new result }
     ensures asked { cache.new.asked ≤ cache.old.asked + 1 }
 {

@@ -3,7 +3,7 @@ ghost use Rattle.std.specs.Prelude.{◌≡◌, ◌<◌, ◌≤◌, ◌↔◌, If
 ghost use Rattle.legs.specs.Hull.{hull, leg_boxes};
 ghost use Rattle.tbnode.specs.Form.{node_of};
 ghost use Rattle.tbnode.specs.Nodes.{as_leaf};
-ghost use Rattle.tbtree.specs.Nodes.{boxes, cover_all, cover_of_page};
+ghost use Rattle.tbtree.specs.Nodes.{boxes, cover_all};
 ghost use Rattle.tbtree.specs.Payloads.{IsEntry, HasNoEntry, IsLastLeaf, Takes, TakesLegs, IsRoomy, are_of_one_leaf, cover_of_node, goes_on, leaf_of_legs, leaf_with_legs};
 
 use legs::{Box3, Leg};

@@ -1,20 +1,18 @@
 -- How a book and its part take in the records of a file.
-use Rattle.std.proofs.Common.{[], ◌∷◌, ◌++◌, ◌+◌, ◌<◌, ◌≤◌, ◌≡◌, ◌≢◌, ◌∙◌, ◌||◌, ℕ, ℤ, ap, sym, refl, subst, arith, List, Bool, true, false, cond, eqb, filter, get_or, length, map, inl, inr, Option, Some, None}
-use Rattle.std.specs.Prelude.{All, AllPairs, bytes_eq, fold}
+use Rattle.std.proofs.Common.{[], ◌∷◌, ◌++◌, ◌+◌, ◌<◌, ◌≤◌, ◌≡◌, ◌∙◌, ◌||◌, ℕ, ℤ, ap, sym, refl, subst, arith, List, Bool, true, false, cond, eqb, filter, get_or, length, map, inl, inr, Option, Some, None}
+use Rattle.std.specs.Prelude.{All, bytes_eq, fold}
 use Rattle.std.specs.Option.{option_and_then}
 use Rattle.std.specs.List.{list_any, range_with_len}
 use Rattle.std.proofs.lemmas.Bool.{cases_Bool}
-use Rattle.std.proofs.lemmas.Bool.Decides.{nat_tests}
 use Rattle.std.proofs.lemmas.List.{append-nil, get_or_append_left, get_or_push, length_push, map-append}
-use Rattle.std.proofs.lemmas.List.Elements.{All-append, All-head, All-map, All-tail, All-weaker, filter-append}
-use Rattle.std.proofs.lemmas.List.Quantifiers.{all_pairs_push}
+use Rattle.std.proofs.lemmas.List.Elements.{All-append, All-head, All-tail, All-weaker, filter-append}
 use Rattle.std.proofs.lemmas.List.Sums.{passes_at_first}
 use Rattle.mfcsv.specs.Views.{RecordView, leg_count}
 use Rattle.legs.specs.Legs.{LegView, leg_of, step_at}
 use Rattle.legs.specs.Index.{last_end, legs_of}
 use Rattle.legs.specs.Book.{Book, is_before, leg_at, name_end, names_with, number_of, record_legs, with_record, with_records}
 use Rattle.legs.specs.Law.{IsThere}
-use Rattle.legs.proofs.NameLemmas.{any_is_first, feature_of-known, feature_of-new, known_or_new, length-names_with, names_with-known, names_with-new, text_same}
+use Rattle.legs.proofs.NameLemmas.{feature_of-known, feature_of-new, known_or_new, names_with-known, names_with-new, text_same}
 pub use Rattle.legs.proofs.LawLemmas.{names_longer}
 use Rattle.legs.proofs.LawLemmas.{distinct_more, first_there}
 use Rattle.legs.proofs.RecordLemmas.{with_record-legs, with_record-names, with_record-rows}

@@ -1,21 +1,20 @@
 -- A database that lasts between runs.
 use Rattle.trajdb.specs.declared.RunFault.{RunFault}
-use Rattle.std.proofs.Common.{Bool, inl, inr, ◌≡◌, refl, sym, ap, ◌∙◌, arith, subst, true, false, Result, Ok, Err, IsTrue}
-use Rattle.std.specs.Prelude.{◌⊎◌, IfErr, OnErr, OnOk, IsErrOf}
+use Rattle.std.proofs.Common.{Bool, ◌≡◌, refl, sym, ap, ◌∙◌, subst, true, false, Result, Ok, Err, IsTrue}
+use Rattle.std.specs.Prelude.{◌⊎◌, IfErr, OnErr, OnOk}
 use Rattle.legs.specs.Book.{Book}
 use Rattle.legs.specs.Costs.{ShapeView}
 use Rattle.legs.specs.Law.{IsBook}
 use Rattle.legs.specs.Limits.{IsLimits, LimitsView}
 use Rattle.legs.specs.Tracks.{StandsFor}
 use Rattle.boxsearch.specs.Index.{content, words, IndexView, IsMarked, IsSound as IsSoundIndex}
-use Rattle.catalogue.specs.Holding.{AnswersBook, HoldsBook, HoldsButFirst, HoldsIndex, HoldsIndexButFirst, IsAtRest, IsOfBook, IsUnfinishedStore}
+use Rattle.catalogue.specs.Holding.{AnswersBook, HoldsBook, HoldsButFirst, IsAtRest, IsOfBook, IsUnfinishedStore}
 use Rattle.register.specs.Saved.{CatalogueView}
-use Rattle.register.specs.Saving.{HasFew, IsSavingFault, IsSavingStop}
+use Rattle.register.specs.Saving.{IsSavingStop}
 use Rattle.register.specs.declared.fault.CatalogueFault.{CatalogueFault}
 use Rattle.register.specs.declared.fault.CatalogueFault.TheVariants as fault
 use Rattle.pages.specs.Store.{Store, IsLawful, IsSyncedButFirst}
-use Rattle.header.specs.Front.{SaysState}
-use Rattle.pagecache.specs.Cache.{payload_of, IsSettled}
+use Rattle.pagecache.specs.Cache.{IsSettled}
 use Rattle.catalogue.specs.Closing.{IsNoStoreFault}
 use Rattle.catalogue.specs.Closing as closing
 use Rattle.register.specs.declared.fault.CatalogueFault.TheVariants.{Memory, StoreFull, Damaged, Unfinished, Version, Malformed}
@@ -24,7 +23,7 @@ use Rattle.trajdb.specs.Calls.{IsLoadFault, KeepsPages}
 use Rattle.trajdb.specs.Database.{catalogue_of, restored}
 use Rattle.trajdb.specs.Db.{DbView, HasPages, IsSoundDb}
 use Rattle.trajdb.specs.Faults.{closed_answer}
-use Rattle.trajdb.specs.Lasting.{HasBook, IsClosingFault, IsFaultless, IsIdle, NamesFirst, TakesFew, IsTooFull}
+use Rattle.trajdb.specs.Lasting.{HasBook, IsClosingFault, IsFaultless, IsIdle}
 
 -- a book that is answered is that of the database
 pub opened_book : (shape : ShapeView) (limits : LimitsView) (book : Book) (c : CatalogueView) (index : IndexView) (begun : Bool) (db : DbView) → db ≡ restored words c index begun → IsLimits db.limits → AnswersBook shape limits book c index → HasBook shape limits book db
@@ -72,50 +71,10 @@ pub closed_holds : (db : DbView) (s : Store) (answer : Result (Unit {0}) Catalog
 closed_holds db s (Ok x) legs h begun = λ sound pages idle. h sound.index (pages.begun begun) db.book (own_book db sound) legs
 closed_holds db s (Err e) legs h begun = tt
 
--- and keeps its catalogue and its index
-pub closed_kept : (db : DbView) (s : Store) (answer : Result (Unit {0}) CatalogueFault) → OnOk answer (IsMarked db.index.cache → HoldsIndex s (catalogue_of db) db.index)
-    → OnOk (closed_answer answer) (db.begun ≡ true → IsMarked db.index.cache → HoldsIndex s (catalogue_of db) db.index)
-closed_kept db s (Ok x) h = λ begun. h
-closed_kept db s (Err e) h = tt
-
--- so it does where page 0 says whether the index has begun
-pub closed_holds_headed : (db : DbView) (s : Store) (answer : Result (Unit {0}) CatalogueFault) → content db.index ≡ db.book.legs
-    → OnOk answer (IsSoundIndex db.index → (begun : Bool) → SaysState begun (payload_of db.index.cache 0) → (book : Book) → IsOfBook db.limits book (catalogue_of db) → content db.index ≡ book.legs → HoldsBook s db.index.tree.shape db.limits book)
-    → OnOk (closed_answer answer) (IsSoundDb db → db.begun ≡ true → (begun : Bool) → SaysState begun (payload_of db.index.cache 0) → HoldsBook s db.index.tree.shape db.limits db.book)
-closed_holds_headed db s (Ok x) legs h = λ sound _ begun says. h sound.index begun says db.book (own_book db sound) legs
-closed_holds_headed db s (Err e) legs h = tt
-
-pub closed_kept_headed : (db : DbView) (s : Store) (answer : Result (Unit {0}) CatalogueFault)
-    → OnOk answer (IsTrue db.index.cache.store.is_faithful → (begun : Bool) → SaysState begun (payload_of db.index.cache 0) → HoldsIndex s (catalogue_of db) db.index)
-    → OnOk (closed_answer answer) (db.begun ≡ true → IsTrue db.index.cache.store.is_faithful → (begun : Bool) → SaysState begun (payload_of db.index.cache 0) → HoldsIndex s (catalogue_of db) db.index)
-closed_kept_headed db s (Ok x) h = λ _. h
-closed_kept_headed db s (Err e) h = tt
-
 -- what is so of a store that is closed
 pub closed_then : (B P : Type 0) (answer : Result (Unit {0}) CatalogueFault) → OnOk answer P → OnOk (closed_answer answer) (B → P)
 closed_then B P (Ok x) h = λ b. h
 closed_then B P (Err e) h = tt
-
-pub closed_takes : (db : DbView) (s : Store) (answer : Result (Unit {0}) CatalogueFault) → OnOk answer (TakesFew db s) → OnOk (closed_answer answer) (TakesFew db s)
-closed_takes db s (Ok x) h = h
-closed_takes db s (Err e) h = tt
-
--- a store that stays as it is has no page more
-pub rest_takes : (db : DbView) (s : Store) → s ≡ db.index.cache.store → TakesFew db s
-rest_takes db s e faithful count pages earlier =
-    let n = ap (λ (s : Store). s.count) e in
-    omega (arith, count, n)
-
--- a full store that is said to be so has no room
-pub closed_full : (db : DbView) (answer : Result (Unit {0}) CatalogueFault) → (IsErrOf answer CatalogueFault.StoreFull → IsTooFull db) → IsErrOf (closed_answer answer) RunFault.StoreFull → IsTooFull db
-closed_full db (Ok x) h e = absurd cc
-closed_full db (Err Memory) h e = absurd cc
-closed_full db (Err fault.Store) h e = absurd cc
-closed_full db (Err StoreFull) h e = h refl
-closed_full db (Err (Damaged page)) h e = absurd cc
-closed_full db (Err Unfinished) h e = absurd cc
-closed_full db (Err Version) h e = absurd cc
-closed_full db (Err Malformed) h e = absurd cc
 
 -- a store that failed, or is full, in the closing
 pub closed_caused : (db : DbView) (s : Store) (answer : Result (Unit {0}) CatalogueFault) → IfErr answer (closing.IsClosingFault db.index.cache.store s) → IfErr (closed_answer answer) (IsClosingFault db s)
@@ -132,11 +91,6 @@ pub closed_ordered : (db : DbView) (s : Store) (answer : Result (Unit {0}) Catal
     → OnErr (closed_answer answer) (db.failed ≡ false → IsMarked db.index.cache → IsUnfinishedStore s ⊎ IsSyncedButFirst s)
 closed_ordered db s (Ok x) h = tt
 closed_ordered db s (Err e) h = λ lives marked. h marked
-
-pub closed_behind : (db : DbView) (s : Store) (answer : Result (Unit {0}) CatalogueFault) → OnErr answer (IsMarked db.index.cache → IsUnfinishedStore s ⊎ HoldsIndexButFirst s (catalogue_of db) db.index)
-    → OnErr (closed_answer answer) (db.failed ≡ false → IsMarked db.index.cache → IsUnfinishedStore s ⊎ HoldsIndexButFirst s (catalogue_of db) db.index)
-closed_behind db s (Ok x) h = tt
-closed_behind db s (Err e) h = λ lives. h
 
 pub closed_refused : (db : DbView) (s : Store) (answer : Result (Unit {0}) CatalogueFault) → content db.index ≡ db.book.legs
     → OnErr answer (IsSoundIndex db.index → IsMarked db.index.cache → (book : Book) → IsOfBook db.limits book (catalogue_of db) → content db.index ≡ book.legs → IsUnfinishedStore s ⊎ HoldsButFirst s db.index.tree.shape db.limits book)
@@ -163,30 +117,6 @@ closed_unfinished db s answer h begun = sound_too (closed_answer answer) (closed
       → IfErr r (λ fault. IsFaultless fault → IsSoundDb db → HasPages db → db.failed ≡ false → IsUnfinishedStore s)
   sound_too (Ok x) all = tt
   sound_too (Err e) all = λ f sound pages lives. all f lives (pages.begun begun)
-
--- where page 0 is marked it refuses for want of memory and by the store alone
-pub closed_only_marked : (db : DbView) (answer : Result (Unit {0}) CatalogueFault) → IfErr answer (λ fault. IsMarked db.index.cache → HasFew (catalogue_of db) → IsSavingStop fault)
-    → IfErr (closed_answer answer) (λ fault. db.failed ≡ false → IsMarked db.index.cache → HasFew (catalogue_of db) → IsLoadFault fault)
-closed_only_marked db (Ok x) h = tt
-closed_only_marked db (Err Memory) h = λ lives marked few. tt
-closed_only_marked db (Err fault.Store) h = λ lives marked few. tt
-closed_only_marked db (Err StoreFull) h = λ lives marked few. tt
-closed_only_marked db (Err (Damaged n)) h = λ lives. h
-closed_only_marked db (Err Unfinished) h = λ lives. h
-closed_only_marked db (Err Version) h = λ lives. h
-closed_only_marked db (Err Malformed) h = λ lives. h
-
--- page 0 alone is named
-pub closed_named : (db : DbView) (answer : Result (Unit {0}) CatalogueFault) → IfErr answer (λ fault. IsTrue db.index.cache.store.is_faithful → HasFew (catalogue_of db) → IsSavingFault db.index.cache fault)
-    → IfErr (closed_answer answer) (λ fault. IsTrue db.index.cache.store.is_faithful → HasFew (catalogue_of db) → NamesFirst db fault)
-closed_named db (Ok x) h = tt
-closed_named db (Err Memory) h = λ faithful few. tt
-closed_named db (Err fault.Store) h = λ faithful few. tt
-closed_named db (Err StoreFull) h = λ faithful few. tt
-closed_named db (Err (Damaged page)) h = λ faithful few. (let saving = h faithful few in (saving.0, inr saving.2))
-closed_named db (Err Unfinished) h = λ faithful few. absurd (h faithful few)
-closed_named db (Err Version) h = λ faithful few. absurd (h faithful few)
-closed_named db (Err Malformed) h = λ faithful few. (refl, inl (h faithful few))
 
 pub closed_only : (db : DbView) (answer : Result (Unit {0}) CatalogueFault) → content db.index ≡ db.book.legs
     → IfErr answer (λ fault. IsSoundIndex db.index → (book : Book) → IsOfBook db.limits book (catalogue_of db) → content db.index ≡ book.legs → IsSavingStop fault)

@@ -8,7 +8,6 @@ pub mod RunLemmas
 pub mod FaultLemmas
 pub mod TellingLemmas
 pub mod TracedLemmas
-pub mod NamedLemmas
 pub mod PageLemmas
 pub mod LastingLemmas
 pub mod CheckLemmas

@@ -1,5 +1,5 @@
 -- A file that is read and joined, record by record.
-use Rattle.std.proofs.Common.{[], ◌∷◌, ◌++◌, ◌≡◌, ◌∙◌, ℕ, List, Option, Result, Ok, Err, inr, ap, length, refl, subst, sym}
+use Rattle.std.proofs.Common.{[], ◌∷◌, ◌++◌, ◌≡◌, ◌∙◌, ℕ, List, Option, Result, Ok, Err, ap, length, refl, subst, sym}
 use Rattle.std.proofs.lemmas.List.{map_push}
 use Rattle.mfcsv.specs.FileText.{file_of_bytes}
 use Rattle.mfcsv.specs.Rows.{rows_of}
@@ -15,26 +15,21 @@ use Rattle.mfcsv.proofs.ReadLemmas.{all_fails, all_read, read_so_far}
 use Rattle.mfcsv.proofs.WalkLemmas.{all_none}
 use Rattle.mfcsv.proofs.WholeLemmas.{whole_text}
 use Rattle.legs.specs.Book.{Book, IsRefusal, file_of, joined, with_file}
-use Rattle.legs.specs.Joining.{HasCounted, IsCounted, IsJoinedBy, IsJoining, JoinedView, JoiningView}
+use Rattle.legs.specs.Joining.{IsJoinedBy, IsJoining, JoinedView, JoiningView}
 use Rattle.legs.specs.Legs.{LegView}
 use Rattle.legs.specs.Limits.{LimitsView}
 use Rattle.legs.specs.Tracks.{StandsFor, TracksView}
 use Rattle.legs.specs.declared.head.BookHead.{BookHead}
-use Rattle.legs.specs.declared.listed.Listed.{Ghosts}
 use Rattle.legs.specs.declared.joining.JoinCode.{JoinCode}
 use Rattle.legs.specs.declared.joining.JoinFault.{JoinFault}
 use Rattle.legs.specs.declared.joining.JoinFault.TheVariants as join
-use Rattle.trajdb.specs.Answers.{book_by, book_with, counts_of, counts_or, joined_counts, load_of}
+use Rattle.trajdb.specs.Answers.{book_by, book_with, counts_or, joined_counts, load_of}
 use Rattle.legs.specs.Counting.{names_after}
-use Rattle.trajdb.specs.Calls.{BlamesFile, IsRefusedBy, NamesFile}
-use Rattle.trajdb.specs.Database.{CoreView, FaultIs, IsRefused}
+use Rattle.trajdb.specs.Database.{FaultIs, IsRefused}
 use Rattle.trajdb.specs.Loads.{Accepts, IsRead, code_fault, counts_in, join_fault, values_of}
-use Rattle.trajdb.specs.declared.Counts.{Counts}
 use Rattle.trajdb.specs.declared.FileCode.{FileCode}
 use Rattle.trajdb.specs.declared.LoadFault.{LoadFault}
 use Rattle.trajdb.specs.declared.LoadFault.TheVariants.{Refused, Run}
-use Rattle.trajdb.specs.declared.RunFault.{RunFault}
-use Rattle.trajdb.specs.declared.RunFault.TheVariants as run
 use Rattle.trajdb.specs.declared.load.NewFile.{NewFile}
 
 -- some records were read and joined, and this is left of the text
@@ -43,40 +38,25 @@ pub record IsReading (tracks : TracksView) (limits : LimitsView) (text left : Re
   pub said : with_all records left ≡ text
   pub joining : (book : Book) → StandsFor tracks book → IsJoining limits joiner book records
   pub values : rows ≡ values_of records
-  pub counted : HasCounted joiner records
 
-pub reading_starts : (tracks : TracksView) (limits : LimitsView) (text left : Result File (Code × ℕ)) (joiner : JoiningView) (rows : List (List (List ℕ))) → left ≡ text → ((book : Book) → StandsFor tracks book → IsJoining limits joiner book []) → HasCounted joiner [] → rows ≡ []
+pub reading_starts : (tracks : TracksView) (limits : LimitsView) (text left : Result File (Code × ℕ)) (joiner : JoiningView) (rows : List (List (List ℕ))) → left ≡ text → ((book : Book) → StandsFor tracks book → IsJoining limits joiner book []) → rows ≡ []
     → IsReading tracks limits text left joiner rows
-reading_starts tracks limits text left joiner rows e joining counts none = record { records = []; said = all_none left ∙ e; joining = joining; values = none; counted = counts }
+reading_starts tracks limits text left joiner rows e joining none = record { records = []; said = all_none left ∙ e; joining = joining; values = none }
 
 -- one record more
 pub reading_more : (tracks : TracksView) (limits : LimitsView) (text left rest : Result File (Code × ℕ)) (joiner joiner' : JoiningView) (rows rows' : List (List (List ℕ))) (r : RecordView) → IsReading tracks limits text left joiner rows → left ≡ with_first r rest
-    → ((ls : LimitsView) (book : Book) (records : List RecordView) → IsJoining ls joiner book records → IsJoining ls joiner' book (records ++ r ∷ [])) → ((records : List RecordView) → HasCounted joiner records → HasCounted joiner' (records ++ r ∷ [])) → rows' ≡ rows ++ r.attributes ∷ [] → IsReading tracks limits text rest joiner' rows'
-reading_more tracks limits text left rest joiner joiner' rows rows' r is e joins counts pushed = record {
+    → ((ls : LimitsView) (book : Book) (records : List RecordView) → IsJoining ls joiner book records → IsJoining ls joiner' book (records ++ r ∷ [])) → rows' ≡ rows ++ r.attributes ∷ [] → IsReading tracks limits text rest joiner' rows'
+reading_more tracks limits text left rest joiner joiner' rows rows' r is e joins pushed = record {
   records = is.records ++ r ∷ [];
   said = read_so_far is.records (is.records ++ r ∷ []) r left rest text is.said e refl;
   joining = λ book stands. joins limits book is.records (is.joining book stands);
   values = pushed ∙ ap (λ values. values ++ r.attributes ∷ []) is.values ∙ sym (map_push (λ (x : RecordView). x.attributes) is.records r);
-  counted = counts is.records is.counted;
 }
 
 -- a fault of the text
 code_told : (limits : LimitsView) (book : Book) (fault : FileFault) (text : Result File (Code × ℕ)) → IsTextFault fault text → FaultIs (code_fault fault) (joined_counts limits book text)
 code_told limits book text.Memory said f = tt
 code_told limits book (text.Refused code number) said f = ap (joined_counts limits book) f
-
-code_read : (bytes : List ℕ) (fault : FileFault) → IsTextFault fault (file_of_bytes bytes) → IsRefusedBy bytes (code_fault fault)
-code_read bytes text.Memory f = tt
-code_read bytes (text.Refused code number) f = f
-
-pub reading_reads : (tracks : TracksView) (limits : LimitsView) (bytes : List ℕ) (left : Result File (Code × ℕ)) (joiner : JoiningView) (rows : List (List (List ℕ))) (fault : FileFault) → IsReading tracks limits (file_of_bytes bytes) left joiner rows
-    → IsTextFault fault left → IsRefusedBy bytes (code_fault fault)
-reading_reads tracks limits bytes left joiner rows fault is f = code_read bytes fault (all_fails fault is.records left (file_of_bytes bytes) is.said f)
-
-pub reading_head_reads : (tracks : TracksView) (limits : LimitsView) (bytes : List ℕ) (left over : Result File (Code × ℕ)) (joiner : JoiningView) (rows : List (List (List ℕ))) (fault : FileFault) → IsReading tracks limits (file_of_bytes bytes) left joiner rows
-    → over ≡ left → IsTextFault fault over → IsRefusedBy bytes (code_fault fault)
-reading_head_reads tracks limits bytes left over joiner rows fault is o f =
-    reading_reads tracks limits bytes left joiner rows fault is (subst (λ (t : Result File (Code × ℕ)). IsTextFault fault t) o f)
 
 pub reading_fails : (tracks : TracksView) (limits : LimitsView) (bytes : List ℕ) (left : Result File (Code × ℕ)) (joiner : JoiningView) (rows : List (List (List ℕ))) (fault : FileFault) (book : Book) → IsReading tracks limits (file_of_bytes bytes) left joiner rows
     → IsTextFault fault left → FaultIs (code_fault fault) (load_of limits book bytes)
@@ -96,14 +76,10 @@ reading_ends tracks limits bytes left over joiner rows head is o h = all_read is
 pub reading_joined : (tracks : TracksView) (limits : LimitsView) (bytes : List ℕ) (left : Result File (Code × ℕ)) (joiner : JoiningView) (rows : List (List (List ℕ))) (first : Option BookHead) (head : Head) (by : JoinedView) (is : IsReading tracks limits (file_of_bytes bytes) left joiner rows)
     → file_of_bytes bytes ≡ Ok (file_of head is.records)
     → ((ls : LimitsView) (book : Book) (records : List RecordView) → IsJoining ls joiner book records → book.head ≡ first → IsJoinedBy ls book (file_of head records) by)
-    → ((records : List RecordView) → HasCounted joiner records → IsCounted records by)
     → IsRead tracks first limits (file_of_bytes bytes) (record { head = head; joined = by; rows = rows })
-reading_joined tracks limits bytes left joiner rows first head by is said joined counts = record {
+reading_joined tracks limits bytes left joiner rows first head by is said joined = record {
   file = file_of head is.records;
   said = said;
-  head_is = refl;
-  rows_are = is.values;
-  counted = counts is.records is.counted;
   accepts = λ book stands same.
       let all = joined limits book is.records (is.joining book stands) same in
       (all, all.follow, whole_text (rows_of bytes) (file_of head is.records) said, refl, is.values);
@@ -119,17 +95,6 @@ pub reading_refused : (tracks : TracksView) (limits : LimitsView) (bytes : List 
 unfolding load_of
 reading_refused tracks limits bytes left joiner rows head book fault is said f =
     subst (λ (text : Result File (Code × ℕ)). FaultIs (join_fault fault) (joined_counts limits book text)) (sym said) (join_told limits book (file_of head is.records) fault f)
-
-pub join_read : (bytes : List ℕ) (file : File) (fault : JoinFault) → file_of_bytes bytes ≡ Ok file → IsRefusedBy bytes (join_fault fault)
-join_read bytes file join.Memory said = tt
-join_read bytes file (join.Refused code number) said = (file, said)
-
--- the counts of a file that was joined, whatever the tracks say
-pub counts_are : (file : File) (by : JoinedView) → IsCounted file.records by → counts_in by ≡ counts_of file by.legs
-counts_are file by is =
-    let many : ℕ → Counts = λ n. record { records = n; legs = length by.legs; features = length by.names.names } in
-    let named : List (List ℕ) → Counts = λ names. record { records = length file.records; legs = length by.legs; features = length names } in
-    ap many is.many ∙ ap named is.names
 
 -- what is told of a file that was read and joined
 pub accepted_counts : (limits : LimitsView) (book : Book) (bytes : List ℕ) (file : File) (new : NewFile) → file_of_bytes bytes ≡ Ok file → Accepts limits book file new → load_of limits book bytes ≡ Ok (counts_in new.joined)
@@ -159,12 +124,3 @@ refused_book limits book bytes fault said = refused_by limits book (file_of_byte
 pub told_kept : (limits : LimitsView) (book : Book) (bytes : List ℕ) (fault : LoadFault) → IsRefused fault → FaultIs fault (load_of limits book bytes) → book ≡ book_with limits book bytes
 told_kept limits book bytes (Refused code number) told said = sym (refused_book limits book bytes (code, number) said)
 told_kept limits book bytes (Run fault) told said = absurd told
-
--- what a file's legs are refused for
-pub names_file : {I : Type 0} (g : Ghosts I) (old new : CoreView I) (bytes : List ℕ) (fault : RunFault) → BlamesFile g old new bytes fault → NamesFile g old new bytes fault
-names_file g old new bytes run.Memory h = tt
-names_file g old new bytes run.Store h = tt
-names_file g old new bytes (run.Damaged page) h = h
-names_file g old new bytes run.StoreFull h = h
-names_file g old new bytes run.Failed h = inr h
-names_file g old new bytes run.Output h = tt

@@ -10,7 +10,7 @@ use Rattle.legs.specs.Book.{Book}
 use Rattle.trajdb.specs.Script.{lines_of, pieces_of, without_return}
 use Rattle.trajdb.specs.declared.RunFault.{RunFault}
 use Rattle.trajdb.specs.Answers.{AcceptsLine, IsLineText, line_book}
-use Rattle.trajdb.specs.Calls.{Speaks, LoadsBy, LoadsWholeBy, LoadsWholeSome}
+use Rattle.trajdb.specs.Calls.{Speaks, LoadsBy}
 use Rattle.trajdb.specs.Lines.{HasDone, HasCut, HasNotDone}
 use Rattle.trajdb.specs.Run.{AcceptsSome, FailsAt, StopsAt, IsRunText, run_book, HasRun, HasStopped, HasCutRun, IsPrefixOf}
 
@@ -272,12 +272,3 @@ pub left_stops : (files : Named) (failed : Bool) (fault : RunFault) (lines : Lis
 left_stops files failed fault lines rest others line k left e fails =
     let nth = nth_line lines k line (lines_of others) (left ∙ e) in
     (k, nth.0, subst (λ (l : List ℕ). FailsAt files failed fault l) (sym nth.1) fails)
-
--- a database that has begun had, or some line was a `load` of a file without a fault, with one line more
-pub whole_more : (files : Named) (lines : List (List ℕ)) (rest others line : List ℕ) (k : ℕ) → IsLeft lines rest k → lines_of rest ≡ line ∷ lines_of others
-    → (was is new : Bool) → (is ≡ true → (was ≡ true) ⊎ LoadsWholeSome files lines) → (new ≡ true → (is ≡ true) ⊎ LoadsWholeBy files line)
-    → new ≡ true → (was ≡ true) ⊎ LoadsWholeSome files lines
-whole_more files lines rest others line k left e was is new before now b = elim (now b) [
-  | inl t ↦ before t
-  | inr whole ↦ let nth = nth_line lines k line (lines_of others) (left ∙ e) in inr (k, nth.0, subst (λ (l : List ℕ). LoadsWholeBy files l) (sym nth.1) whole)
-]

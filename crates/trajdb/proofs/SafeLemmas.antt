@@ -54,11 +54,11 @@ RestsStay = (c : CatalogueView) (a b : IndexView) → IsAtRest c a → IndexLeav
 
 -- so a call keeps the store of a database
 pub keeps_store : RestsStay → (old new : DbView) → KeepsPages words old new → IsLaterIndex words old.index new.index → (old.failed ≡ true → new ≡ old) → KeepsStore old new
-keeps_store stay old new keeps later same = record { rests = keeps_idle stay old new keeps; safe = keeps_safe old new keeps later.faults same; capacity = later.capacity; others = later.others; fields = later.fields }
+keeps_store stay old new keeps later same = record { rests = keeps_idle stay old new keeps; safe = keeps_safe old new keeps later.faults same }
 
 -- and so does a question
 pub leaves_store : RestsStay → (old new : DbView) → LeavesBook words old new → old.failed ≡ false → KeepsStore old new
-leaves_store stay old new leaves lives = record { rests = keeps_idle stay old new (keeps_leaves words old new leaves); safe = leaves_safe old new leaves lives; capacity = leaves.index.later.capacity; others = leaves.index.later.others; fields = leaves.index.later.fields }
+leaves_store stay old new leaves lives = record { rests = keeps_idle stay old new (keeps_leaves words old new leaves); safe = leaves_safe old new leaves lives }
 
 -- the pages as written of a sound index are those of its store
 written_all : (i : IndexView) → IsSoundIndex i → IsLawful i.cache.store → written i ≡ i.cache.store.pages

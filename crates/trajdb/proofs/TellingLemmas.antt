@@ -1,33 +1,27 @@
 -- What a database tells, and which page it names.
-use Rattle.std.proofs.Common.{ℕ, ◌≡◌, ◌∙◌, ◌+◌, ◌<◌, ◌≤◌, ◌++◌, ◌∷◌, [], ap, map, take, get_or, List, All, Option, Some, None, Result, Ok, Err, IfOk, refl, sym, subst, inl, inr, length, arith, true}
+use Rattle.std.proofs.Common.{ℕ, ◌≡◌, ◌∙◌, ◌+◌, ◌<◌, ◌++◌, ◌∷◌, [], ap, map, take, get_or, List, All, Option, Some, None, Result, Ok, Err, IfOk, refl, sym, subst, inl, inr, length, true}
 use Rattle.std.specs.Prelude.{◌⊎◌, OnOk}
-use Rattle.std.specs.List.{range_with_len}
 use Rattle.std.proofs.lemmas.List.{append_assoc, append-nil, map-append, take_more}
-use Rattle.std.proofs.lemmas.List.Elements.{All-nil, All-cons, All-head, All-tail}
 use Rattle.std.proofs.lemmas.Result.{IfOk-weaker}
 use Rattle.timebase.specs.Period.{PeriodView}
 use Rattle.legs.specs.Asking.{Denies}
-use Rattle.legs.specs.Boxes.{RectView, everything}
+use Rattle.legs.specs.Boxes.{RectView}
 use Rattle.legs.specs.Book.{Book}
 use Rattle.legs.specs.Law.{IsThere}
 use Rattle.legs.specs.Legs.{LegView}
-use Rattle.legs.specs.Limits.{most}
-use Rattle.legs.specs.Questions.{Question, InBox, OfFeature}
+use Rattle.legs.specs.Questions.{Question, OfFeature}
 use Rattle.legs.specs.Tracks.{IsOver}
-use Rattle.legs.specs.declared.head.BookHead.{BookHead}
 use Rattle.legs.specs.declared.index.IndexFault.{IndexFault}
 use Rattle.legs.specs.declared.index.IndexFault.TheVariants as index
 use Rattle.legs.specs.declared.listed.Listed.{Ghosts}
 use Rattle.predicates.specs.Predicates.{Holds}
-use Rattle.predicates.specs.Near.{box_near}
 use Rattle.predicates.specs.declared.Predicate.{Predicate}
-use Rattle.trajdb.specs.Answers.{file_answer, legs_text, names_text}
+use Rattle.trajdb.specs.Answers.{legs_text, names_text}
 use Rattle.trajdb.specs.Calls.{IsText, LeavesBook}
 use Rattle.trajdb.specs.Database.{CoreView}
 use Rattle.trajdb.specs.Faults.{run_fault_of}
-use Rattle.trajdb.specs.Telling.{AreLive, ArePickedOf, AreToldOf, IsToldFile, DeniesFile, DeniesFirst, DeniesLegs, DeniesLive, DeniesPicks, DeniesTrack, IsLiveTold, Names, PicksLive}
+use Rattle.trajdb.specs.Telling.{AreLive, AreToldOf, DeniesLegs, DeniesTrack, Names, PicksLive}
 use Rattle.trajdb.specs.declared.RunFault.{RunFault}
-use Rattle.trajdb.proofs.FaultLemmas.{below}
 use Rattle.trajdb.specs.declared.RunFault.TheVariants.{Memory, Store, Damaged, StoreFull, Failed, Output}
 
 module _ {I : Type 0} (g : Ghosts I) (core : CoreView I) where
@@ -43,40 +37,22 @@ module _ {I : Type 0} (g : Ghosts I) (core : CoreView I) where
   pub denied_names : (question : Question) (fault : RunFault) → Names g core (λ page. g.denies core.index question page) fault → Names g core (DeniesLegs g core question) fault
   denied_names question fault h = names_weaker (λ page. g.denies core.index question page) (DeniesLegs g core question) fault (λ page denied. inl denied) h
 
-  pub memory_names : (P : ℕ → Type 0) (fault : RunFault) → fault ≡ Memory → Names g core P fault
-  memory_names P fault e = subst (Names g core P) (sym e) tt
-
   -- a text was not made, of what is there where P holds
-  pub text_names : (P : Type 0) (Q : ℕ → Type 0) (fault : RunFault) → IsText P fault → ((page : ℕ) → page ≡ 0 → (P → ⊥) → Q page) → Names g core Q fault
-  text_names P Q Memory text lacks = tt
-  text_names P Q Store text lacks = tt
-  text_names P Q (Damaged page) text lacks = lacks page text.0 text.1
-  text_names P Q StoreFull text lacks = tt
-  text_names P Q Failed text lacks = absurd text
-  text_names P Q Output text lacks = tt
+  text_names : (P : Type 0) (Q : ℕ → Type 0) (fault : RunFault) → IsText P fault → ((page : ℕ) → page ≡ 0 → Q page) → Names g core Q fault
+  text_names P Q Memory text zero = tt
+  text_names P Q Store text zero = tt
+  text_names P Q (Damaged page) text zero = zero page text.0
+  text_names P Q StoreFull text zero = tt
+  text_names P Q Failed text zero = absurd text
+  text_names P Q Output text zero = tt
 
-  -- of legs that are told
-  pub legs_names : (new : Book) (question : Question) (legs shown : List LegView) (fault : RunFault) → new ≡ core.book → g.tells core.index question legs
-      → (All (IsThere core.book) legs → All (IsThere core.book) shown) → IsText (All (IsThere new) shown) fault → Names g core (DeniesLegs g core question) fault
-  legs_names new question legs shown fault same told within text =
-      text_names (All (IsThere new) shown) (DeniesLegs g core question) fault text
-      (λ page zero lacks. inr (zero, legs, told, λ all. lacks (subst (λ b. All (IsThere b) shown) (sym same) (within all))))
+  -- of legs
+  pub legs_names : (P : Type 0) (question : Question) (fault : RunFault) → IsText P fault → Names g core (DeniesLegs g core question) fault
+  legs_names P question fault text = text_names P (DeniesLegs g core question) fault text (λ page zero. inr zero)
 
-  -- these are the features of which a predicate holds, of those that are there
-  pub live_all : (predicate : Predicate) (rect : RectView) (period : PeriodView) (L : ℕ → Type 0) (features picked : List ℕ) → All L features → PicksLive g core predicate rect period features picked → All L picked
-  live_all predicate rect period L [] picked all h = subst (λ (l : List ℕ). All L l) (sym h) (All-nil L)
-  live_all predicate rect period L (x ∷ xs) picked all (legs, live, inl (holds, others, e, h)) =
-      subst (λ (l : List ℕ). All L l) (sym e) (All-cons L x others (All-head L x xs all) (live_all predicate rect period L xs others (All-tail L x xs all) h))
-  live_all predicate rect period L (x ∷ xs) picked all (legs, live, inr (unheld, h)) = live_all predicate rect period L xs picked (All-tail L x xs all) h
-
-  pub features_names : (new : Book) (predicate : Predicate) (rect : RectView) (period : PeriodView) (features : List ℕ) (fault : RunFault) → new ≡ core.book
-      → (length core.book.names ≤ most → PicksLive g core predicate rect period (range_with_len 0 (length core.book.names)) features)
-      → IsText (All (λ f. f < length new.names) features) fault → Names g core (λ page. length core.book.names ≤ most → DeniesFirst g core period page) fault
-  features_names new predicate rect period features fault same picks text =
-      text_names (All (λ f. f < length new.names) features) (λ page. length core.book.names ≤ most → DeniesFirst g core period page) fault text
-      (λ page zero lacks few.
-      absurd (lacks (subst (λ (b : Book). All (λ f. f < length b.names) features) (sym same)
-      (live_all predicate rect period (λ f. f < length core.book.names) (range_with_len 0 (length core.book.names)) features (below (length core.book.names) (length core.book.names) (omega arith)) (picks few)))))
+  -- and of what is told of features
+  pub track_names : (P : Type 0) (period : Option PeriodView) (fault : RunFault) → IsText P fault → Names g core (DeniesTrack g core period) fault
+  track_names P period fault text = text_names P (DeniesTrack g core period) fault text (λ page zero. inr zero)
 
   -- what is picked of what is left completes what is picked of all
   abbrev pub IsPickingLive : Predicate → RectView → PeriodView → (all left picked : List ℕ) → Type 0
@@ -108,15 +84,14 @@ module _ {I : Type 0} (g : Ghosts I) (old now : CoreView I) (leaves : LeavesBook
   failed_before (inl f) = inl (sym leaves.failed ∙ f)
   failed_before (inr s) = inr (sym leaves.index.spent ∙ s)
 
-  pub some_names : (period : PeriodView) (feature : ℕ) (fault : RunFault) → (length old.book.names ≤ most → feature < length old.book.names)
-      → ((earlier : ℕ) → earlier < feature → IsLiveTold g old period earlier) → Names g now (DeniesLive g now period feature) fault
-      → Names g old (λ page. length old.book.names ≤ most → DeniesFirst g old period page) fault
-  some_names period feature Memory less told h = tt
-  some_names period feature Store less told h = tt
-  some_names period feature (Damaged page) less told h = λ few. (feature, less few, (λ over. h.0 (subst (λ t. IsOver t feature period) (sym leaves.tracks) over), leaves.index.denied (OfFeature feature (Some period)) page h.1), told)
-  some_names period feature StoreFull less told h = tt
-  some_names period feature Failed less told h = failed_before h
-  some_names period feature Output less told h = tt
+  pub names_before : (period : Option PeriodView) (fault : RunFault) → Names g now (DeniesTrack g now period) fault → Names g old (DeniesTrack g old period) fault
+  names_before period Memory h = tt
+  names_before period Store h = tt
+  names_before period (Damaged page) (inl (feature, denied)) = inl (feature, leaves.index.denied (OfFeature feature period) page denied)
+  names_before period (Damaged page) (inr zero) = inr zero
+  names_before period StoreFull h = tt
+  names_before period Failed h = failed_before h
+  names_before period Output h = tt
 
 -- what is shown of a book that is the same, of legs that are the same
 pub shown_legs : (old new : Book) (a b : List LegView) → new ≡ old → a ≡ b → legs_text new a ≡ legs_text old b
@@ -147,64 +122,18 @@ shown_before r items old now shown legs same value text there =
 pub shown_names : (old new : Book) (a b : List ℕ) → new ≡ old → a ≡ b → names_text new a ≡ names_text old b
 shown_names old new a b same e = (λ i. names_text (same i) (e i))
 
-module _ {I : Type 0} (g : Ghosts I) (core : CoreView I) where
-  -- of a feature's legs, if there is one
-  lacks_track : (o : Option ℕ) (legs shown : List LegView) (page : ℕ) → page ≡ 0 → AreToldOf g core o legs → shown ≡ legs → (All (IsThere core.book) shown → ⊥) → DeniesTrack g core o page
-  lacks_track (Some feature) legs shown page zero told e lacks = inr (zero, legs, told, λ all. lacks (subst (All (IsThere core.book)) (sym e) all))
-  lacks_track None legs shown page zero told e lacks = lacks (subst (All (IsThere core.book)) (sym (e ∙ told)) (All-nil (IsThere core.book)))
-
-  pub track_names : (F : Type 0) (o : Option ℕ) (new : Book) (legs shown : List LegView) (fault : RunFault) → new ≡ core.book → (F → AreToldOf g core o legs) → shown ≡ legs
-      → IsText (All (IsThere new) shown) fault → Names g core (λ page. F → DeniesTrack g core o page) fault
-  track_names F o new legs shown fault same told e text =
-      text_names g core (All (IsThere new) shown) (λ page. F → DeniesTrack g core o page) fault text
-      (λ page zero lacks f. lacks_track o legs shown page zero (told f) e (λ all. lacks (subst (λ b. All (IsThere b) shown) (sym same) all)))
-
-  -- of those picked of them
-  pub picked_names : (predicate : Predicate) (rect : RectView) (period : PeriodView) (new : Book) (picked shown : List LegView) (fault : RunFault) → new ≡ core.book
-      → ArePickedOf g core predicate rect period picked → shown ≡ picked → IsText (All (IsThere new) shown) fault → Names g core (DeniesPicks g core predicate rect period) fault
-  picked_names predicate rect period new picked shown fault same are e text =
-      text_names g core (All (IsThere new) shown) (DeniesPicks g core predicate rect period) fault text
-      (λ page zero lacks. inr (zero, picked, are, λ all. lacks (subst (λ b. All (IsThere b) shown) (sym same) (subst (All (IsThere core.book)) (sym e) all))))
-
-  -- and a page that the index denies is one that is named of them
-  pub picked_denied : (predicate : Predicate) (rect : RectView) (period : PeriodView) (fault : RunFault) → Names g core (λ page. g.denies core.index (InBox (box_near predicate rect period)) page) fault → Names g core (DeniesPicks g core predicate rect period) fault
-  picked_denied predicate rect period fault h = names_weaker g core (λ page. g.denies core.index (InBox (box_near predicate rect period)) page) (DeniesPicks g core predicate rect period) fault (λ page denied. inl denied) h
-
-  -- as a file
-  pub file_says : (o : Option BookHead) (head : BookHead) (legs : List LegView) (text : List ℕ) → o ≡ Some head → g.tells core.index (InBox everything) legs → All (IsThere core.book) legs → text ≡ file_answer core.book head legs → IsToldFile g core o text
-  file_says o head legs text e told there h = subst (λ o. IsToldFile g core o text) (sym e) (legs, told, there, h)
-
-  pub file_names : (o : Option BookHead) (head : BookHead) (new : Book) (legs shown : List LegView) (fault : RunFault) → o ≡ Some head → new ≡ core.book → g.tells core.index (InBox everything) legs → shown ≡ legs
-      → IsText (All (IsThere new) shown) fault → Names g core (DeniesFile g core o) fault
-  file_names o head new legs shown fault h same told e text =
-      subst (λ o. Names g core (DeniesFile g core o) fault) (sym h)
-      (legs_names g core new (InBox everything) legs shown fault same told (λ all. subst (All (IsThere core.book)) (sym e) all) text)
-
-  -- and a fault of reading all legs
-  pub file_names_read : (o : Option BookHead) (head : BookHead) (fault : RunFault) → o ≡ Some head → Names g core (λ page. g.denies core.index (InBox everything) page) fault → Names g core (DeniesFile g core o) fault
-  file_names_read o head fault h names = subst (λ o. Names g core (DeniesFile g core o) fault) (sym h) (denied_names g core (InBox everything) fault names)
-
 -- of a feature that is there, where it is known
-module _ {I : Type 0} (g : Ghosts I) (core : CoreView I) (F : Type 0) (o : Option ℕ) (feature : ℕ) (there : F → o ≡ Some feature) where
-  pub told_of : (legs : List LegView) → g.tells core.index (OfFeature feature None) legs → F → AreToldOf g core o legs
-  told_of legs h f = subst (λ o. AreToldOf g core o legs) (sym (there f)) h
-
-  pub denied_of : (fault : IndexFault) → Denies g core.index (OfFeature feature None) fault → Names g core (λ page. F → DeniesTrack g core o page) (run_fault_of fault)
-  denied_of index.Memory h = tt
-  denied_of index.Store h = tt
-  denied_of (index.Damaged page) h = λ f. subst (λ o. DeniesTrack g core o page) (sym (there f)) (inl h)
-  denied_of index.StoreFull h = tt
-  denied_of index.Spent h = inr h
-
--- of a feature that is not over
-pub live_denied : {I : Type 0} (g : Ghosts I) (core : CoreView I) (period : PeriodView) (feature : ℕ) (fault : IndexFault) → (IsOver core.tracks feature period → ⊥)
-    → Denies g core.index (OfFeature feature (Some period)) fault → Names g core (DeniesLive g core period feature) (run_fault_of fault)
-live_denied g core period feature index.Memory still h = tt
-live_denied g core period feature index.Store still h = tt
-live_denied g core period feature (index.Damaged page) still h = (still, h)
-live_denied g core period feature index.StoreFull still h = tt
-live_denied g core period feature index.Spent still h = inr h
+pub told_of : {I : Type 0} (g : Ghosts I) (core : CoreView I) (F : Type 0) (o : Option ℕ) (feature : ℕ) → (F → o ≡ Some feature) → (legs : List LegView) → g.tells core.index (OfFeature feature None) legs → F → AreToldOf g core o legs
+told_of g core F o feature there legs h f = subst (λ o. AreToldOf g core o legs) (sym (there f)) h
 
 -- of one that is not there
 pub told_none : {I : Type 0} (g : Ghosts I) (core : CoreView I) (o : Option ℕ) (legs : List LegView) → o ≡ None → legs ≡ [] → AreToldOf g core o legs
 told_none g core o legs e h = subst (λ o. AreToldOf g core o legs) (sym e) h
+
+-- a page that the index denies of a feature is one that is named
+pub denied_of : {I : Type 0} (g : Ghosts I) (core : CoreView I) (period : Option PeriodView) (feature : ℕ) (fault : IndexFault) → Denies g core.index (OfFeature feature period) fault → Names g core (DeniesTrack g core period) (run_fault_of fault)
+denied_of g core period feature index.Memory h = tt
+denied_of g core period feature index.Store h = tt
+denied_of g core period feature (index.Damaged page) h = inl (feature, h)
+denied_of g core period feature index.StoreFull h = tt
+denied_of g core period feature index.Spent h = inr h

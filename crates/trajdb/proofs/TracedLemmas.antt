@@ -5,12 +5,9 @@ use Rattle.std.proofs.KnownBytes.{Appends-trans, Appends-nil, Appends-kept}
 use Rattle.std.specs.Io.KnownBytes.{Appends, Keeps}
 use Rattle.legs.specs.declared.listed.Listed.{Ghosts}
 use Rattle.trajdb.specs.Database.{CoreView}
-use Rattle.trajdb.specs.Calls.{LeavesBook, LoadsBy}
-use Rattle.trajdb.specs.Run.{FailsAt}
 use Rattle.trajdb.specs.Script.{lines_of}
-use Rattle.trajdb.specs.Telling.{HasCutTold, HasNamed, HasTold, NamesLine, TellsCut, TellsLine, TellsLines, TellsRun, TellsStop}
-use Rattle.trajdb.specs.declared.RunFault.{RunFault}
-use Rattle.trajdb.proofs.RunLemmas.{Named, all_taken, lines_none, more_lines, nth_line}
+use Rattle.trajdb.specs.Telling.{HasCutTold, HasTold, TellsCut, TellsLine, TellsLines, TellsRun}
+use Rattle.trajdb.proofs.RunLemmas.{Named, all_taken, lines_none, more_lines}
 
 module _ {I : Type 0} (g : Ghosts I) (files : Named) where
   -- lines and then one more
@@ -103,22 +100,6 @@ module _ {I : Type 0} (g : Ghosts I) (files : Named) where
           sends = Appends-trans a b c at.text (take cut.n cut.text) at.sends cut.sends;
           whole = (take cut.n cut.text, refl);
           prefix = (drop cut.n cut.text, ap (λ t. at.text ++ t) (sym (take-append-drop cut.n cut.text)) ∙ sym (append_assoc at.text (take cut.n cut.text) (drop cut.n cut.text)));
-        }
-
-    pub traced_stop : (fault : RunFault) → HasNamed g files b c mid new line fault → TellsStop g files a c old new fault lines
-    traced_stop fault stop =
-        let nth = nth_line lines k line (lines_of others) next_at in record {
-          k = k;
-          within = nth.0;
-          mid = mid;
-          text = at.text;
-          tells = at.tells;
-          sends = Appends-kept a b c at.text at.sends stop.sends;
-          names = subst (λ (l : List ℕ). NamesLine g files mid new l fault) (sym nth.1) stop.names;
-          store = stop.store;
-          fails = subst (λ (l : List ℕ). FailsAt files new.failed fault l) (sym nth.1) stop.fails;
-          left = subst (λ (l : List ℕ). (LoadsBy files l → ⊥) → LeavesBook g mid new) (sym nth.1) stop.left;
-          lives = stop.lives;
         }
 
   module _ (a b c : Option (List ℕ)) (old new : CoreView I) (lines : List (List ℕ)) (rest : List ℕ) (k : ℕ) (at : IsTracedAt a b old new lines rest k) where

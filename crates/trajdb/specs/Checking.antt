@@ -1,9 +1,8 @@
 -- What a check finds of a database.
-use Rattle.std.specs.Prelude.{ℕ, ◌≡◌, ◌≢◌, ◌≤◌, ◌⊎◌, List, length, slice_get, All, AllPairs, Option, Some, None}
+use Rattle.std.specs.Prelude.{ℕ, ◌≡◌, ◌≢◌, ◌≤◌, List, length, slice_get, All, AllPairs, Option, Some, None}
 use Rattle.legs.specs.Book.{feature_of}
 use Rattle.legs.specs.Law.{IsName}
 use Rattle.legs.specs.declared.head.BookHead.{BookHead}
-use Rattle.treecheck.specs.Naming.{IsFirstDamaged, IsFirstMalformed}
 use Rattle.trajdb.specs.Database.{CoreView}
 use Rattle.trajdb.specs.Db.{DbView}
 use Rattle.trajdb.specs.declared.Report.{Report}
@@ -13,13 +12,6 @@ pub record Reports (db : DbView) (report : Report) : Type 0 where
   pub pages : report.pages ≡ db.index.cache.store.count
   pub legs : report.legs ≡ length db.book.legs
   pub features : report.features ≡ length db.book.names
-
--- page n is the first that fails a check
-abbrev pub IsFirstFault : DbView → ℕ → Type 0
-IsFirstFault db n =
-    IsFirstDamaged db.index.cache n
-    ⊎ IsFirstMalformed db.begun db.index.tree (length db.book.rows) db.index.legs db.index.places
-    db.tracks db.index.cache n
 
 -- Helpers of private functions: what a check looks for beside the pages.
 

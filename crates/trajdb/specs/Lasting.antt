@@ -1,16 +1,12 @@
 -- A database that lasts between runs.
-use Rattle.std.specs.Prelude.{ℕ, ◌≡◌, ◌≤◌, ◌⊎◌, drop, true, false, List, None, Result, Ok, Err, IsTrue}
+use Rattle.std.specs.Prelude.{◌≡◌, ◌≤◌, ◌⊎◌, drop, true, false, Result, Ok, Err, IsTrue}
 use Rattle.legs.specs.Book.{Book}
 use Rattle.legs.specs.Costs.{ShapeView}
 use Rattle.legs.specs.Limits.{LimitsView}
 use Rattle.pages.specs.Store.{Store, Faulted, IsLawful}
 use Rattle.boxsearch.specs.Index.{written, IndexView, IsMarked, IsSound as IsSoundIndex}
 use Rattle.catalogue.specs.Holding.{HoldsBook, IsAtRest, IsUnfinishedStore}
-use Rattle.pagecache.specs.Cache.{payload_of}
-use Rattle.register.specs.Earlier.{AddsFew, AreEarlier, HasNoRoom}
 use Rattle.register.specs.Lasting.{IsStop}
-use Rattle.register.specs.Saving.{contents_of}
-use Rattle.register.specs.Text.{catalogue_text}
 use Rattle.register.specs.declared.fault.CatalogueFault.{CatalogueFault}
 use Rattle.trajdb.specs.Database.{catalogue_of}
 use Rattle.trajdb.specs.Db.{DbView, IsSoundDb}
@@ -52,34 +48,6 @@ IsClosingFault db new (run.Damaged page) = Unit {0}
 IsClosingFault db new run.StoreFull = new.count ≡ new.most
 IsClosingFault db new run.Failed = db.failed ≡ true
 IsClosingFault db new run.Output = ⊥
-
--- a page that a closing names is page 0, which is not there or has no payload
-abbrev pub NamesFirst : DbView → RunFault → Type 0
-NamesFirst db run.Memory = Unit {0}
-NamesFirst db run.Store = Unit {0}
-NamesFirst db (run.Damaged page) = (page ≡ 0)
-    × ((db.index.cache.count ≡ 0) ⊎ (payload_of db.index.cache 0 ≡ None))
-NamesFirst db run.StoreFull = Unit {0}
-NamesFirst db run.Failed = Unit {0}
-NamesFirst db run.Output = Unit {0}
-
--- over a faithful store, all of whose pages are counted, there are no more than the database had and those
--- that the text of its catalogue takes beyond these of an earlier one
-abbrev pub TakesFew : DbView → Store → Type 0
-TakesFew db left =
-    IsTrue db.index.cache.store.is_faithful → db.index.cache.count ≡ db.index.cache.store.count
-    → (pages : List ℕ) → AreEarlier (payload_of db.index.cache) pages
-    → AddsFew db.index.cache.count
-    (catalogue_text (contents_of (catalogue_of db) db.index.places)) pages left.count
-
--- where the store is faithful, it has no room for the pages that the text of the database's catalogue
--- takes beyond these of an earlier one
-abbrev pub IsTooFull : DbView → Type 0
-IsTooFull db =
-    IsTrue db.index.cache.store.is_faithful → (pages : List ℕ)
-    → AreEarlier (payload_of db.index.cache) pages
-    → HasNoRoom db.index.cache.count db.index.cache.store.most
-    (catalogue_text (contents_of (catalogue_of db) db.index.places)) pages
 
 -- a store has the pages that it had, and holds a book that it held, but for page 0 where it failed since
 pub record IsUnchanged (was now : Store) : Type 0 where

@@ -1,25 +1,19 @@
 -- Helpers of private functions: how a file is read and joined.
-use Rattle.std.specs.Prelude.{ℕ, ◌≡◌, ◌++◌, List, map, length, Option, Result, Ok}
-use Rattle.std.specs.List.{Contains}
+use Rattle.std.specs.Prelude.{ℕ, ◌≡◌, List, map, length, Option, Result, Ok}
 use Rattle.mfcsv.specs.FileText.{HasWholeRows}
 use Rattle.mfcsv.specs.Views.{RecordView}
 use Rattle.mfcsv.specs.declared.Code.{Code}
 use Rattle.mfcsv.specs.declared.File.{File}
 use Rattle.mfcsv.specs.declared.FileFault.{FileFault}
 use Rattle.mfcsv.specs.declared.FileFault.TheVariants as text
-use Rattle.legs.specs.Book.{Book, head_with}
+use Rattle.legs.specs.Book.{Book}
 use Rattle.legs.specs.Index.{CanFollowInTurn}
-use Rattle.legs.specs.Joining.{IsCounted, IsJoinedBy, JoinedView}
-use Rattle.legs.specs.Legs.{LegView}
+use Rattle.legs.specs.Joining.{IsJoinedBy, JoinedView}
 use Rattle.legs.specs.Limits.{LimitsView}
 use Rattle.legs.specs.Tracks.{StandsFor, TracksView}
 use Rattle.legs.specs.declared.head.BookHead.{BookHead}
 use Rattle.legs.specs.declared.joining.JoinFault.{JoinFault}
 use Rattle.legs.specs.declared.joining.JoinFault.TheVariants as join
-use Rattle.legs.specs.Asking.{FitsLeg, HasAdded}
-use Rattle.legs.specs.declared.listed.Listed.{Ghosts}
-use Rattle.trajdb.specs.Calls.{HasJoined, IsBookOf}
-use Rattle.trajdb.specs.Database.{CoreView}
 use Rattle.trajdb.specs.declared.Counts.{Counts}
 use Rattle.trajdb.specs.declared.FileCode.TheVariants.{Text, Join}
 use Rattle.trajdb.specs.declared.LoadFault.{LoadFault}
@@ -56,20 +50,5 @@ pub record IsRead (tracks : TracksView) (head : Option BookHead) (limits : Limit
     (text : Result File (Code × ℕ)) (new : NewFile) : Type 0 where
   pub file : File
   pub said : text ≡ Ok file
-  pub head_is : new.head ≡ file.head
-  pub rows_are : new.rows ≡ values_of file.records
-  pub counted : IsCounted file.records new.joined
   pub accepts : (book : Book) → StandsFor tracks book → book.head ≡ head
       → Accepts limits book file new
-
--- what is new of a file is taken in: its legs are put into the index, and the rest is added to each book that accepts it
-pub record PutsNew {I : Type 0} (g : Ghosts I) (old new : CoreView I)
-    (file : NewFile) : Type 0 where
-  pub taken : HasAdded g old.index new.index file.joined.legs
-  pub there : g.is_faithful old.index → g.is_unreadable old.index 0 → ⊥
-  pub fits : g.is_faithful old.index → (leg : LegView) → Contains file.joined.legs leg
-      → FitsLeg g old.index file.joined.legs leg
-  pub head : new.book.head ≡ head_with old.book.head file.head
-  pub rows : new.book.rows ≡ old.book.rows ++ file.rows
-  pub joins : (book : Book) → IsBookOf old book → (it : File)
-      → Accepts old.limits book it file → HasJoined new old.limits book it file.joined.legs

@@ -1,36 +1,28 @@
 -- What each call of a database promises: one record for a call, each field of which is a clause. A public function that
 -- ensures such a record ensures each of them. `load`, `command` and `run` are of a database over any index; what one over
 -- pages promises besides stands behind.
-use Rattle.std.specs.Prelude.{ℕ, ◌≡◌, ◌<◌, ◌⊎◌, Bool, List, None, Some, Result, Ok, Err, IfOk, IfErr, IsErrOf, IsTrue, OnOk, OnErr, true, false}
+use Rattle.std.specs.Prelude.{ℕ, ◌≡◌, ◌<◌, ◌⊎◌, List, None, Result, Ok, Err, IfOk, IfErr, IsErrOf, IsTrue, OnOk, OnErr, true, false}
 use Rattle.std.specs.Global.{Vec}
-use Rattle.legs.specs.Asking.{Recalls}
 use Rattle.legs.specs.Book.{Book}
 use Rattle.legs.specs.declared.listed.Listed.{Ghosts}
 use Rattle.legs.specs.Costs.{ShapeView}
 use Rattle.legs.specs.Limits.{LimitsView}
-use Rattle.tbtree.specs.declared.tree.Place.{Place}
-use Rattle.tbtree.specs.declared.tree.TbTree.{TbTree}
 use Rattle.pagecache.specs.Cache.{payload_of, stored_payload, IsClean}
 use Rattle.pages.specs.Store.{IsSynced, IsSyncedButFirst, Keeps, Stays, Store}
 use Rattle.outputs.specs.Output.{HasRefused, IsFlushed, OutputView}
 use Rattle.boxsearch.specs.Index.{words, IsMarked}
-use Rattle.header.specs.Front.{SaysState}
-use Rattle.register.specs.Lasting.{first_fault, ComesFirst, IsKept, IsReadingFault, IsStop, IsTrulyDamaged}
-use Rattle.register.specs.Stopping.{NamesStop}
-use Rattle.register.specs.Saved.{CatalogueView, OthersStay}
-use Rattle.register.specs.Saving.{HasFew}
-use Rattle.catalogue.specs.Closing.{LeavesUnreadable}
-use Rattle.catalogue.specs.Holding.{HoldsBook, HoldsButFirst, HoldsIndex, HoldsIndexButFirst, IsUnfinishedStore}
+use Rattle.register.specs.Lasting.{first_fault, ComesFirst, IsReadingFault, IsStop}
+use Rattle.catalogue.specs.Holding.{HoldsBook, HoldsButFirst, IsUnfinishedStore}
 use Rattle.querylang.specs.declared.Command.{Command}
-use Rattle.trajdb.specs.Answers.{AcceptsBy, IsAnswer, IsCountsText, book_then, book_with, load_of}
-use Rattle.trajdb.specs.Calls.{AsksFew, AsksForLegs, AsksIn, AsksKnown, BlamesLoad, LearnsBy, Begins, BeginsBy, BeginsOnly, IsAsked, IsBookOf, IsLater, IsLoadFault, IsLoadStop, IsQuestionFault, IsRefusedBy, IsRunStop, IsStopped, KeepsPages, LeavesBook, Loads, LoadsWhole, LoadsWholeSome, PutsFile, SparesBy, SparesIndex, TellsLoadBy}
-use Rattle.trajdb.specs.Checking.{IsFirstFault, Reports}
-use Rattle.trajdb.specs.Database.{catalogue_of, CoreView, FailsBy, IsRefused, IsSound, IsTold, LoadGives, Becomes}
-use Rattle.trajdb.specs.Db.{capacity_of, DbView, HasPages, IsSoundDb}
+use Rattle.trajdb.specs.Answers.{AcceptsBy, IsAnswer, book_then, book_with, load_of}
+use Rattle.trajdb.specs.Calls.{QuestionAsks, Begins, BeginsOnly, IsAsked, IsLater, IsLoadFault, IsLoadStop, IsQuestionFault, IsRunStop, IsStopped, KeepsPages, LeavesBook, Loads}
+use Rattle.trajdb.specs.Checking.{Reports}
+use Rattle.trajdb.specs.Database.{CoreView, FailsBy, IsRefused, IsSound, IsTold, LoadGives, Becomes}
+use Rattle.trajdb.specs.Db.{DbView, HasPages, IsSoundDb}
 use Rattle.trajdb.specs.Faults.{IsNotOutput}
-use Rattle.trajdb.specs.Lasting.{HasBook, IsClosingFault, IsFaultless, IsIdle, IsSafe, IsSafeStore, IsTooFull, IsUnfinishedAnswer, NamesFirst, TakesFew}
+use Rattle.trajdb.specs.Lasting.{HasBook, IsClosingFault, IsFaultless, IsIdle, IsSafe, IsSafeStore, IsUnfinishedAnswer}
 use Rattle.trajdb.specs.Run.{AcceptsSome, StopsAt, Stops, IsCut}
-use Rattle.trajdb.specs.Telling.{IsToldAnswer, NamesBy, TellsCut, TellsRun, TellsStop}
+use Rattle.trajdb.specs.Telling.{IsToldAnswer, NamesBy, TellsCut, TellsRun}
 use Rattle.trajdb.specs.declared.Counts.{Counts}
 use Rattle.trajdb.specs.declared.LoadFault.{LoadFault}
 use Rattle.register.specs.declared.fault.CatalogueFault.{CatalogueFault}
@@ -53,23 +45,6 @@ pub record LoadCall {I : Type 0} (g : Ghosts I) (old new : CoreView I) (bytes : 
   pub begun : OnOk result (new.begun ≡ true)
   -- page 0 of an index over a faithful store is marked then, sound or not
   pub marks : OnOk result (g.is_faithful old.index → g.is_marked new.index)
-  -- of a sound database it asked for at most what these legs ask for, and twice for page 0
-  pub asks : OnOk result (IsSound g old → AsksForLegs g old new)
-  -- so many legs are put in as are counted, and what else the file adds
-  pub puts : IfOk result (PutsFile g old new bytes)
-  -- be the database sound or not, a file is refused for the first fault of its text, or for one of joining where that
-  -- has none
-  pub reads : IfErr result (IsRefusedBy bytes)
-  -- a page that is named is page 0, which had no payload, or was not what the next of its legs needed of it; that the store
-  -- is full is said where they take more pages than there are then; and that the database failed where it had, where the
-  -- index was spent, or where its legs skip a feature
-  pub blames : IfErr result (BlamesLoad g old new bytes)
-  -- it is answered as for each book for which the tracks stand
-  pub gives : (book : Book) → IsBookOf old book
-      → LoadGives result (load_of old.limits book bytes)
-  -- a file that is refused for such a book leaves the index as it is, so that nothing is put into it and no page is
-  -- changed, also where memory runs out before that is told
-  pub unwritten : SparesIndex old new bytes
   pub idle : OnErr result (new.begun ≡ old.begun)
   -- what is left of the pages
   pub pages : KeepsPages g old new
@@ -85,14 +60,10 @@ pub record CommandCall {I : Type 0} (g : Ghosts I) (files : List (List ℕ × Li
   pub becomes : OnOk result (Becomes g old new (book_then old.limits files old.book command))
   pub lives : OnOk result (new.failed ≡ false)
   -- be the database sound or not, an answer is what the pages that were met say, and a page that a question names is one
-  -- that it met and is not what it is to be there, and one that a `load` names is page 0, or one that its legs blame
+  -- that it met and is not what it is to be there, or page 0
   pub says : IfOk result (λ text. IsToldAnswer g old files command text.items)
-  pub named : IfErr result (NamesBy g old new files command)
-  pub asks : OnOk result (AsksIn g old new command)
-  pub asks_known : OnOk result (AsksKnown g old new command)
-  pub most : AsksFew g old new command
-  pub learns : OnOk result (LearnsBy g old new command)
-  pub recalls : (Loads files command → ⊥) → Recalls g old.index new.index
+  pub named : IfErr result (NamesBy g old command)
+  pub asks : OnOk result (QuestionAsks g old new command)
   pub later : IsLater g old new
   -- all but a `load` of a file that is there leave the book; where that load is refused, the database is failed
   pub question : (Loads files command → ⊥) → LeavesBook g old new
@@ -103,14 +74,6 @@ pub record CommandCall {I : Type 0} (g : Ghosts I) (files : List (List ℕ × Li
   -- an accepted file begins the database, and nothing else does
   pub begins : OnOk result (Begins g old new (AcceptsBy old.limits files old.book command))
   pub only : BeginsOnly g old new (AcceptsBy old.limits files old.book command)
-  -- be the database sound or not, a `load` of a file that is there is answered with counts, and begins it, or with a
-  -- refusal that changes nothing; and only one of a file without a fault of its text, answered with counts, begins it
-  pub told_load : IfOk result (λ text. TellsLoadBy g files old new command text.items)
-  -- a `load` of a file that is refused for some book for which the tracks stand leaves the index as it is, whatever is
-  -- answered, so that no page is changed; one of a file that is not there changes nothing
-  pub unwritten : SparesBy files old new command
-  pub whole : BeginsBy old new (LoadsWhole files command)
-  pub told : IfOk result (λ text. BeginsBy old new (IsCountsText text.items))
   pub pages : KeepsPages g old new
   -- a failed database does nothing
   pub was_failed : old.failed ≡ true → (result ≡ Err RunFault.Failed) × (new ≡ old)
@@ -123,12 +86,10 @@ pub record RunCall {I O : Type 0} (g : Ghosts I) (shown : O → OutputView)
   pub sound : OnOk result (IsSound g old → IsSound g new)
   pub lives : OnOk result (new.failed ≡ false)
   -- be the database sound or not: what was sent is the answers to lines, one after another, each by what the pages say
-  -- that were met, and a page that is named is one that the next line names, as a command does
+  -- that were met
   pub says : OnOk result (TellsRun g files (shown out).contents (shown out').contents old new lines)
   pub says_cut : IsErrOf result RunFault.Output
       → TellsCut g files (shown out).contents (shown out').contents old new lines
-  pub named : IfErr result (λ fault. IsNotOutput fault → old.failed ≡ false
-      → TellsStop g files (shown out).contents (shown out').contents old new fault lines)
   -- where the output fails
   pub output : IsErrOf result RunFault.Output → IsSound g old
       → IsCut files (shown out).contents (shown out').contents old new lines
@@ -153,25 +114,16 @@ pub record RunCall {I O : Type 0} (g : Ghosts I) (shown : O → OutputView)
   -- an accepted file begins the database, and nothing else does
   pub begins : OnOk result (Begins g old new (AcceptsSome old.limits files old.book lines))
   pub only : BeginsOnly g old new (AcceptsSome old.limits files old.book lines)
-  -- be the database sound or not, only a line that is a `load` of a file without a fault of its text begins it
-  pub whole : BeginsBy old new (LoadsWholeSome files lines)
   pub pages : KeepsPages g old new
   -- a failed database does nothing
   pub was_failed : old.failed ≡ true → (result ≡ Err RunFault.Failed) × (new ≡ old)
   pub was_failed_output : old.failed ≡ true → out' ≡ out
 
 -- what a call of a database over pages keeps, whatever it answers: one at rest stays so until it accepts a file or
--- fails, and the store of a sound one, whose pages are as its state says, stays safe; its cache may hold as many pages,
--- and over a faithful store each page behind page 0 that has a payload, and that one of no tree, holds what it held, and so
--- does page 0 behind its state, by which the pages of an earlier catalogue are found
+-- fails, and the store of a sound one, whose pages are as its state says, stays safe
 pub record KeepsStore (old new : DbView) : Type 0 where
   pub rests : IsIdle old → IsIdle new
   pub safe : (was : Store) → IsSoundDb old → HasPages old → IsSafe was old → IsSafe was new
-  pub capacity : capacity_of new ≡ capacity_of old
-  pub others : (page : ℕ) (bytes : List ℕ) → 0 < page → words.other old.index page ≡ Some bytes
-      → words.other new.index page ≡ Some bytes
-  pub fields : (bytes : List ℕ) → words.fields old.index ≡ Some bytes
-      → words.fields new.index ≡ Some bytes
 
 -- what `open` of a store promises, with a cache of so many pages, where `seen` is what contracts see of one that is
 -- handed back
@@ -184,12 +136,6 @@ pub record OpenCall {S : Type 0} (seen : S → Store) (store : Store) (cache_pag
   pub holds : IfErr result (λ back. IsTrue store.is_faithful
       → (shape : ShapeView) (limits : LimitsView) (book : Book)
       → HoldsBook store shape limits book → IsStop back.1)
-  -- a store whose pages keep a catalogue is opened, but for memory and a store that failed
-  pub kept : IfErr result (λ back. IsTrue store.is_faithful
-      → (c : CatalogueView) (tree : TbTree) (places : List Place)
-      → IsKept (stored_payload store) store.count c tree places → IsStop back.1)
-  -- there is a book for which its tracks stand
-  pub stands : IfOk result (λ db. IsTrue store.is_faithful → (book : Book) × IsBookOf db book)
   -- the pages as written keep what the database knows
   pub idle : IfOk result (λ db. IsTrue store.is_faithful → IsIdle db)
   pub begun : IfOk result (λ db. db.begun ≡ false)
@@ -208,12 +154,6 @@ pub record OpenCall {S : Type 0} (seen : S → Store) (store : Store) (cache_pag
   pub back : IfErr result (λ back. Stays store (seen back.0))
   pub safe : IfOk result (λ db. IsTrue store.is_faithful → IsSoundDb db → IsSafe store db)
   pub caused : IfErr result (λ back. IsReadingFault store (seen back.0) back.1)
-  -- a page that is said to be damaged is so, and is the first that is met; pages that are said to be malformed keep
-  -- nothing, whatever stands in the damaged ones
-  pub damaged : IfErr result (λ back. IsTrulyDamaged store.is_faithful (stored_payload store)
-      store.count back.1)
-  pub named : IfErr result (λ back. IsTrue store.is_faithful
-      → NamesStop (stored_payload store) store.count back.1)
 
 -- what `close` of a database promises of the store that is left
 pub record CloseCall (db : DbView) (left : Store)
@@ -221,45 +161,14 @@ pub record CloseCall (db : DbView) (left : Store)
   -- it then holds the book
   pub holds : OnOk result (IsSoundDb db → HasPages db → IsIdle db
       → HoldsBook left db.index.tree.shape db.limits db.book)
-  -- be the database sound or not, its pages say its catalogue and its index
-  pub kept : OnOk result (db.begun ≡ true → IsMarked db.index.cache
-      → HoldsIndex left (catalogue_of db) db.index)
-  -- so it is, marked or not, where page 0 is the header of a store of this version, finished or not
-  pub holds_headed : OnOk result (IsSoundDb db → db.begun ≡ true → (state : Bool)
-      → SaysState state (payload_of db.index.cache 0)
-      → HoldsBook left db.index.tree.shape db.limits db.book)
-  pub kept_headed : OnOk result (db.begun ≡ true → IsTrue db.index.cache.store.is_faithful
-      → (state : Bool) → SaysState state (payload_of db.index.cache 0)
-      → HoldsIndex left (catalogue_of db) db.index)
-  -- each other page keeps its payload but those of a catalogue, be it one of a tree or none; one that cannot be read stays as
-  -- it is written
-  pub others : OnOk result (db.begun ≡ true → IsTrue db.index.cache.store.is_faithful
-      → OthersStay (payload_of db.index.cache) (stored_payload left))
-  pub unreadable : OnOk result (db.begun ≡ true → IsTrue db.index.cache.store.is_faithful
-      → LeavesUnreadable db.index.cache left)
   -- all of it is synced where it has begun; else it stays as it is (`idle`)
   pub synced : OnOk result (db.begun ≡ true → IsSynced left)
-  -- new pages are taken only for what its text needs beyond those of an earlier one
-  pub takes : OnOk result (TakesFew db left)
-  -- it is full only where it has no room for those
-  pub full : IsErrOf result RunFault.StoreFull → IsTooFull db
   pub only : IfErr result (λ fault. IsSoundDb db → db.failed ≡ false → IsLoadFault fault)
   pub unfinished : IfErr result (λ fault. IsFaultless fault → IsSoundDb db → HasPages db
       → db.failed ≡ false → IsUnfinishedStore left)
-  -- so it is where page 0 is marked, be the database sound or not
-  pub only_marked : IfErr result (λ fault. db.failed ≡ false → IsMarked db.index.cache
-      → HasFew (catalogue_of db) → IsLoadFault fault)
-  pub unfinished_marked : IfErr result (λ fault. IsFaultless fault → db.failed ≡ false
-      → IsMarked db.index.cache → IsUnfinishedStore left)
-  -- and whatever page 0 is, a page that is named is that one, and cannot be read
-  pub named : IfErr result (λ fault. IsTrue db.index.cache.store.is_faithful
-      → HasFew (catalogue_of db) → NamesFirst db fault)
   -- before page 0 may say that the store is finished, all else is written and synced
   pub refused : OnErr result (IsSoundDb db → HasPages db → db.failed ≡ false
       → IsUnfinishedStore left ⊎ HoldsButFirst left db.index.tree.shape db.limits db.book)
-  -- so it is, be the database sound or not
-  pub behind : OnErr result (db.failed ≡ false → IsMarked db.index.cache
-      → IsUnfinishedStore left ⊎ HoldsIndexButFirst left (catalogue_of db) db.index)
   pub ordered : OnErr result (db.failed ≡ false → IsMarked db.index.cache
       → IsUnfinishedStore left ⊎ IsSyncedButFirst left)
   -- nothing is written of a database that has not begun, and of a failed one
@@ -285,9 +194,6 @@ pub record CheckCall (old new : DbView) (result : Result Report RunFault) : Type
       → old.failed ≡ false → IsQuestionFault fault)
   pub works : IsErrOf result RunFault.Failed
       → (old.failed ≡ true) ⊎ (words.is_spent old.index ≡ true)
-  -- which page is damaged, whoever made the pages
-  pub named : IsTrue old.index.cache.store.is_faithful → (n : ℕ)
-      → IsErrOf result (RunFault.Damaged n) → IsFirstFault old n
   -- the book stays, and each page has the payload that it had; once it has passed, all that was changed is written, and
   -- nothing is where nothing was changed
   pub leaves : LeavesBook words old new

@@ -1,8 +1,7 @@
--- What a database answers by what the pages of its index say, be it sound or not: nothing else is answered, and where a
--- page that is met is not what it is to be there, or the catalogue lacks a name or a row of what is to be shown, that page
--- is named.
-use Rattle.std.specs.Prelude.{ℕ, ◌≡◌, ◌≤◌, ◌<◌, ◌++◌, ◌-◌, ◌⊎◌, ◌↔◌, List, [], ◌∷◌, length, take, drop, slice_index_or, All, Option, Some, None, Result, Ok, Err, true, false, codes, decimal}
-use Rattle.std.specs.Io.KnownBytes.{Appends, Keeps}
+-- What a database answers by what the pages of its index say, be it sound or not: nothing else is answered, and a page
+-- that is named is one that was met and is not what it is to be there, or page 0.
+use Rattle.std.specs.Prelude.{ℕ, ◌≡◌, ◌≤◌, ◌++◌, ◌-◌, ◌⊎◌, ◌↔◌, List, [], ◌∷◌, length, take, drop, All, Option, Some, None, Result, Ok, Err, true, false, codes, decimal}
+use Rattle.std.specs.Io.KnownBytes.{Appends}
 use Rattle.std.specs.List.{range_with_len}
 use Rattle.timebase.specs.Period.{PeriodView}
 use Rattle.legs.specs.Legs.{LegView}
@@ -25,11 +24,11 @@ use Rattle.querylang.specs.declared.LineCode.{LineCode}
 use Rattle.querylang.specs.declared.Command.{Command}
 use Rattle.querylang.specs.declared.Command.TheVariants.{Load, Count, Box, Legs, Features, Trajectory, Write}
 use Rattle.trajdb.specs.Answers.{HoldsOfLeg, IsCountsText, IsFileRefusal, file_answer, legs_text, names_text, ok_text, refusal_text}
-use Rattle.trajdb.specs.Calls.{IsLater, IsOfStore, LeavesBook, Loads, LoadsBy, NamesFile, SparesBy, TellsLoadBy}
+use Rattle.trajdb.specs.Calls.{IsLater, LeavesBook, Loads}
 use Rattle.trajdb.specs.Database.{CoreView}
 use Rattle.trajdb.specs.Files.{file_named}
 use Rattle.trajdb.specs.Picks.{Picks}
-use Rattle.trajdb.specs.Run.{FailsAt, IsPrefixOf}
+use Rattle.trajdb.specs.Run.{IsPrefixOf}
 use Rattle.trajdb.specs.declared.RunFault.{RunFault}
 use Rattle.trajdb.specs.declared.RunFault.TheVariants.{Memory, Store, Damaged, StoreFull, Failed, Output}
 
@@ -125,47 +124,15 @@ module _ {I : Type 0} (g : Ghosts I) (core : CoreView I) where
       length core.book.names ≤ most → IsToldTrack (feature_of core.book.names name) text
   IsToldAnswer files Write text = IsToldFile core.book.head text
 
-  -- the page is met by a question, and is not what it is to be there; or it is page 0, for a leg that is told whose name or
-  -- row of values the catalogue lacks
+  -- the page is met by a question, and is not what it is to be there; or it is page 0, where the catalogue lacks a name or
+  -- a row of values
   abbrev pub DeniesLegs : Question → ℕ → Type 0
-  DeniesLegs question page =
-      g.denies core.index question page
-      ⊎ ((page ≡ 0) × (legs : List LegView) × g.tells core.index question legs
-      × (All (IsThere core.book) legs → ⊥))
+  DeniesLegs question page = g.denies core.index question page ⊎ (page ≡ 0)
 
-  -- so is it for the legs of its box that a predicate picks: page 0 is named for a leg that is picked, and for no other one
-  abbrev pub DeniesPicks : Predicate → RectView → PeriodView → ℕ → Type 0
-  DeniesPicks predicate rect period page =
-      g.denies core.index (InBox (box_near predicate rect period)) page
-      ⊎ ((page ≡ 0) × (picked : List LegView) × ArePickedOf predicate rect period picked
-      × (All (IsThere core.book) picked → ⊥))
-
-  -- the page is denied for a feature's legs, if there is one
-  abbrev pub DeniesTrack : Option ℕ → ℕ → Type 0
-  DeniesTrack (Some feature) page = DeniesLegs (OfFeature feature None) page
-  DeniesTrack None page = ⊥
-
-  -- the last leg of a feature does not end before a period, and the page is met by the question for its legs that are live
-  -- in it, and is not what it is to be there
-  abbrev pub DeniesLive : PeriodView → ℕ → ℕ → Type 0
-  DeniesLive period feature page =
-      (IsOver core.tracks feature period → ⊥)
-      × g.denies core.index (OfFeature feature (Some period)) page
-
-  -- the last leg of a feature ends before a period, or the index tells which of its legs are live in it
-  abbrev pub IsLiveTold : PeriodView → ℕ → Type 0
-  IsLiveTold period feature = (legs : List LegView) × AreLive period feature legs
-
-  -- the page is denied for a feature, and of each one before it, by their numbers, the legs are told or it is over
-  abbrev pub DeniesFirst : PeriodView → ℕ → Type 0
-  DeniesFirst period page =
-      (feature : ℕ) × (feature < length core.book.names) × DeniesLive period feature page
-      × ((earlier : ℕ) → earlier < feature → IsLiveTold period earlier)
-
-  -- the page is denied for all legs, where there is a head
-  abbrev pub DeniesFile : Option BookHead → ℕ → Type 0
-  DeniesFile (Some head) page = DeniesLegs (InBox everything) page
-  DeniesFile None page = ⊥
+  -- so it is for some feature
+  abbrev pub DeniesTrack : Option PeriodView → ℕ → Type 0
+  DeniesTrack period page =
+      ((feature : ℕ) × g.denies core.index (OfFeature feature period) page) ⊎ (page ≡ 0)
 
   -- a page that is named is such a one; the database is said to be failed only where it was, or its index refused a leg
   abbrev pub Names : (ℕ → Type 0) → RunFault → Type 0
@@ -176,32 +143,22 @@ module _ {I : Type 0} (g : Ghosts I) (core : CoreView I) where
   Names P Failed = (core.failed ≡ true) ⊎ (g.is_spent core.index ≡ true)
   Names P Output = Unit {0}
 
-  -- a file that is not there meets no page; of one that is there a page that is named is page 0, or is blamed by its legs
-  abbrev pub NamesLoad : CoreView I → Option (List ℕ) → RunFault → Type 0
-  NamesLoad new (Some bytes) fault = NamesFile g core new bytes fault
-  NamesLoad new None fault = Names (λ page. ⊥) fault
+  -- why a command is refused: a page that a question names is one that it met; of a `load` nothing is said
+  abbrev pub NamesBy : Command → RunFault → Type 0
+  NamesBy (Load name) fault = Unit {0}
+  NamesBy Count fault = Names (λ page. ⊥) fault
+  NamesBy (Box rect period) fault = Names (DeniesLegs (InBox (box_over rect period))) fault
+  NamesBy (Legs predicate rect period) fault =
+      Names (DeniesLegs (InBox (box_near predicate rect period))) fault
+  NamesBy (Features predicate rect period) fault = Names (DeniesTrack (Some period)) fault
+  NamesBy (Trajectory name) fault = Names (DeniesTrack None) fault
+  NamesBy Write fault = Names (DeniesLegs (InBox everything)) fault
 
-  -- why a command is refused: a page that a question names is one that it met
-  abbrev pub NamesBy : CoreView I → List (List ℕ × List ℕ) → Command → RunFault → Type 0
-  NamesBy new files (Load name) fault = NamesLoad new (file_named files name) fault
-  NamesBy new files Count fault = Names (λ page. ⊥) fault
-  NamesBy new files (Box rect period) fault =
-      Names (DeniesLegs (InBox (box_over rect period))) fault
-  NamesBy new files (Legs predicate rect period) fault =
-      Names (DeniesPicks predicate rect period) fault
-  NamesBy new files (Features predicate rect period) fault =
-      Names (λ page. length core.book.names ≤ most → DeniesFirst period page) fault
-  NamesBy new files (Trajectory name) fault =
-      Names (λ page. length core.book.names ≤ most
-      → DeniesTrack (feature_of core.book.names name) page) fault
-  NamesBy new files Write fault = Names (DeniesFile core.book.head) fault
-
--- what a command that is answered leaves, be the database sound or not: a question all that is known of the book, and a
--- `load` of a file that is there what its answer tells; the database is not failed
+-- what a command that is answered leaves, be the database sound or not: a question all that is known of the book; the
+-- database is not failed
 pub record LeftBy {I : Type 0} (g : Ghosts I) (files : List (List ℕ × List ℕ))
     (old new : CoreView I) (command : Command) (text : List ℕ) : Type 0 where
   pub question : (Loads files command → ⊥) → LeavesBook g old new
-  pub load : TellsLoadBy g files old new command text
   pub later : IsLater g old new
   pub lives : new.failed ≡ false
 
@@ -223,41 +180,12 @@ module _ {I : Type 0} (g : Ghosts I) (files : List (List ℕ × List ℕ)) where
       (mid : CoreView I) × (first : List ℕ) × (others : List ℕ) × (text ≡ first ++ others)
       × TellsLine old mid line first × TellsLines mid new lines others
 
-  -- why a line was not answered; a `load` of a file that is refused for some book for which the tracks stand leaves the index
-  -- as it is
-  abbrev pub NamesSaid : (old new : CoreView I) → Result (Option Command) LineCode → RunFault
-      → Type 0
-  NamesSaid old new (Ok (Some command)) fault =
-      NamesBy g old new files command fault × SparesBy files old new command
-  NamesSaid old new (Ok None) fault = fault ≡ Memory
-  NamesSaid old new (Err code) fault = fault ≡ Memory
-
-  unfoldable pub NamesLine : (old new : CoreView I) → List ℕ → RunFault → Type 0
-  NamesLine old new line fault = NamesSaid old new (line_of line) fault
-
   -- all lines are done, and their answers and nothing else were sent
   pub record TellsRun (sent sent' : Option (List ℕ)) (old new : CoreView I)
       (lines : List (List ℕ)) : Type 0 where
     pub text : List ℕ
     pub tells : TellsLines old new lines text
     pub sends : Appends sent sent' text
-
-  -- the first k lines are done, and their answers, whole, and nothing else were sent; this is why the next was not answered,
-  -- and where it is said that the store failed, it failed at that line, and where that it is full, it is; the database failed
-  -- by it only where it is a `load` of a file that is there, and else it leaves what a question leaves
-  pub record TellsStop (sent sent' : Option (List ℕ)) (old new : CoreView I) (fault : RunFault)
-      (lines : List (List ℕ)) : Type 0 where
-    pub k : ℕ
-    pub within : k < length lines
-    pub mid : CoreView I
-    pub text : List ℕ
-    pub tells : TellsLines old mid (take k lines) text
-    pub sends : Appends sent sent' text
-    pub names : NamesLine mid new (slice_index_or lines k []) fault
-    pub store : IsOfStore g mid.index new.index fault
-    pub fails : FailsAt files new.failed fault (slice_index_or lines k [])
-    pub left : (LoadsBy files (slice_index_or lines k []) → ⊥) → LeavesBook g mid new
-    pub lives : new.failed ≡ false → LeavesBook g mid new
 
   -- the first k lines are done, all but the last of them and then that one; what was sent is a prefix of their answers, and
   -- all of them but the last one are whole
@@ -287,15 +215,3 @@ module _ {I : Type 0} (g : Ghosts I) (files : List (List ℕ × List ℕ)) where
     pub tells : TellsLine old new line text
     pub n : ℕ
     pub sends : Appends sent sent' (take n text)
-
-  -- a line is not answered, nothing was sent, and this is why, and where it is said that the store failed, it failed at this
-  -- line, and where that it is full, it is; the database failed by it only where it is a `load` of a file that is there, and
-  -- else it leaves what a question leaves
-  pub record HasNamed (sent sent' : Option (List ℕ)) (old new : CoreView I) (line : List ℕ)
-      (fault : RunFault) : Type 0 where
-    pub sends : Keeps sent sent'
-    pub names : NamesLine old new line fault
-    pub store : IsOfStore g old.index new.index fault
-    pub fails : FailsAt files new.failed fault line
-    pub left : (LoadsBy files line → ⊥) → LeavesBook g old new
-    pub lives : new.failed ≡ false → LeavesBook g old new

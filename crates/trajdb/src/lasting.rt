@@ -81,7 +81,6 @@ impl<S: PageStore> Db<S> {
         ensures { OpenCall S.seen (S.seen store) cache_pages result }
     {
         catalogue::laws();
-        register::laws();
         match catalogue::open(alloc, keys, store, cache_pages) {
             Ok((catalogue, index)) => Ok(Db {
                 core: Core::restored(catalogue, index, false),

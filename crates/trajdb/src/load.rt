@@ -4,11 +4,11 @@ ghost use Rattle.std.specs.Option.{option_copied};
 ghost use Rattle.mfcsv.specs.FileText.{file_of_bytes};
 ghost use Rattle.mfcsv.specs.Views.{RecordView};
 ghost use Rattle.legs.specs.Limits.{LimitsView};
-ghost use Rattle.legs.specs.Joining.{HasCounted, IsJoining};
+ghost use Rattle.legs.specs.Joining.{IsJoining};
 ghost use Rattle.legs.specs.Book.{Book, head_with};
 ghost use Rattle.legs.specs.Tracks.{StandsFor};
 ghost use Rattle.trajdb.specs.Answers.{load_of};
-ghost use Rattle.trajdb.specs.Calls.{IsJoinStop, IsRefusedBy};
+ghost use Rattle.trajdb.specs.Calls.{IsJoinStop};
 ghost use Rattle.trajdb.specs.Database.{FaultIs};
 ghost use Rattle.trajdb.specs.Loads.{IsRead, code_fault, join_fault, counts_in};
 
@@ -75,8 +75,6 @@ fn take_record(joiner: &mut FileJoiner, rows: &mut Rows, found: &Record) -> Resu
     ensures joined { OnOk result ((limits : LimitsView) (book : Book) (records : List RecordView)
         → IsJoining limits joiner.old book records
         → IsJoining limits joiner.new book (records ++ found.now ∷ [])) }
-    ensures counted { OnOk result ((records : List RecordView) → HasCounted joiner.old records
-        → HasCounted joiner.new (records ++ found.now ∷ [])) }
     ensures rows { OnOk result (rows.new ≡ rows.old ++ found.now.attributes ∷ []) }
 {
     joiner.join(found)?;
@@ -97,7 +95,6 @@ pub(crate) fn join_text(
     ensures refused { IfErr result (λ fault. (book : Book) → StandsFor tracks.now book
         → book.head ≡ option_copied first.entry
         → FaultIs fault (load_of limits.now book bytes.now)) }
-    ensures reads { IfErr result (IsRefusedBy bytes.now) }
     ensures stopped { IfErr result IsJoinStop }
 {
     let mut reader = FileReader::new(alloc, bytes);

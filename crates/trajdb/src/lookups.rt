@@ -12,9 +12,7 @@ use timebase::Period;
 
 impl<S: PageStore> Db<S> {
     ghost use Rattle.std.specs.Prelude.{◌≡◌, Err, false, IfErr, IfOk, length, OnOk, option_copied, slice_get, true};
-    ghost use Rattle.legs.specs.Asking.{AsksNoMore, Recalls};
     ghost use Rattle.legs.specs.Costs.{search_cost};
-    ghost use Rattle.legs.specs.Questions.{InBox};
     ghost use Rattle.predicates.specs.Near.{box_near};
     ghost use Rattle.boxsearch.specs.Index.{words};
     ghost use Rattle.trajdb.specs.Answers.{HoldsOfLeg};
@@ -22,7 +20,7 @@ impl<S: PageStore> Db<S> {
     ghost use Rattle.trajdb.specs.Db.{HasPages, IsSoundDb};
     ghost use Rattle.trajdb.specs.Picks.{Picks};
     ghost use Rattle.trajdb.specs.Promises.{KeepsStore};
-    ghost use Rattle.trajdb.specs.Telling.{ArePickedOf, Names};
+    ghost use Rattle.trajdb.specs.Telling.{ArePickedOf};
     ghost use Rattle.trajdb.specs.declared.RunFault.{RunFault};
 
     /// The legs for which, each taken alone, a predicate holds with a rectangle over a period, in the order of the book.
@@ -36,20 +34,11 @@ impl<S: PageStore> Db<S> {
         ensures found { IfOk result (λ legs. IsSoundDb self.old
             → Picks (HoldsOfLeg predicate rect.now period.now) self.old.book.legs legs.items) }
 
-        // Be the database sound or not, they are picked of the legs that the pages that were met say, and a page
-        // that is named is one that was met and is not what it is to be there, or the first one that was met beyond
-        // as many as the store has.
+        // Be the database sound or not, they are picked of the legs that the pages that were met say.
         ensures says { IfOk result (λ legs.
             ArePickedOf words self.old predicate rect.now period.now legs.items) }
-        ensures named { IfErr result (Names words self.old
-            (λ page. words.denies self.old.index
-            (InBox (box_near predicate rect.now period.now)) page)) }
         ensures asks { OnOk result (Asks words self.old self.new
             (search_cost (box_near predicate rect.now period.now))) }
-        ensures most { AsksNoMore words self.old.index self.new.index }
-
-        // What the index knew of the leaves of its features it knows afterwards.
-        ensures recalls { Recalls words self.old.index self.new.index }
         ensures leaves { LeavesBook words self.old self.new }
         ensures refused { IfErr result (λ fault. self.old.failed ≡ false
             → IsRefused words self.old self.new fault) }

@@ -36,7 +36,7 @@ fn holding(
 }
 
 impl<I: Start> Core<I> {
-    ghost use Rattle.std.specs.Prelude.{◌≡◌, ◌++◌, ◌↔◌, ◌≤◌, ◌<◌, ◌+◌, All, IsTrue, IfOk, IfErr, OnOk, Ok, Some, false, true, length, map, sum_by};
+    ghost use Rattle.std.specs.Prelude.{◌≡◌, ◌↔◌, ◌≤◌, ◌<◌, All, IsTrue, IfOk, IfErr, OnOk, Ok, Some, length, map};
     ghost use Rattle.std.specs.List.{range_with_len};
     ghost use Rattle.legs.specs.Boxes.{box_over, everything};
     ghost use Rattle.legs.specs.Index.{legs_in_box, legs_of, live_legs_of};
@@ -44,15 +44,14 @@ impl<I: Start> Core<I> {
     ghost use Rattle.legs.specs.Book.{feature_of};
     ghost use Rattle.trajdb.specs.Picks.{Picks};
     ghost use Rattle.trajdb.specs.Answers.{HoldsOfFeature, HoldsOfLeg, IsFeaturesAnswer, IsLegsAnswer, frame_of, entry_of, file_answer, legs_text, name_of, names_text, track_of, write_text};
-    ghost use Rattle.legs.specs.Asking.{AsksChain, AsksNoMore, Recalls};
-    ghost use Rattle.legs.specs.Costs.{known_bound, search_cost, track_in_bound};
+    ghost use Rattle.legs.specs.Costs.{search_cost};
     ghost use Rattle.predicates.specs.Near.{box_near};
     ghost use Rattle.legs.specs.Law.{IsThere};
-    ghost use Rattle.legs.specs.Questions.{InBox, OfFeature};
+    ghost use Rattle.legs.specs.Questions.{InBox};
     ghost use Rattle.legs.specs.Sieves.{IsSieved};
     ghost use Rattle.trajdb.specs.Database.{IsSound};
-    ghost use Rattle.trajdb.specs.Telling.{ArePickedOf, AreSievedLive, AreToldOf, DeniesFile, DeniesFirst, DeniesLegs, DeniesLive, DeniesPicks, DeniesTrack, HoldsLive, IsToldFeatures, IsToldFile, IsToldLegs, IsToldPicks, IsToldTrack, Names, PicksLive};
-    ghost use Rattle.trajdb.specs.Calls.{IsText, IsRefused, LeavesBook, Asks, AsksAtMost, AsksChains, AsksTrack, KnowsEach, KnowsOf, KnowsTrack, feature_bound, features_bound, known_features_bound, track_asks, write_asks};
+    ghost use Rattle.trajdb.specs.Telling.{ArePickedOf, AreSievedLive, AreToldOf, DeniesLegs, DeniesTrack, HoldsLive, IsToldFeatures, IsToldFile, IsToldLegs, IsToldPicks, IsToldTrack, Names, PicksLive};
+    ghost use Rattle.trajdb.specs.Calls.{IsText, IsRefused, LeavesBook, Asks, AsksAtMost, feature_bound, features_bound, track_asks, write_asks};
 
     /// How legs are written.
     fn frame(&self) -> Frame
@@ -120,10 +119,8 @@ impl<I: Start> Core<I> {
             (λ page. I.denies self.old.index (InBox (box_over rect.now period.now)) page)) }
         ensures asks { OnOk result (Asks I.Listed self.old self.new (search_cost
             (box_over rect.now period.now))) }
-        ensures recalls { Recalls I.Listed self.old.index self.new.index }
         ensures leaves { LeavesBook I.Listed self.old self.new }
         ensures refused { IfErr result (IsRefused I.Listed self.old self.new) }
-        ensures most { AsksNoMore I.Listed self.old.index self.new.index }
     {
         Ok(self.index.search(&Box3::new(rect, period))?)
     }
@@ -135,18 +132,11 @@ impl<I: Start> Core<I> {
         ensures says { IfOk result (λ legs. length self.old.book.names ≤ most
             → AreToldOf I.Listed self.old (feature_of self.old.book.names name.now) legs.items) }
         ensures named { IfErr result (Names I.Listed self.old
-            (λ page. length self.old.book.names ≤ most
-            → DeniesTrack I.Listed self.old (feature_of self.old.book.names name.now) page)) }
+            (DeniesTrack I.Listed self.old None)) }
         ensures asks { OnOk result (Asks I.Listed self.old self.new (track_asks (feature_of
             self.old.book.names name.now))) }
-        ensures learns { OnOk result (length self.old.book.names ≤ most
-            → KnowsTrack I.Listed self.new (feature_of self.old.book.names name.now)) }
-        ensures recalls { Recalls I.Listed self.old.index self.new.index }
         ensures leaves { LeavesBook I.Listed self.old self.new }
         ensures refused { IfErr result (IsRefused I.Listed self.old self.new) }
-        ensures most { length self.old.book.names ≤ most
-            → AsksTrack I.Listed self.old.index self.new.index (feature_of
-            self.old.book.names name.now) }
     {
         match self.tracks.feature(name) {
             Some(feature) => Ok(self.index.track(feature)?),
@@ -167,14 +157,11 @@ impl<I: Start> Core<I> {
         ensures says { IfOk result (λ legs. ArePickedOf I.Listed self.old predicate
             rect.now period.now legs.items) }
         ensures named { IfErr result (Names I.Listed self.old
-            (λ page. I.denies self.old.index
-            (InBox (box_near predicate rect.now period.now)) page)) }
+            (λ page. I.denies self.old.index (InBox (box_near predicate rect.now period.now)) page)) }
         ensures asks { OnOk result (Asks I.Listed self.old self.new (search_cost
             (box_near predicate rect.now period.now))) }
-        ensures recalls { Recalls I.Listed self.old.index self.new.index }
         ensures leaves { LeavesBook I.Listed self.old self.new }
         ensures refused { IfErr result (IsRefused I.Listed self.old self.new) }
-        ensures most { AsksNoMore I.Listed self.old.index self.new.index }
     {
         let near = self.index.search(&search_box(predicate, rect, period))?;
         Ok(holding(alloc, near.as_slice(), predicate, rect, period)?)
@@ -195,16 +182,11 @@ impl<I: Start> Core<I> {
         ensures says { IfOk result (λ legs. AreSievedLive I.Listed self.old
             sieve.now period.now feature legs.items) }
         ensures named { IfErr result (Names I.Listed self.old
-            (DeniesLive I.Listed self.old period.now feature)) }
+            (DeniesTrack I.Listed self.old (Some period.now))) }
         ensures asks { OnOk result (feature < length self.old.book.names
             → AsksAtMost I.Listed self.old self.new (feature_bound feature period.now)) }
-        ensures asks_known { OnOk result (KnowsOf I.Listed self.old period.now feature
-            → AsksAtMost I.Listed self.old self.new (known_bound feature period.now)) }
-        ensures learns { OnOk result (KnowsOf I.Listed self.new period.now feature) }
-        ensures recalls { Recalls I.Listed self.old.index self.new.index }
         ensures leaves { LeavesBook I.Listed self.old self.new }
         ensures refused { IfErr result (IsRefused I.Listed self.old self.new) }
-        ensures most { AsksChain I.Listed self.old.index self.new.index feature }
     {
         if self.tracks.is_over(feature, period) {
             return Ok(Vec::new(alloc));
@@ -227,16 +209,11 @@ impl<I: Start> Core<I> {
         ensures says { IfOk result (λ yes. HoldsLive I.Listed self.old predicate
             rect.now period.now feature (IsTrue yes)) }
         ensures named { IfErr result (Names I.Listed self.old
-            (DeniesLive I.Listed self.old period.now feature)) }
+            (DeniesTrack I.Listed self.old (Some period.now))) }
         ensures asks { OnOk result (feature < length self.old.book.names
             → AsksAtMost I.Listed self.old self.new (feature_bound feature period.now)) }
-        ensures asks_known { OnOk result (KnowsOf I.Listed self.old period.now feature
-            → AsksAtMost I.Listed self.old self.new (known_bound feature period.now)) }
-        ensures learns { OnOk result (KnowsOf I.Listed self.new period.now feature) }
-        ensures recalls { Recalls I.Listed self.old.index self.new.index }
         ensures leaves { LeavesBook I.Listed self.old self.new }
         ensures refused { IfErr result (IsRefused I.Listed self.old self.new) }
-        ensures most { AsksChain I.Listed self.old.index self.new.index feature }
     {
         let wanted = sieve(predicate, rect);
         let legs = self.live_legs(alloc, feature, period, &wanted)?;
@@ -265,21 +242,11 @@ impl<I: Start> Core<I> {
             → PicksLive I.Listed self.old predicate rect.now period.now
             (range_with_len 0 (length self.old.book.names)) features.items) }
         ensures named { IfErr result (Names I.Listed self.old
-            (λ page. length self.old.book.names ≤ most
-            → DeniesFirst I.Listed self.old period.now page)) }
+            (DeniesTrack I.Listed self.old (Some period.now))) }
         ensures asks { OnOk result (AsksAtMost I.Listed self.old self.new (features_bound
             (range_with_len 0 (length self.old.book.names)) period.now)) }
-        ensures asks_known { OnOk result (KnowsEach I.Listed self.old period.now
-            → AsksAtMost I.Listed self.old self.new (known_features_bound
-            (range_with_len 0 (length self.old.book.names)) period.now)) }
-        ensures learns { OnOk result (IsSound I.Listed self.old
-            → KnowsEach I.Listed self.new period.now) }
-        ensures recalls { Recalls I.Listed self.old.index self.new.index }
         ensures leaves { LeavesBook I.Listed self.old self.new }
         ensures refused { IfErr result (IsRefused I.Listed self.old self.new) }
-        ensures most { length self.old.book.names ≤ most
-            → AsksChains I.Listed self.old.index self.new.index
-            (range_with_len 0 (length self.old.book.names)) }
     {
         let mut features = Vec::new(alloc);
         for feature in 0..self.feature_count() {
@@ -350,10 +317,8 @@ impl<I: Start> Core<I> {
         ensures named { IfErr result (Names I.Listed self.old
             (λ page. I.denies self.old.index (InBox everything) page)) }
         ensures asks { OnOk result (Asks I.Listed self.old self.new (search_cost everything)) }
-        ensures recalls { Recalls I.Listed self.old.index self.new.index }
         ensures leaves { LeavesBook I.Listed self.old self.new }
         ensures refused { IfErr result (IsRefused I.Listed self.old self.new) }
-        ensures most { AsksNoMore I.Listed self.old.index self.new.index }
     {
         Ok(self.index.search(&Box3::everything())?)
     }
@@ -365,13 +330,11 @@ impl<I: Start> Core<I> {
         ensures says { IfOk result
             (λ text. IsToldFile I.Listed self.old self.old.book.head text.items) }
         ensures named { IfErr result (Names I.Listed self.old
-            (DeniesFile I.Listed self.old self.old.book.head)) }
+            (DeniesLegs I.Listed self.old (InBox everything))) }
         ensures asks { OnOk result (Asks I.Listed self.old self.new
             (write_asks self.old.book.head)) }
-        ensures recalls { Recalls I.Listed self.old.index self.new.index }
         ensures leaves { LeavesBook I.Listed self.old self.new }
         ensures refused { IfErr result (IsRefused I.Listed self.old self.new) }
-        ensures most { AsksNoMore I.Listed self.old.index self.new.index }
     {
         if self.head.is_none() {
             return Ok(refusal_text(alloc, "Q10")?);
@@ -399,10 +362,8 @@ impl<I: Start> Core<I> {
             (DeniesLegs I.Listed self.old (InBox (box_over rect.now period.now)))) }
         ensures asks { OnOk result (Asks I.Listed self.old self.new (search_cost
             (box_over rect.now period.now))) }
-        ensures recalls { Recalls I.Listed self.old.index self.new.index }
         ensures leaves { LeavesBook I.Listed self.old self.new }
         ensures refused { IfErr result (IsRefused I.Listed self.old self.new) }
-        ensures most { AsksNoMore I.Listed self.old.index self.new.index }
     {
         let legs = self.legs_in(rect, period)?;
         self.legs_text(alloc, legs.as_slice())
@@ -416,18 +377,11 @@ impl<I: Start> Core<I> {
         ensures says { IfOk result (λ text. length self.old.book.names ≤ most
             → IsToldTrack I.Listed self.old (feature_of self.old.book.names name.now) text.items) }
         ensures named { IfErr result (Names I.Listed self.old
-            (λ page. length self.old.book.names ≤ most
-            → DeniesTrack I.Listed self.old (feature_of self.old.book.names name.now) page)) }
+            (DeniesTrack I.Listed self.old None)) }
         ensures asks { OnOk result (Asks I.Listed self.old self.new (track_asks (feature_of
             self.old.book.names name.now))) }
-        ensures learns { OnOk result (length self.old.book.names ≤ most
-            → KnowsTrack I.Listed self.new (feature_of self.old.book.names name.now)) }
-        ensures recalls { Recalls I.Listed self.old.index self.new.index }
         ensures leaves { LeavesBook I.Listed self.old self.new }
         ensures refused { IfErr result (IsRefused I.Listed self.old self.new) }
-        ensures most { length self.old.book.names ≤ most
-            → AsksTrack I.Listed self.old.index self.new.index (feature_of
-            self.old.book.names name.now) }
     {
         let legs = self.legs_of(alloc, name)?;
         self.legs_text(alloc, legs.as_slice())
@@ -446,13 +400,11 @@ impl<I: Start> Core<I> {
         ensures says { IfOk result (λ text. IsToldPicks I.Listed self.old predicate
             rect.now period.now text.items) }
         ensures named { IfErr result (Names I.Listed self.old
-            (DeniesPicks I.Listed self.old predicate rect.now period.now)) }
+            (DeniesLegs I.Listed self.old (InBox (box_near predicate rect.now period.now)))) }
         ensures asks { OnOk result (Asks I.Listed self.old self.new (search_cost
             (box_near predicate rect.now period.now))) }
-        ensures recalls { Recalls I.Listed self.old.index self.new.index }
         ensures leaves { LeavesBook I.Listed self.old self.new }
         ensures refused { IfErr result (IsRefused I.Listed self.old self.new) }
-        ensures most { AsksNoMore I.Listed self.old.index self.new.index }
     {
         let legs = self.legs_for(alloc, predicate, rect, period)?;
         self.legs_text(alloc, legs.as_slice())
@@ -471,21 +423,11 @@ impl<I: Start> Core<I> {
         ensures says { IfOk result (λ text. length self.old.book.names ≤ most
             → IsToldFeatures I.Listed self.old predicate rect.now period.now text.items) }
         ensures named { IfErr result (Names I.Listed self.old
-            (λ page. length self.old.book.names ≤ most
-            → DeniesFirst I.Listed self.old period.now page)) }
+            (DeniesTrack I.Listed self.old (Some period.now))) }
         ensures asks { OnOk result (AsksAtMost I.Listed self.old self.new
             (features_bound (range_with_len 0 (length self.old.book.names)) period.now)) }
-        ensures asks_known { OnOk result (KnowsEach I.Listed self.old period.now
-            → AsksAtMost I.Listed self.old self.new (known_features_bound
-            (range_with_len 0 (length self.old.book.names)) period.now)) }
-        ensures learns { OnOk result (IsSound I.Listed self.old
-            → KnowsEach I.Listed self.new period.now) }
-        ensures recalls { Recalls I.Listed self.old.index self.new.index }
         ensures leaves { LeavesBook I.Listed self.old self.new }
         ensures refused { IfErr result (IsRefused I.Listed self.old self.new) }
-        ensures most { length self.old.book.names ≤ most
-            → AsksChains I.Listed self.old.index self.new.index
-            (range_with_len 0 (length self.old.book.names)) }
     {
         let features = self.features_for(alloc, predicate, rect, period)?;
         self.names_text(alloc, features.as_slice())

@@ -1,12 +1,9 @@
 //! The start of a file's legs, and the legs.
 ghost use Rattle.std.specs.Prelude.{OnOk, IfErr, IsErrOf};
-ghost use Rattle.std.specs.List.{Contains};
 ghost use Rattle.legs.specs.Index.{CanFollowInTurn, HasRisen, MayRefuseLeg};
-ghost use Rattle.legs.specs.Asking.{FitsLeg, Grows, HasAdded, IsLater};
-ghost use Rattle.legs.specs.Legs.{LegView};
+ghost use Rattle.legs.specs.Asking.{Grows, IsLater};
 ghost use Rattle.legs.specs.declared.index.IndexFault.{IndexFault};
-ghost use Rattle.trajdb.specs.Calls.{BlamesLegs, LeavesPages, LoadAsks};
-ghost use Rattle.trajdb.specs.Faults.{run_fault_of};
+ghost use Rattle.trajdb.specs.Calls.{LeavesPages};
 
 use legs::{IndexFault, Leg, LegIndex, ListIndex};
 
@@ -33,19 +30,12 @@ impl Start for ListIndex {
 /// Puts the legs of a file at the end of an index.
 pub(crate) fn put_legs<I: Start>(index: &mut I, legs: &[Leg]) -> Result<(), IndexFault>
     ensures added { OnOk result (Grows I.Listed index.old index.new legs.now) }
-    ensures taken { OnOk result (HasAdded I.Listed index.old index.new legs.now) }
-    ensures there { OnOk result (I.is_faithful index.old → I.is_unreadable index.old 0 → ⊥) }
-    ensures fits { OnOk result (I.is_faithful index.old → (leg : LegView)
-        → Contains legs.now leg → FitsLeg I.Listed index.old legs.now leg) }
     ensures sound { IfErr result (λ fault. I.is_sound index.old
         → CanFollowInTurn (I.content index.old) legs.now → MayRefuseLeg fault) }
     ensures store { IsErrOf result IndexFault.Store
         → HasRisen (I.faults index.old) (I.faults index.new) }
     ensures full { IsErrOf result IndexFault.StoreFull → I.is_store_full index.new }
-    ensures blames { IfErr result (λ fault.
-        BlamesLegs I.Listed index.old index.new legs.now (run_fault_of fault)) }
     ensures later { IsLater I.Listed index.old index.new }
-    ensures asks { OnOk result (LoadAsks I.Listed index.old index.new legs.now) }
     ensures marks { OnOk result (I.is_faithful index.old → I.is_marked index.new) }
     ensures pages { I.is_faithful index.old → LeavesPages I.Listed index.old index.new }
 {

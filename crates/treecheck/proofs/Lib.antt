@@ -5,16 +5,13 @@ pub mod HeldChains
 pub mod HeldTree
 pub mod LeafChains
 pub mod CheckingLemmas
-pub mod DescentLemmas
 pub mod LevelsLemmas
-pub mod NamingLemmas
-pub mod OneStopLemmas
 pub mod OrderLemmas
 pub mod OverLemmas
 pub mod SoundLemmas
 pub mod SpanLemmas
 pub mod StandLemmas
-pub mod StoppingLemmas
 pub mod SurveyLemmas
 pub mod WalkLemmas
 pub mod WalkedLemmas
+pub mod OrderedPages

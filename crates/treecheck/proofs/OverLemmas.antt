@@ -1,5 +1,5 @@
 -- The pages of the levels above some leaves, page by page.
-use Rattle.std.proofs.Common.{ℕ, zero, suc, ◌^◌, ◌+◌, ◌-◌, ◌*◌, ◌<◌, ◌≤◌, ◌≡◌, min, List, [], ◌∷◌, ◌++◌, take, drop, map, length, refl, sym, ap, ◌∙◌, arith, subst, ⊎_elim, ◌/◌, ◌%◌, Some, slice_get, length-append, length-drop}
+use Rattle.std.proofs.Common.{ℕ, zero, suc, ◌+◌, ◌-◌, ◌*◌, ◌<◌, ◌≤◌, ◌≡◌, min, List, [], ◌∷◌, ◌++◌, take, drop, map, length, refl, sym, ap, ◌∙◌, arith, subst, ⊎_elim, ◌/◌, ◌%◌, Some, slice_get, length-append, length-drop}
 use Rattle.std.specs.List.{flat_map, All}
 use Rattle.std.proofs.lemmas.Bool.{cases_lt}
 use Rattle.std.proofs.lemmas.List.{take_all, drop_all, length-take, length-map, take-append-drop, take-map, drop-map, map-append, append-nil}
@@ -13,9 +13,7 @@ use Rattle.tbtree.specs.Descent.{entries_in, legs_in}
 use Rattle.tbtree.specs.Nodes.{Pages, EntryView, AnInner, InnerView, boxes, children}
 use Rattle.legs.specs.GroupSteps.{groups_ceil, no_groups, from_none, from_some, groups_step, groups_take, groups_drop, block_groups, drop_drop}
 use Rattle.boxsearch.proofs.PushLemmas.{some_same, some_none}
-use Rattle.std.specs.Prelude.{◌↔◌}
-use Rattle.treecheck.specs.Descent.{IsInnerAbove, StandsAt}
-use Rattle.treecheck.specs.Levels.{cover_of_leaves, pages_of_leaves, named_by, AllStandAbove, IsInLevel, StandsAbove}
+use Rattle.treecheck.specs.Levels.{cover_of_leaves, pages_of_leaves, named_by, AllStandAbove, StandsAbove}
 use Rattle.treecheck.specs.Walking.{IsMet}
 use Rattle.treecheck.specs.declared.walking.Met.{Met}
 
@@ -166,26 +164,3 @@ module _ (nodes : Pages LegView BoxView) where
       ∙ ap (λ l. map (hull_of leg_boxes) (groups w l)) (sym (take-map legs_of_leaf n (drop (j * n) leaves)) ∙ ap (take n) (sym (drop-map legs_of_leaf (j * n) leaves)))
       ∙ ap (map (hull_of leg_boxes)) (sym (block_groups inner w j (map legs_of_leaf leaves) h))
       ∙ ap (λ l. map (hull_of leg_boxes) (block inner j (groups w l))) (sym (map_page leaves))
-
-  hulls_of : (w : ℕ) (leaves : List Met) → 0 < w → All (λ (m : Met). IsMet (nodes.at m.page) m) leaves
-      → map (hull_of leg_boxes) (groups w (map (λ p. legs_in (nodes.at p)) (pages_of_leaves leaves))) ≡ map cover_of_leaves (groups w leaves)
-  hulls_of w leaves h all = ap (λ l. map (hull_of leg_boxes) (groups w l)) (map_page leaves) ∙ hulls_are w (length leaves) leaves h (omega arith) all
-
-  inner_above : (height width p : ℕ) (leaves : List Met) → 0 < width → All (λ (m : Met). IsMet (nodes.at m.page) m) leaves
-      → StandsAbove nodes height width leaves p ↔ IsInnerAbove nodes height width (pages_of_leaves leaves) p
-  inner_above height width p leaves h all = (
-    λ s. record { above = s.above; within = s.within; page = s.page; is = s.is; height_is = s.is_above.height_is; boxes_are = s.is_above.boxes_are ∙ sym (hulls_of width leaves h all); leaves_are = s.is_above.leaves_are },
-    λ s. record { above = s.above; within = s.within; page = s.page; is = s.is; is_above = record { height_is = s.height_is; boxes_are = s.boxes_are ∙ hulls_of width leaves h all; leaves_are = s.leaves_are } },
-  )
-
-  -- what stands above leaves that were met stands above their pages
-  pub in_level : (inner k j p : ℕ) (leaves : List Met) → 0 < inner ^ k → All (λ (m : Met). IsMet (nodes.at m.page) m) leaves
-      → IsInLevel nodes inner leaves k j p ↔ StandsAt nodes inner (pages_of_leaves leaves) k j p
-  in_level inner k j p leaves h all =
-      let P = λ (m : Met). IsMet (nodes.at m.page) m in
-      let n = inner ^ suc k in
-      let both = inner_above (suc k) (inner ^ k) p (block n j leaves) h (All-take P n (drop (j * n) leaves) (All-drop P (j * n) leaves all)) in
-      let e = block_pages n j leaves in (
-        λ s. subst (λ ps. IsInnerAbove nodes (suc k) (inner ^ k) ps p) (sym e) (both.0 s),
-        λ s. both.1 (subst (λ ps. IsInnerAbove nodes (suc k) (inner ^ k) ps p) e s),
-      )

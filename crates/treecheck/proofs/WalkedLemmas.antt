@@ -20,12 +20,10 @@ use Rattle.tbtree.specs.Descent.{legs_in}
 use Rattle.tbtree.specs.Nodes.{Pages, Node, pages_of_cache}
 use Rattle.tbtree.specs.Stands.{last_or}
 use Rattle.tbtree.specs.declared.tree.Place.{Place}
-use Rattle.treecheck.specs.Walking.{after, pages_by, IsAtEnd, IsMet, NotesAll, Strays, TakesLeaf, Walks}
+use Rattle.treecheck.specs.Walking.{after, pages_by, IsAtEnd, IsMet, NotesAll, TakesLeaf, Walks}
 use Rattle.treecheck.specs.declared.walking.Met.{Met}
 use Rattle.treecheck.specs.declared.walking.Survey.{Survey}
 use Rattle.treecheck.specs.declared.walking.Walk.{Walk}
-use Rattle.treecheck.specs.Stopping.{AreNextLeaves, LeadOn, WalkStopsAt}
-use Rattle.treecheck.proofs.StoppingLemmas.{Begun, begun_none, begun_on}
 
 -- what is only read says the same, whatever node a payload says
 pub same_by : (node : Payload → Option (Node LegView BoxView)) (old new : Cache) → OnlyReads old new → IsTrue old.store.is_faithful → pages_by node new ≡ pages_by node old
@@ -75,7 +73,6 @@ module _ (nodes : Pages LegView BoxView) (most rows f : ℕ) (place : Place) whe
     pub on : (rest : List ℕ) → AreLeavesFrom nodes most f walk.previous walk.page walk.left rest → AreLeavesFrom nodes most f 0 place.first place.legs (done ++ rest)
     pub back : (pages : List ℕ) → AreLeavesFrom nodes most f 0 place.first place.legs pages
         → (rest : List ℕ) × (pages ≡ done ++ rest) × AreLeavesFrom nodes most f walk.previous walk.page walk.left rest
-    pub begun : Begun nodes most f place walk.previous walk.page walk.left done
     pub turn : ComeInTurn f rows None (legs_on nodes done)
     pub last : walk.last ≡ last_leg None (legs_on nodes done)
     pub previous : walk.previous ≡ last_or 0 done
@@ -87,7 +84,6 @@ module _ (nodes : Pages LegView BoxView) (most rows f : ℕ) (place : Place) whe
     done = [];
     on = λ rest h. h;
     back = λ pages h. (pages, refl, h);
-    begun = begun_none nodes most f place;
     turn = tt;
     last = refl;
     previous = refl;
@@ -108,7 +104,6 @@ module _ (nodes : Pages LegView BoxView) (most rows f : ℕ) (place : Place) whe
         done = w.done ++ p ∷ [];
         on = λ rest h. subst (AreLeavesFrom nodes most f 0 place.first place.legs) (sym (append_assoc w.done (p ∷ []) rest)) (w.on (p ∷ rest) (refl, leaf, h));
         back = λ pages h. let b = w.back pages h in next b.0 leaf b.1 b.2;
-        begun = begun_on nodes most f place walk.previous p walk.left w.done w.begun leaf;
         turn = subst (ComeInTurn f rows None) (sym (legs_push w.done p)) (turn_join f rows None (legs_on nodes w.done) (legs_at p) w.turn turn);
         last = ap (λ d. last_leg d (legs_at p)) w.last ∙ sym (last_join None (legs_on nodes w.done) (legs_at p)) ∙ ap (last_leg None) (sym (legs_push w.done p));
         previous = sym (last_push 0 p w.done);
@@ -181,42 +176,6 @@ module _ (nodes : Pages LegView BoxView) (most rows f : ℕ) (place : Place) whe
             end = λ leg q. c.end leg (ap (λ p. last_leg None (legs_on nodes p)) s ∙ sym w.last ∙ q);
           }
       at (q ∷ qs) e h = absurd (let s = h.1.some in omega (arith, s, z))
-
-  -- where the next page is not the next leaf, the walk stops there
-  pub walked_stray : (walk : Walk) (old new : Survey) (track : Track) (n : ℕ) → Walked walk old new → 0 < walk.left → Strays nodes most rows walk n → WalkStopsAt nodes most rows f place track n
-  walked_stray walk old new track n w l s = record {
-    pages = w.done;
-    first = record { leaves = subst (AreNextLeaves nodes most f 0 place.first place.legs) (append-nil w.done) (w.begun.on [] tt); in_turn = w.turn };
-    no_more = λ p h. let b = w.begun.back (p ∷ []) h.leaves in more p b.0 b.1 h.in_turn;
-    not_all = λ c. let k = walked_leaf walk old new track w.done w l c in s.not_next k.0 k.1;
-    leads = λ d. let e = w.begun.page_is in s.there (subst (λ p. 0 < p) e d.above) (subst (λ p. p < nodes.count) e d.within) ∙ sym e;
-    ends = λ no. s.absent (λ h. no (leads h)) ∙ w.previous;
-  }
-    where
-      more : (p : ℕ) → walk.page ≡ p → IsLeafOf nodes most f walk.previous walk.left p → ComeInTurn f rows None (legs_on nodes (w.done ++ p ∷ [])) → ⊥
-      more p e leaf turn =
-          let here : ComeInTurn f rows (last_leg None (legs_on nodes w.done)) (legs_at p) = turn_append f rows None (legs_on nodes w.done) (legs_at p) (subst (ComeInTurn f rows None) (legs_push w.done p) turn) in
-          s.not_next
-          (subst (λ f. IsLeafOf nodes most f walk.previous walk.left walk.page) (sym w.feature) (subst (IsLeafOf nodes most f walk.previous walk.left) (sym e) leaf))
-          (subst (λ f. ComeInTurn f rows walk.last (legs_at walk.page)) (sym w.feature) (subst (λ d. ComeInTurn f rows d (legs_at walk.page)) (sym w.last) (subst (λ p. ComeInTurn f rows (last_leg None (legs_on nodes w.done)) (legs_at p)) (sym e) here)))
-
-      leads : (0 < walk.page) × (walk.page < nodes.count) → LeadOn nodes place w.done
-      leads h = record {
-        left = (let e = w.begun.left_is in omega (arith, e, l));
-        above = subst (λ p. 0 < p) (sym w.begun.page_is) h.0;
-        within = subst (λ p. p < nodes.count) (sym w.begun.page_is) h.1;
-      }
-
-  -- and where no legs are left, and it has not come to the end, at the last leaf
-  pub walked_past : (walk : Walk) (old new : Survey) (track : Track) → Walked walk old new → walk.left ≡ 0 → (IsAtEnd walk place track → ⊥) → WalkStopsAt nodes most rows f place track walk.previous
-  walked_past walk old new track w z short = record {
-    pages = w.done;
-    first = record { leaves = subst (AreNextLeaves nodes most f 0 place.first place.legs) (append-nil w.done) (w.begun.on [] tt); in_turn = w.turn };
-    no_more = λ p h. let b = w.begun.back (p ∷ []) h.leaves in let some = b.1.some in absurd (omega (arith, some, z));
-    not_all = λ c. short (walked_whole walk old new track w.done w z c);
-    leads = λ d. let e = w.begun.left_is in let l = d.left in absurd (omega (arith, e, l, z));
-    ends = λ _. w.previous;
-  }
 
 -- legs are left as long as fewer leaves were read than they fill
 pub some_left : (legs most i left : ℕ) → 0 < most → i < div_ceil legs most → left ≡ legs - i * most → 0 < left

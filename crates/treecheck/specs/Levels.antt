@@ -1,14 +1,30 @@
 -- Helpers of private functions: the levels of a tree over its leaves, from the root down.
-use Rattle.std.specs.Prelude.{ℕ, suc, ◌≡◌, ◌+◌, ◌^◌, ◌<◌, List, map, slice_get, Option, Some}
+use Rattle.std.specs.Prelude.{ℕ, zero, suc, ◌≡◌, ◌+◌, ◌^◌, ◌<◌, ◌≤◌, List, [], ◌∷◌, map, slice_get, Option, Some}
 use Rattle.legs.specs.Blocks.{block, groups}
 use Rattle.legs.specs.Boxes.{BoxView}
 use Rattle.legs.specs.Hull.{leg_boxes}
 use Rattle.legs.specs.Legs.{LegView}
+use Rattle.std.specs.List.{flat_map}
+use Rattle.tbtree.specs.Descent.{entries_in}
 use Rattle.treecheck.specs.Check.{IsTreeOver}
-pub use Rattle.treecheck.specs.Descent.{named_by, named_below, IsHeight}
 use Rattle.tbtree.specs.Nodes.{Pages, AnInner, InnerView, boxes, children, cover_all}
 use Rattle.tbtree.specs.declared.tree.TbTree.{TbTree}
 use Rattle.treecheck.specs.declared.walking.Met.{Met}
+
+-- so many levels of pages with so many entries each are needed over so many leaves
+pub record IsHeight (inner leaves height : ℕ) : Type 0 where
+  pub some : 0 < leaves
+  pub fewer : (k : ℕ) → k < height → inner ^ k < leaves
+  pub enough : leaves ≤ inner ^ height
+
+-- the pages that page p names
+abbrev pub named_by : Pages LegView BoxView → ℕ → List ℕ
+named_by nodes p = map (λ e. e.child) (entries_in (nodes.at p))
+
+-- the pages so many levels below the root
+abbrev pub named_below : Pages LegView BoxView → (root : ℕ) → ℕ → List ℕ
+named_below nodes root zero = root ∷ []
+named_below nodes root (suc n) = flat_map (named_by nodes) (named_below nodes root n)
 
 -- the pages of leaves, and the least box that holds them
 abbrev pub pages_of_leaves : List Met → List ℕ
@@ -32,16 +48,6 @@ pub record StandsAbove (nodes : Pages LegView BoxView) (height width : ℕ) (lea
   pub page : InnerView BoxView
   pub is : nodes.at p ≡ Some (Some (AnInner page))
   pub is_above : IsAbove height width leaves page
-
--- page p, at place j, is such a page for block j of the leaves, of so many each
-abbrev pub IsInBlock : Pages LegView BoxView → (height width span : ℕ) → List Met → (j p : ℕ)
-    → Type 0
-IsInBlock nodes height width span leaves j p =
-    StandsAbove nodes height width (block span j leaves) p
-
--- and so in the level that has k inner levels below it
-abbrev pub IsInLevel : Pages LegView BoxView → (inner : ℕ) → List Met → (k j p : ℕ) → Type 0
-IsInLevel nodes inner leaves k = IsInBlock nodes (suc k) (inner ^ k) (inner ^ suc k) leaves
 
 -- page j is such a page for block j of the leaves, of so many each
 abbrev pub AllStandAbove : Pages LegView BoxView → (height width span : ℕ) → List Met → List ℕ

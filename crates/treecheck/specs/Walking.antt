@@ -1,5 +1,5 @@
 -- Helpers of private functions: the way along the chain of a feature.
-use Rattle.std.specs.Prelude.{ℕ, ◌≡◌, ◌-◌, ◌<◌, ◌++◌, ◌∷◌, min, [], List, map, length, Option, Some, option_map}
+use Rattle.std.specs.Prelude.{ℕ, ◌≡◌, ◌-◌, ◌++◌, ◌∷◌, min, [], List, map, length, Option, Some, option_map}
 use Rattle.std.specs.List.{All}
 use Rattle.legs.specs.Boxes.{BoxView}
 use Rattle.legs.specs.Hull.{hull, leg_boxes}
@@ -60,15 +60,6 @@ pub record TakesLeaf (nodes : Pages LegView BoxView) (most rows : ℕ) (walk nex
   pub turn : ComeInTurn walk.feature rows walk.last (legs_in (nodes.at walk.page))
   pub next_is : next ≡ after most walk (nodes.at walk.page)
   pub notes : Notes (nodes.at walk.page) walk.page old new
-
--- the page of the way is not its next leaf; n is that page, where it is there, and else the one that
--- the way comes from
-pub record Strays (nodes : Pages LegView BoxView) (most rows : ℕ) (walk : Walk) (n : ℕ) : Type 0
-  where
-    pub not_next : IsLeafOf nodes most walk.feature walk.previous walk.left walk.page
-        → ComeInTurn walk.feature rows walk.last (legs_in (nodes.at walk.page)) → ⊥
-    pub there : 0 < walk.page → walk.page < nodes.count → n ≡ walk.page
-    pub absent : ((0 < walk.page) × (walk.page < nodes.count) → ⊥) → n ≡ walk.previous
 
 -- the pages of some leaves are put to what was found
 pub record NotesAll (nodes : Pages LegView BoxView) (pages : List ℕ)

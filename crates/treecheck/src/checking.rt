@@ -2,11 +2,10 @@
 ghost use Rattle.std.specs.Prelude.{ℕ, Bool, ◌≡◌, ◌≢◌, ◌<◌, ◌^◌, ◌↔◌, ◌⊎◌, Err, None, length, IfErr, IsErrOf, OnOk, IsTrue, true};
 ghost use Rattle.std.specs.List.{All};
 ghost use Rattle.std.specs.List.Sorted.{IsPermutation, IsNonDecreasingBy};
-ghost use Rattle.pagecache.specs.Cache.{payload_of, Cache};
+ghost use Rattle.pagecache.specs.Cache.{payload_of};
 ghost use Rattle.chains.specs.Chains.{AreHeld};
 ghost use Rattle.chains.specs.Reads.{OnlyReads, Reads};
-ghost use Rattle.legs.specs.declared.tracks.Track.{Track};
-ghost use Rattle.treecheck.specs.Check.{first_on, AreChains, IsChecked};
+ghost use Rattle.treecheck.specs.Check.{IsChecked};
 ghost use Rattle.tbtree.specs.Faults.{MayRefuseRead, NamesEach};
 ghost use Rattle.tbtree.specs.Turn.{IsRising};
 ghost use Rattle.tbtree.specs.Nodes.{pages_of_cache};
@@ -18,9 +17,7 @@ ghost use Rattle.header.specs.Front.{SaysState};
 ghost use Rattle.legs.specs.Asking.{Leaves};
 ghost use Rattle.legs.specs.Index.{MayRefuse, HasRisen};
 ghost use Rattle.legs.specs.declared.index.IndexFault.{IndexFault};
-ghost use Rattle.treecheck.specs.Walking.{Surveys};
 ghost use Rattle.treecheck.specs.Ordering.{IsSurveyWhole};
-ghost use Rattle.treecheck.specs.Naming.{IsFirstDamaged, IsFirstMalformed, IsMiscounted};
 ghost use Rattle.treecheck.specs.declared.walking.Met.{Met};
 ghost use Rattle.treecheck.specs.declared.walking.Survey.{Survey};
 
@@ -67,8 +64,6 @@ fn read_pages<S: PageStore>(cache: &mut PageCache<S>) -> Result<(), TreeFault>
     ensures only { IsTrue cache.old.store.is_faithful → AreHeld (pages_of_cache cache.old)
         → 0 < cache.old.count
         → cache.old.count ≡ cache.old.store.count → IfErr result MayRefuseRead }
-    ensures named { IsTrue cache.old.store.is_faithful
-        → IfErr result (NamesEach (IsFirstDamaged cache.old) (IsMiscounted cache.old)) }
     ensures reads { Reads cache.old cache.new result }
 {
     let count = cache.count();
@@ -171,9 +166,6 @@ pub fn check_pages<S: PageStore>(
         → length places.now < 2 ^ 32 → Agree tracks.now rows legs
         → IsChecked (pages_of_cache cache.old) tree.now rows legs places.now tracks.now.tracks
         → IfErr result MayRefuseRead }
-    ensures named { IsTrue cache.old.store.is_faithful
-        → IfErr result (NamesEach (IsFirstDamaged cache.old)
-        (IsFirstMalformed begun tree.now rows legs places.now tracks.now cache.old)) }
     ensures reads { Reads cache.old cache.new result }
 {
     tbtree::laws();
@@ -221,10 +213,6 @@ fn check_index<S: PageStore>(
         → IsChecked (pages_of_cache index.old.cache) index.old.tree rows index.old.legs places.now
         tracks.now.tracks
         → IfErr result MayRefuseRead }
-    ensures named { IsTrue index.old.cache.store.is_faithful
-        → IfErr result (NamesEach (IsFirstDamaged index.old.cache)
-        (IsFirstMalformed begun index.old.tree rows index.old.legs places.now tracks.now
-        index.old.cache)) }
     ensures same { index.new ≡ with_cache index.old index.new.cache index.new.known }
     ensures reads { Reads index.old.cache index.new.cache result }
 {
@@ -270,13 +258,6 @@ pub fn check<S: PageStore>(
         index.old.places tracks.now.tracks) }
     ensures only { IsSound index.old → AreTracksOf tracks.now rows (content index.old)
         → SaysState begun (payload_of index.old.cache 0) → IfErr result MayRefuse }
-
-    // Which page is damaged, whoever made the pages.
-    ensures named { IsTrue index.old.cache.store.is_faithful → (n : ℕ)
-        → IsErrOf result (IndexFault.Damaged n)
-        → IsFirstDamaged index.old.cache n
-        ⊎ IsFirstMalformed begun index.old.tree rows index.old.legs index.old.places tracks.now
-        index.old.cache n }
 
     // Nothing changes.
     ensures same { index.new ≡ with_cache index.old index.new.cache index.new.known }

@@ -12,7 +12,6 @@ ghost use Rattle.tbtree.specs.Shape.{IsShape};
 ghost use Rattle.tbtree.specs.declared.tree.Place.{Place};
 ghost use Rattle.tbtree.specs.declared.tree.TbTree.{TbTree};
 ghost use Rattle.treecheck.specs.Check.{HoldChains, HoldLegs, IsChecked};
-ghost use Rattle.treecheck.specs.Stopping.{AllStopAt};
 
 /// What holds of pages that hold a list of legs, and of chains that do, for the proofs of a caller.
 /// It does nothing.
@@ -42,12 +41,6 @@ pub fn laws()
         (places : List Place) (tracks : List Track) → 0 < tree.shape.leaf
         → (held : HoldLegs nodes tree rows total places tracks)
         → HoldChains nodes tree.shape.leaf rows total places tracks held.legs }
-
-    // A walk along chains stops at one page alone.
-    ensures one_stop { (nodes : Pages LegView BoxView) (most rows : ℕ)
-        (places : List Place) (tracks : List Track) (a b : ℕ)
-        → AllStopAt nodes most rows places tracks a → AllStopAt nodes most rows places tracks b
-        → a ≡ b }
 
     // Legs with each ordinal below a total once are, in their order, numbered by their places.
     ensures numbered { (all : List LegView) (total : ℕ)

@@ -7,11 +7,10 @@ ghost use Rattle.tbnode.specs.Form.{node_of};
 ghost use Rattle.chains.specs.Reads.{Reads};
 ghost use Rattle.treecheck.specs.Check.{IsTreeOver};
 ghost use Rattle.tbtree.specs.Descent.{entries_in};
-ghost use Rattle.tbtree.specs.Faults.{IfMalformed, MayRefuseRead, RefusesRead};
+ghost use Rattle.tbtree.specs.Faults.{MayRefuseRead, RefusesRead};
 ghost use Rattle.tbtree.specs.Nodes.{pages_of_cache, AnInner, InnerView, boxes, children};
 ghost use Rattle.pagecache.specs.Cache.{Cache};
-ghost use Rattle.treecheck.specs.Descent.{DescentStopsAt, IsFirstWithout, IsHighestWithout};
-ghost use Rattle.treecheck.specs.Levels.{cover_of_leaves, pages_of_leaves, named_below, named_by, AllStandAbove, IsAbove, IsHeight, IsInBlock, IsInLevel, LevelsStandAbove, StandsAbove, StandsOver};
+ghost use Rattle.treecheck.specs.Levels.{cover_of_leaves, pages_of_leaves, named_by, AllStandAbove, IsAbove, IsHeight, LevelsStandAbove, StandsAbove, StandsOver};
 ghost use Rattle.treecheck.specs.Walking.{IsMet};
 
 use crate::walking::Met;
@@ -124,9 +123,6 @@ fn take_inner(
         ≡ below.old.items ++ map (λ e. e.child) (entries_in (Some (node_of payload.now)))) }
     ensures only { (inner : InnerView BoxView) → node_of payload.now ≡ Some (AnInner inner)
         → IsAbove level width leaves.now inner → IfErr result MayRefuseRead }
-    ensures stops { IfErr result (IfMalformed (λ n. (n ≡ page)
-        × ((inner : InnerView BoxView) → node_of payload.now ≡ Some (AnInner inner)
-        → IsAbove level width leaves.now inner → ⊥))) }
     ensures caused { (old new : Cache) → IfErr result (RefusesRead old new) }
 {
     let Some(inner) = tbnode::inner(payload) else {
@@ -157,9 +153,6 @@ fn take_page<S: PageStore>(
     ensures only { IsTrue cache.old.store.is_faithful
         → StandsAbove (pages_of_cache cache.old) level width leaves.now page
         → IfErr result MayRefuseRead }
-    ensures stops { IsTrue cache.old.store.is_faithful
-        → IfErr result (IfMalformed (λ n. (n ≡ page)
-        × (StandsAbove (pages_of_cache cache.old) level width leaves.now page → ⊥))) }
     ensures reads { Reads cache.old cache.new result }
 {
     if page == 0 {
@@ -194,9 +187,6 @@ fn level_below<S: PageStore>(
     ensures only { IsTrue cache.old.store.is_faithful
         → AllStandAbove (pages_of_cache cache.old) level width span leaves.now pages.now
         → IfErr result MayRefuseRead }
-    ensures stops { IsTrue cache.old.store.is_faithful
-        → IfErr result (IfMalformed (IsFirstWithout
-        (IsInBlock (pages_of_cache cache.old) level width span leaves.now) pages.now)) }
     ensures reads { Reads cache.old cache.new result }
 {
     let mut below = Vec::new(alloc);
@@ -226,10 +216,6 @@ fn check_levels<S: PageStore>(
     ensures only { IsTrue cache.old.store.is_faithful
         → LevelsStandAbove (pages_of_cache cache.old) inner height root leaves.now
         → IfErr result MayRefuseRead }
-    ensures stops { IsTrue cache.old.store.is_faithful
-        → IfErr result (IfMalformed (IsHighestWithout
-        (IsInLevel (pages_of_cache cache.old) inner leaves.now)
-        (named_below (pages_of_cache cache.old) root) height)) }
     ensures reads { Reads cache.old cache.new result }
 {
     let mut pages = Vec::new(alloc);
@@ -290,10 +276,6 @@ pub fn check_tree<S: PageStore>(
         → (pages : ℕ → List ℕ)
         → IsTreeOver (pages_of_cache cache.old) tree.now (pages_of_leaves leaves.now) pages
         → IfErr result MayRefuseRead }
-    ensures stops { IsTrue cache.old.store.is_faithful
-        → All (λ m. IsMet ((pages_of_cache cache.old).at m.page) m) leaves.now
-        → IfErr result (IfMalformed (DescentStopsAt (pages_of_cache cache.old) tree.now
-        (pages_of_leaves leaves.now))) }
     ensures reads { Reads cache.old cache.new result }
 {
     if leaves.len() as u64 != u64::from(tree.leaves) {

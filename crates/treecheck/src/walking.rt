@@ -5,13 +5,12 @@ ghost use Rattle.legs.specs.Legs.{LegView};
 ghost use Rattle.pagecache.specs.Cache.{Cache};
 ghost use Rattle.tbnode.specs.Form.{node_of};
 ghost use Rattle.chains.specs.Reads.{Reads};
-ghost use Rattle.treecheck.specs.Check.{legs_on, IsLeafOf, AreLeavesOf, AreChains};
-ghost use Rattle.tbtree.specs.Turn.{last_leg, first_ordinal, ComesAfter, ComeInTurn};
+ghost use Rattle.treecheck.specs.Check.{IsLeafOf, AreLeavesOf, AreChains};
+ghost use Rattle.tbtree.specs.Turn.{last_leg, ComesAfter, ComeInTurn};
 ghost use Rattle.tbtree.specs.Descent.{legs_in};
-ghost use Rattle.tbtree.specs.Faults.{IfNamed, MayRefuseRead};
-ghost use Rattle.tbtree.specs.Nodes.{LeafView, ALeaf};
-ghost use Rattle.treecheck.specs.Stopping.{AllStopAt, WalkStopsAt};
-ghost use Rattle.treecheck.specs.Walking.{after, pages_by, IsAtEnd, IsNextNode, Notes, Strays, Surveys, TakesLeaf, Walks};
+ghost use Rattle.tbtree.specs.Faults.{MayRefuseRead};
+ghost use Rattle.tbtree.specs.Nodes.{ALeaf};
+ghost use Rattle.treecheck.specs.Walking.{after, pages_by, IsAtEnd, IsNextNode, Notes, Surveys, TakesLeaf, Walks};
 
 use crate::leaves::{AnyLeaf, bounds_of};
 use legs::{Box3, Leg, Track, Tracks};
@@ -188,10 +187,10 @@ pub trait LeafReader {
     ghost use Rattle.tbnode.specs.Nodes.{Node};
     ghost use Rattle.chains.specs.Reads.{Reads};
     ghost use Rattle.treecheck.specs.Check.{IsLeafOf};
-    ghost use Rattle.tbtree.specs.Faults.{IfNamed, MayRefuseRead};
+    ghost use Rattle.tbtree.specs.Faults.{MayRefuseRead};
     ghost use Rattle.tbtree.specs.Turn.{ComeInTurn};
     ghost use Rattle.tbtree.specs.Descent.{legs_in};
-    ghost use Rattle.treecheck.specs.Walking.{pages_by, Strays, TakesLeaf};
+    ghost use Rattle.treecheck.specs.Walking.{pages_by, TakesLeaf};
 
     /// What they are read from.
     type Source;
@@ -221,9 +220,6 @@ pub trait LeafReader {
             → ComeInTurn walk.old.feature rows walk.old.last
             (legs_in ((pages_by node (seen source.old)).at walk.old.page))
             → IfErr result MayRefuseRead }
-        ensures strays { IsTrue (seen source.old).store.is_faithful
-            → IfErr result (IfNamed (Strays (pages_by node (seen source.old)) most rows
-            walk.old)) }
         ensures reads { Reads (seen source.old) (seen source.new) result };
 }
 
@@ -304,10 +300,6 @@ pub fn walk_chain<R: LeafReader>(
         → AreLeavesOf (pages_by R.node (R.seen source.old)) most rows feature place.now
         track.now pages
         → IfErr result MayRefuseRead }
-    ensures stops { IsTrue (R.seen source.old).store.is_faithful
-        → IfErr result
-        (IfNamed (WalkStopsAt (pages_by R.node (R.seen source.old)) most rows feature
-        place.now track.now)) }
     ensures reads { Reads (R.seen source.old) (R.seen source.new) result }
 {
     let mut walk = Walk {
@@ -362,9 +354,6 @@ pub fn walk_all<R: LeafReader>(
         → AreChains (pages_by R.node (R.seen source.old)) most rows 0 places.now
         tracks.now.tracks chains
         → IfErr result MayRefuseRead }
-    ensures stops { IsTrue (R.seen source.old).store.is_faithful
-        → IfErr result (IfNamed (AllStopAt (pages_by R.node (R.seen source.old)) most rows
-        places.now tracks.now.tracks)) }
     ensures reads { Reads (R.seen source.old) (R.seen source.new) result }
 {
     let mut survey = Survey {

@@ -3,7 +3,6 @@ pub mod OldLemmas
 pub mod OldNamedLemmas
 pub mod OpenedLemmas
 pub mod SurveyedLemmas
-pub mod GrownLemmas
 pub mod TakingLemmas
 pub mod LentLemmas
 pub mod MigrateLemmas

@@ -1,5 +1,5 @@
 -- A store of version 1 that is brought over.
-use Rattle.std.proofs.Common.{ℕ, ◌≡◌, ◌<◌, ◌≤◌, ◌∙◌, cond, drop, ⊎_elim, inl, inr, List, length, slice_get, Option, Some, None, refl, sym, ap, subst, arith, IsTrue}
+use Rattle.std.proofs.Common.{ℕ, ◌≡◌, ◌<◌, ◌≤◌, ◌∙◌, ⊎_elim, inl, inr, List, length, slice_get, Option, Some, None, refl, sym, ap, subst, arith, IsTrue}
 use Rattle.std.proofs.lemmas.Int.{clamps}
 use Rattle.std.specs.Option.{option_and_then, option_map}
 use Rattle.legs.specs.Book.{Book}
@@ -14,8 +14,7 @@ use Rattle.legs.specs.Tracks.{TracksView}
 use Rattle.legs.specs.declared.tracks.Track.{Track}
 use Rattle.pages.specs.Store.{Store as StoreView, Faulted, IsLawful, Keeps, Stays}
 use Rattle.pages.specs.Unsealed.{unsealed}
-use Rattle.pages.specs.declared.payload.Payload.{Payload}
-use Rattle.pagecache.specs.Cache.{payload_of, stored_payload}
+use Rattle.pagecache.specs.Cache.{stored_payload}
 use Rattle.pagecache.specs.declared.fault.CacheFault.{CacheFault}
 use Rattle.pagecache.specs.declared.fault.CacheFault.TheVariants as cache
 use Rattle.version1.specs.OldForm.{old_node_of}
@@ -24,7 +23,7 @@ use Rattle.tbtree.specs.Nodes.{Pages}
 use Rattle.tbtree.specs.declared.tree.Place.{Place}
 use Rattle.tbtree.specs.declared.tree.TbTree.{TbTree}
 use Rattle.treecheck.specs.Checking.{Agree}
-use Rattle.boxsearch.specs.Index.{content, fields, fields_in, words, IndexView, IsSound}
+use Rattle.boxsearch.specs.Index.{content, words, IndexView, IsSound}
 use Rattle.version1.specs.OldLegs.{pages_of_old}
 use Rattle.catalogue.specs.Beginning.{IsCaused}
 use Rattle.register.specs.ChainReader.{fault_of}
@@ -32,12 +31,11 @@ use Rattle.catalogue.specs.Holding.{AnswersBook}
 use Rattle.register.specs.Lasting.{IsStop}
 use Rattle.catalogue.specs.Beginning.{IsLeftOver}
 use Rattle.version1.specs.Migrating.{brought_fault, IsLegFault, IsMigratingFault}
-use Rattle.version1.specs.OldStore.{present_shape, AnswersOldBook, IsOldReadingFault}
+use Rattle.version1.specs.OldStore.{present_shape, AnswersOldBook}
 use Rattle.register.specs.Saved.{CatalogueView}
 use Rattle.register.specs.Saving.{IsSavingStop}
 use Rattle.register.specs.declared.fault.CatalogueFault.{CatalogueFault}
 use Rattle.register.specs.declared.fault.CatalogueFault.TheVariants.{Memory, Store, StoreFull, Damaged, Unfinished, Version, Malformed}
-use Rattle.catalogue.proofs.BeginLemmas.{empty_pages}
 
 -- the pages of a store of version 1 that stays are what they were
 pub old_pages_stay : (a b : StoreView) → IsTrue a.is_faithful → Stays a b → pages_of_old b ≡ pages_of_old a
@@ -136,26 +134,5 @@ shape_in None other = other
 pub same_shape : (i begun : IndexView) (shape : ShapeView) → words.plan i ≡ words.plan begun → begun.tree.shape ≡ shape → i.tree.shape ≡ shape
 same_shape i begun shape plan is = ap (λ p. shape_in p shape) plan ∙ is
 
--- what page 0 of a new store says behind its state
-pub begun_fields : (i : IndexView) (p : Payload) → IsTrue i.cache.store.is_faithful → i.cache.count ≡ 1 → payload_of i.cache 0 ≡ Some p → fields i ≡ Some (drop 12 p.bytes)
-begun_fields i p f one at =
-    ap (λ b. cond b (fields_in i.cache.count (payload_of i.cache 0)) None) f ∙ ap (λ n. fields_in n (payload_of i.cache 0)) one ∙ ap (fields_in 1) at
-
 pub left_later : (new mid left : StoreView) → Stays new mid → IsLeftOver mid left → IsLeftOver new left
 left_later new mid left s h = ⊎_elim inl (λ r. inr (⊎_elim inl (λ f. inr (f.0, faulted_before new mid left s.keeps.faults f.1)) r)) h
-
--- the new store is said to be full where an index says so
-pub full_index : (fault : IndexFault) → brought_fault fault ≡ StoreFull → fault ≡ index.StoreFull
-full_index index.Memory e = let no : Memory ≡ StoreFull = e in absurd (cc)
-full_index index.Store e = let no : Store ≡ StoreFull = e in absurd (cc)
-full_index (index.Damaged page) e = let no : Damaged page ≡ StoreFull = e in absurd (cc)
-full_index index.StoreFull e = refl
-full_index index.Spent e = let no : Malformed ≡ StoreFull = e in absurd (cc)
-
--- one that is said to be full where its page 0 is written may have no page
-pub full_beginning : (new mid left : StoreView) (fault : CacheFault) → Stays new mid → IsCaused mid left fault → fault_of fault ≡ StoreFull → new.most ≡ 0
-full_beginning new mid left cache.NoPage stays caused e = let no : Malformed ≡ StoreFull = e in absurd (cc)
-full_beginning new mid left cache.Store stays caused e = let no : Store ≡ StoreFull = e in absurd (cc)
-full_beginning new mid left (cache.Damaged page) stays caused e = let no : Damaged page ≡ StoreFull = e in absurd (cc)
-full_beginning new mid left cache.StoreFull stays caused e = sym stays.keeps.most ∙ caused
-full_beginning new mid left cache.Memory stays caused e = let no : Memory ≡ StoreFull = e in absurd (cc)

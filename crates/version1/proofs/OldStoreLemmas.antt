@@ -4,16 +4,15 @@ use Rattle.std.proofs.lemmas.Int.{clamps}
 use Rattle.legs.specs.Limits.{IsLimits}
 use Rattle.pages.specs.Store.{Store as StoreView, Stays}
 use Rattle.pages.specs.declared.payload.Payload.{Payload}
-use Rattle.pagecache.specs.Cache.{stored_payload, Cache}
-use Rattle.chains.specs.Reads.{OnlyReads}
+use Rattle.pagecache.specs.Cache.{stored_payload}
 use Rattle.tbtree.specs.declared.tree.Place.{Place}
 use Rattle.tbtree.specs.declared.tree.TbTree.{TbTree}
 use Rattle.register.specs.Building.{tree_of}
 use Rattle.register.specs.Chain.{text_at}
-use Rattle.register.specs.ChainReader.{rest_of, BreaksAt, IsReadFault, ReaderView}
+use Rattle.register.specs.ChainReader.{rest_of, BreaksAt, ReaderView}
 use Rattle.header.specs.Fields.{FitsFields}
-use Rattle.register.specs.Lasting.{IsReadingFault, IsStop, IsTrulyDamaged}
-use Rattle.version1.specs.OldReading.{as_written, IsBringingFault, IsLentFault, SaysOldFields}
+use Rattle.register.specs.Lasting.{IsStop, IsTrulyDamaged}
+use Rattle.version1.specs.OldReading.{as_written, IsBringingFault, SaysOldFields}
 use Rattle.version1.specs.OldStore.{old_payload_fault, present_shape, AnswersOld, HasOldFields, IsKeptOld, IsOldReadingFault}
 use Rattle.register.specs.Restoring.{HoldsContents, IsRest}
 use Rattle.register.specs.Saved.{fields_for, CatalogueView}

@@ -6,8 +6,8 @@ use Rattle.std.proofs.lemmas.List.Sorted.{IsPermutation-map, IsPermutation-sym, 
 use Rattle.std.proofs.lemmas.List.Elements.{All-head, All-tail, All-nil, All-cons}
 use Rattle.std.specs.Map.{lookup}
 use Rattle.std.proofs.lemmas.Bool.{eqb-true}
-use Rattle.std.proofs.lemmas.List.{length-map, take-append-drop}
-use Rattle.legs.specs.Asking.{IsLater, LacksPages}
+use Rattle.std.proofs.lemmas.List.{length-map}
+use Rattle.legs.specs.Asking.{IsLater}
 use Rattle.legs.proofs.RecordLemmas.{follow_append}
 use Rattle.legs.specs.Blocks.{joined}
 use Rattle.legs.specs.Boxes.{BoxView}
@@ -32,10 +32,8 @@ use Rattle.boxsearch.specs.Answers.{of_tree}
 use Rattle.tbtree.specs.Faults.{RefusesRead}
 use Rattle.tbtree.specs.declared.fault.TreeFault.{TreeFault}
 use Rattle.tbtree.specs.declared.fault.TreeFault.TheVariants.{Cache as OfCache, Malformed, Spent}
-use Rattle.version1.proofs.GrownLemmas.{grown_none, lacks_behind}
 use Rattle.version1.specs.OldLegs.{AreAmong, AreSurveyed, HaveLegsOf, IsNumbered, IsOneOf, StandByOrdinal}
-use Rattle.version1.specs.Migrating.{GrowsBy}
-use Rattle.version1.specs.Waiting.{GrowsOn, Holds, MayWait}
+use Rattle.version1.specs.Waiting.{Holds, MayWait}
 use Rattle.treecheck.specs.Ordering.{IsSurveyWhole}
 use Rattle.treecheck.specs.Walking.{IsMet, Surveys}
 use Rattle.treecheck.specs.declared.walking.Met.{Met}
@@ -103,7 +101,6 @@ module _ {I : Type 0} (g : Ghosts I) where
     pub content : g.content now ++ waiting ≡ take n list
     pub rest : CanFollowInTurn (g.content now ++ waiting) (drop n list)
     pub marked : g.is_marked first → g.is_marked now
-    pub grown : GrowsBy g first now (g.content now)
 
   pub brought_none : (index : I) (opened : List (ℕ × LegView)) (waiting : List LegView) (total : ℕ) (list : List LegView) → opened ≡ [] → waiting ≡ [] → g.is_sound index → g.content index ≡ [] → IsNumbered total list
       → Brought index index opened waiting 0 list
@@ -115,7 +112,6 @@ module _ {I : Type 0} (g : Ghosts I) where
         content = nothing;
         rest = subst (λ l. CanFollowInTurn l list) (sym nothing) numbered.in_turn;
         marked = λ m. m;
-        grown = grown_none g index (g.content index) empty;
       }
 
   -- at the next ordinal a leg of the list is opened
@@ -141,18 +137,11 @@ module _ {I : Type 0} (g : Ghosts I) where
     pub next_waits : MayWait g now (waiting ++ leg ∷ [])
     next_waits = (k.brought.may.0, follow_append (g.content now) waiting (leg ∷ []) k.brought.may.1 (next_rest.0, tt))
 
-    -- with it, those that wait may take more pages than there are, and so does the list
-    pub next_lacks : (later : I) → IsLater g first now → LacksPages g now later (waiting ++ leg ∷ []) → LacksPages g first later list
-    next_lacks later is_later lacks =
-        lacks_behind g first now later (waiting ++ leg ∷ []) (drop (n + 1) list) list is_later k.brought.grown lacks
-        (ap (λ l. l ++ drop (n + 1) list) (sym (append_assoc (g.content now) waiting (leg ∷ [])) ∙ ap (λ l. l ++ leg ∷ []) k.brought.content ∙ sym (take_next list n leg next_leg))
-        ∙ take-append-drop (n + 1) list)
-
     pub brought_on : (later : I) (left : List (ℕ × LegView)) (after : List LegView) (next : ℕ) → n + 1 ≡ next → StandByOrdinal list left
         → (MayWait g now (waiting ++ leg ∷ []) → Holds g now later (waiting ++ leg ∷ []) after)
         → (MayWait g now (waiting ++ leg ∷ []) → g.is_marked now → g.is_marked later)
-        → IsLater g first now → (MayWait g now (waiting ++ leg ∷ []) → GrowsOn g now later) → Brought first later left after next list
-    brought_on later left after next s keep holds marks is_later grows =
+        → Brought first later left after next list
+    brought_on later left after next s keep holds marks =
         let h = holds next_waits in
         let more : g.content later ++ after ≡ (g.content now ++ waiting) ++ leg ∷ [] = h.content ∙ sym (append_assoc (g.content now) waiting (leg ∷ [])) in
         record {
@@ -161,14 +150,7 @@ module _ {I : Type 0} (g : Ghosts I) where
           content = more ∙ ap (λ l. l ++ leg ∷ []) k.brought.content ∙ sym (take_next list n leg next_leg) ∙ ap (λ n. take n list) s;
           rest = subst (λ n. CanFollowInTurn (g.content later ++ after) (drop n list)) s (subst (λ l. CanFollowInTurn l (drop (n + 1) list)) (sym more) next_rest.1);
           marked = λ m. marks next_waits (k.brought.marked m);
-          grown = grows next_waits first is_later k.brought.grown;
         }
-
-  -- those that wait in the end may take more pages than there are, and so does the list
-  pub last_lacks : (first now later : I) (opened : List (ℕ × LegView)) (waiting : List LegView) (n : ℕ) (list : List LegView) → Brought first now opened waiting n list
-      → IsLater g first now → LacksPages g now later waiting → LacksPages g first later list
-  last_lacks first now later opened waiting n list b is_later lacks =
-      lacks_behind g first now later waiting (drop n list) list is_later b.grown lacks (ap (λ l. l ++ drop n list) b.content ∙ take-append-drop n list)
 
 take_past : {X : Type 0} (xs : List X) (i : ℕ) → length xs ≤ i → take i xs ≡ xs
 take_past [] zero l = refl
@@ -190,10 +172,10 @@ pub all_taken : (total n : ℕ) (list : List LegView) → IsNumbered total list 
 all_taken total n list numbered l = (let e = length_numbered total list numbered in take_past list n (omega (arith, e, l)))
 
 pub later_refl : {I : Type 0} (g : Ghosts I) (a : I) → IsLater g a a
-later_refl g a = record { plan = refl; most_pages = refl; capacity = refl; others = λ page bytes above is. is; fields = λ bytes is. is; faults = omega arith; asked = omega arith; faithful = λ f. f }
+later_refl g a = record { plan = refl; faults = omega arith; asked = omega arith; faithful = λ f. f }
 
 pub later_trans : {I : Type 0} (g : Ghosts I) (a b c : I) → IsLater g a b → IsLater g b c → IsLater g a c
-later_trans g a b c p q = record { plan = q.plan ∙ p.plan; most_pages = q.most_pages ∙ p.most_pages; capacity = q.capacity ∙ p.capacity; others = λ page bytes above is. q.others page bytes above (p.others page bytes above is); fields = λ bytes is. q.fields bytes (p.fields bytes is); faults = (let x = p.faults in let y = q.faults in omega (arith, x, y)); asked = (let x = p.asked in let y = q.asked in omega (arith, x, y)); faithful = λ f. q.faithful (p.faithful f) }
+later_trans g a b c p q = record { plan = q.plan ∙ p.plan; faults = (let x = p.faults in let y = q.faults in omega (arith, x, y)); asked = (let x = p.asked in let y = q.asked in omega (arith, x, y)); faithful = λ f. q.faithful (p.faithful f) }
 
 pub stays_refl : (a : Store) → Stays a a
 stays_refl a = record { keeps = record { most = refl; faithful = refl; faults = omega arith; lost = λ l. l }; count = refl; pages = λ f. refl; unsynced = inl refl }

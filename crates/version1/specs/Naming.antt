@@ -15,8 +15,7 @@ use Rattle.register.specs.declared.fault.CatalogueFault.TheVariants.{Memory, Sto
 use Rattle.tbtree.specs.Nodes.{Pages}
 use Rattle.tbtree.specs.declared.tree.Place.{Place}
 use Rattle.tbtree.specs.declared.tree.TbTree.{TbTree}
-use Rattle.treecheck.specs.Check.{AreChains, HoldChains}
-use Rattle.treecheck.specs.Stopping.{AllStopAt}
+use Rattle.treecheck.specs.Check.{HoldChains}
 use Rattle.version1.specs.OldLegs.{pages_of_old}
 use Rattle.version1.specs.OldReading.{SaysOldFields}
 use Rattle.version1.specs.OldStore.{IsKeptOld}
@@ -29,23 +28,6 @@ AreWhole s c tree places =
     (legs : List LegView) × HoldChains (pages_of_old s) tree.shape.leaf c.tracks.rows c.tracks.legs
     places c.tracks.tracks legs
 
-module _ (nodes : Pages LegView BoxView) (most rows : ℕ) (places : List Place)
-    (tracks : List Track) where
-  -- each feature has its leaves
-  abbrev pub HaveLeaves : Type 0
-  HaveLeaves = (chains : List (List ℕ)) × AreChains nodes most rows 0 places tracks chains
-
-  -- page n is named, of leaves that do not hold one list of legs: where not each feature has its leaves, the walk along them
-  -- stops at it; where each has its leaves, it is page 0
-  pub record IsNamedOfLeaves (n : ℕ) : Type 0 where
-    pub walk : (HaveLeaves → ⊥) → AllStopAt nodes most rows places tracks n
-    pub list : HaveLeaves → n ≡ 0
-
--- page n is named, of a catalogue that the pages of a store of version 1 keep and of which the chains are not whole
-abbrev pub IsNamedOfChains : StoreView → CatalogueView → TbTree → List Place → ℕ → Type 0
-IsNamedOfChains s c tree places n =
-    IsNamedOfLeaves (pages_of_old s) tree.shape.leaf c.tracks.rows places c.tracks.tracks n
-
 -- P of the page that is said to be damaged
 abbrev pub IfDamaged : (ℕ → Type 0) → CatalogueFault → Type 0
 IfDamaged P Memory = Unit {0}
@@ -55,14 +37,6 @@ IfDamaged P (Damaged page) = P page
 IfDamaged P Unfinished = Unit {0}
 IfDamaged P Version = Unit {0}
 IfDamaged P Malformed = Unit {0}
-
--- the same of a fault of an index
-abbrev pub IfDamagedInIndex : (ℕ → Type 0) → IndexFault → Type 0
-IfDamagedInIndex P index.Memory = Unit {0}
-IfDamagedInIndex P index.Store = Unit {0}
-IfDamagedInIndex P (index.Damaged page) = P page
-IfDamagedInIndex P index.StoreFull = Unit {0}
-IfDamagedInIndex P index.Spent = Unit {0}
 
 -- page 0 of so many pages says, in version 1, where a text is, and page n is the first one along it that has no payload
 pub record StopsInOldText (at : ℕ → Option Payload) (count n : ℕ) : Type 0 where

@@ -1,9 +1,8 @@
 //! A store of version 1 is brought over.
 ghost use Rattle.std.specs.Prelude.{◌≡◌, ◌<◌, ◌≤◌, ◌^◌, [], List, drop, length, None, Some, IsTrue, IfErr, IfOk};
-ghost use Rattle.legs.specs.Asking.{planted, IsLater};
+ghost use Rattle.legs.specs.Asking.{IsLater};
 ghost use Rattle.legs.specs.Book.{Book};
 ghost use Rattle.legs.specs.Costs.{ShapeView};
-ghost use Rattle.legs.specs.Growing.{LacksRoom};
 ghost use Rattle.legs.specs.Legs.{LegView};
 ghost use Rattle.legs.specs.Limits.{LimitsView};
 ghost use Rattle.legs.specs.declared.index.IndexFault.{IndexFault};
@@ -11,14 +10,13 @@ ghost use Rattle.pages.specs.Store.{IsLawful, Stays};
 ghost use Rattle.pagecache.specs.Cache.{stored_payload};
 ghost use Rattle.treecheck.specs.Check.{HoldChains};
 ghost use Rattle.treecheck.specs.Checking.{Agree};
-ghost use Rattle.header.specs.Fields.{header_payload};
-ghost use Rattle.boxsearch.specs.Index.{content, fields, words, IsMarked, IsSound};
+ghost use Rattle.boxsearch.specs.Index.{content, words, IsMarked, IsSound};
 ghost use Rattle.version1.specs.OldLegs.{pages_of_old};
 ghost use Rattle.catalogue.specs.Holding.{AnswersBook, IsUnfinishedStore};
 ghost use Rattle.register.specs.Lasting.{ComesFirst, IsBehindFirst, IsStop, IsTrulyDamaged};
 ghost use Rattle.catalogue.specs.Beginning.{IsLeftOver};
-ghost use Rattle.version1.specs.Migrating.{brought_fault, GrowsBy, IsBrought, IsLegFault, IsMigratingFault, IsRightlyFull};
-ghost use Rattle.version1.specs.Naming.{AreWhole, IfDamaged, IsNamedOfChains, IsNamedOfLeaves, NamesOldStop};
+ghost use Rattle.version1.specs.Migrating.{brought_fault, IsBrought, IsLegFault, IsMigratingFault};
+ghost use Rattle.version1.specs.Naming.{AreWhole, NamesOldStop};
 ghost use Rattle.version1.specs.OldStore.{old_first_fault, present_shape, AnswersOld, AnswersOldBook, HoldsOldBook, IsKeptOld, IsOldReadingFault};
 ghost use Rattle.register.specs.Saved.{CatalogueView};
 ghost use Rattle.register.specs.Saving.{IsSavingStop};
@@ -132,8 +130,6 @@ fn bring_legs<S: PageStore, T: PageStore>(
     ensures brought { IfOk result (λ new. IsTrue (S.seen old.old).is_faithful → IsSound index
         → content index ≡ [] → IsSound new × HoldChains (pages_of_old (S.seen old.old))
         leaf tracks.now.rows tracks.now.legs places.now tracks.now.tracks (content new)) }
-    ensures grown { IfOk result (λ new. IsTrue (S.seen old.old).is_faithful → IsSound index
-        → content index ≡ [] → GrowsBy words index new (content new)) }
     ensures marked { IfOk result (λ new. IsTrue (S.seen old.old).is_faithful → IsSound index
         → content index ≡ [] → IsMarked index.cache → IsMarked new.cache) }
     ensures later { IfOk result (λ new. IsLater words index new) }
@@ -144,17 +140,8 @@ fn bring_legs<S: PageStore, T: PageStore>(
         → content index ≡ [] → Agree tracks.now tracks.now.rows tracks.now.legs
         → (legs : List LegView) → HoldChains (pages_of_old (S.seen old.old)) leaf tracks.now.rows
         tracks.now.legs places.now tracks.now.tracks legs → IsSavingStop back.1) }
-    ensures named { IfErr result (λ back. IsTrue (S.seen old.old).is_faithful → IsSound index
-        → content index ≡ [] → length places.now < 2 ^ 32
-        → IfDamaged (IsNamedOfLeaves (pages_of_old (S.seen old.old)) leaf tracks.now.rows places.now
-        tracks.now.tracks) back.1) }
     ensures works { IfErr result (λ back. IsTrue (S.seen old.old).is_faithful → IsSound index
         → content index ≡ [] → IsLegFault back.1) }
-    ensures full { IfErr result (λ back. back.1 ≡ CatalogueFault.StoreFull
-        → IsTrue (S.seen old.old).is_faithful → IsSound index → content index ≡ []
-        → (legs : List LegView) × HoldChains (pages_of_old (S.seen old.old)) leaf
-        tracks.now.rows tracks.now.legs places.now tracks.now.tracks legs
-        × LacksRoom index.tree.shape (planted words index) (T.seen back.0).count legs) }
     ensures behind { IfErr result (λ back. IsBehindFirst back.1) }
     ensures stays { Stays (S.seen old.old) (S.seen old.new) }
     ensures caused { IfErr result (λ back. IsMigratingFault (S.seen old.old) (S.seen old.new)
@@ -222,11 +209,6 @@ pub fn migrate<S: PageStore, T: PageStore>(
         → (c : CatalogueView) (tree : TbTree) (places : List Place)
         → IsKeptOld (stored_payload (S.seen old.old)) (S.seen old.old).count c tree places
         → AreWhole (S.seen old.old) c tree places → IsSavingStop back.1) }
-    ensures chains { IfErr result (λ back. IsTrue (S.seen old.old).is_faithful
-        → IsTrue (T.seen new).is_faithful
-        → (c : CatalogueView) (tree : TbTree) (places : List Place)
-        → IsKeptOld (stored_payload (S.seen old.old)) (S.seen old.old).count c tree places
-        → IfDamaged (IsNamedOfChains (S.seen old.old) c tree places) back.1) }
     ensures damaged { IfErr result (λ back. IsTrue (S.seen old.old).is_faithful
         → IsTrue (T.seen new).is_faithful
         → ((c : CatalogueView) (tree : TbTree) (places : List Place)
@@ -239,17 +221,10 @@ pub fn migrate<S: PageStore, T: PageStore>(
         → IsKeptOld (stored_payload (S.seen old.old)) (S.seen old.old).count c tree places → ⊥)
         → NamesOldStop (stored_payload (S.seen old.old)) (S.seen old.old).count back.1) }
 
-    // The new store is said to be full only where it may have no page, or has no room for the legs.
-    ensures full { IfErr result (λ back. back.1 ≡ CatalogueFault.StoreFull
-        → IsTrue (S.seen old.old).is_faithful → IsTrue (T.seen new).is_faithful
-        → IsRightlyFull (S.seen old.old) (T.seen new) (T.seen back.0)) }
-
     // Page 0 of the new store says that it is not finished, and behind that what it says of a new one; and that of the
     // other comes first.
     ensures marked { IfOk result (λ r. IsTrue (S.seen old.old).is_faithful
         → IsTrue (T.seen new).is_faithful → IsMarked r.1.cache) }
-    ensures fields { IfOk result (λ r. IsTrue (T.seen new).is_faithful → fields r.1
-        ≡ Some (drop 12 (header_payload r.1.tree.shape r.0.limits).bytes)) }
     ensures first { IfErr result (λ back. IsTrue (S.seen old.old).is_faithful → ComesFirst
         (old_first_fault (S.seen old.old).count (stored_payload (S.seen old.old) 0)) back.1) }
     ensures finished { IfOk result (λ r. IsTrue (S.seen old.old).is_faithful
@@ -257,8 +232,6 @@ pub fn migrate<S: PageStore, T: PageStore>(
 
     // The store of version 1 stays as it is; of the other this is left.
     ensures stays { Stays (S.seen old.old) (S.seen old.new) }
-    ensures most { IfOk result (λ r. r.1.cache.store.most ≡ (T.seen new).most) }
-    ensures capacity { IfOk result (λ r. r.1.cache.capacity ≡ cache_pages) }
     ensures faults { IfOk result (λ r. (T.seen new).faults ≤ r.1.cache.store.faults) }
     ensures left { IfErr result (λ back. IsTrue (S.seen old.old).is_faithful
         → IsTrue (T.seen new).is_faithful → IsLeftOver (T.seen new) (T.seen back.0)) }

@@ -1,6 +1,6 @@
 //! The legs of a lent store of version 1.
 ghost use Rattle.std.specs.Prelude.{ℕ, ◌≡◌, ◌≢◌, ◌+◌, ◌-◌, ◌<◌, ◌^◌, List, length, Some, [], ◌⊎◌, None, IsErrOf, IfOk, IfErr, IsTrue, OnOk};
-ghost use Rattle.legs.specs.Asking.{IsLater, LacksPages};
+ghost use Rattle.legs.specs.Asking.{IsLater};
 ghost use Rattle.legs.specs.Index.{HasRisen, MayRefuseLeg};
 ghost use Rattle.legs.specs.Legs.{LegView};
 ghost use Rattle.legs.specs.declared.index.IndexFault.{IndexFault};
@@ -8,14 +8,12 @@ ghost use Rattle.pages.specs.Store.{Faulted, Stays};
 ghost use Rattle.pagecache.specs.Cache.{fresh, payload_of};
 ghost use Rattle.version1.specs.OldForm.{old_node_of};
 ghost use Rattle.treecheck.specs.Check.{HoldChains};
-ghost use Rattle.tbtree.specs.Faults.{IfNamed, MayRefuseRead, NamesEach, RefusesRead};
+ghost use Rattle.tbtree.specs.Faults.{MayRefuseRead, NamesEach, RefusesRead};
 ghost use Rattle.tbtree.specs.Turn.{ComeInTurn, IsRising};
 ghost use Rattle.tbtree.specs.Descent.{legs_in};
 ghost use Rattle.treecheck.specs.Checking.{Agree};
 ghost use Rattle.chains.specs.Reads.{Reads};
-ghost use Rattle.version1.specs.Migrating.{GrowsBy};
 ghost use Rattle.version1.specs.OldLegs.{pages_of_old, unsealing, AreAmong, AreOpened, AreReadable, AreSurveyed, HaveEachOf, HaveLegsOf, IsNumbered, IsReadable, Opens, StandByOrdinal};
-ghost use Rattle.version1.specs.Naming.{IfDamagedInIndex, IsNamedOfLeaves};
 ghost use Rattle.treecheck.specs.Walking.{after, pages_by, IsNextNode, Notes};
 ghost use Rattle.treecheck.specs.declared.walking.Met.{Met};
 
@@ -165,10 +163,6 @@ fn survey_leaves<S: PageStore>(
         → Agree tracks.now rows tracks.now.legs → (legs : List LegView)
         → HoldChains (pages_by old_node_of (fresh (S.seen store.old) 1)) most rows tracks.now.legs
         places.now tracks.now.tracks legs → MayRefuseRead fault) }
-    ensures named { IfErr result (λ fault. IsTrue (S.seen store.old).is_faithful
-        → length places.now < 2 ^ 32
-        → IfNamed (IsNamedOfLeaves (pages_by old_node_of (fresh (S.seen store.old) 1)) most rows
-        places.now tracks.now.tracks) fault) }
     ensures reads { Reads (fresh (S.seen store.old) 1) (fresh (S.seen store.new) 1) result }
 {
     let legs = tracks.leg_count();
@@ -289,11 +283,6 @@ pub fn take_old_legs<S: PageStore, I: LegIndex>(
         × HoldChains (pages_of_old (S.seen old.old)) most rows tracks.now.legs places.now
         tracks.now.tracks (I.content index.new)) }
 
-    // It takes all pages that are made: they are what putting these legs in makes.
-    ensures grown { OnOk result (IsTrue (S.seen old.old).is_faithful → I.is_sound index.old
-        → I.content index.old ≡ []
-        → GrowsBy I.Listed index.old index.new (I.content index.new)) }
-
     // The tracks have the numbers of what is brought.
     ensures agree { OnOk result (Agree tracks.now rows tracks.now.legs) }
 
@@ -303,12 +292,6 @@ pub fn take_old_legs<S: PageStore, I: LegIndex>(
         → Agree tracks.now rows tracks.now.legs → (legs : List LegView)
         → HoldChains (pages_of_old (S.seen old.old)) most rows tracks.now.legs places.now
         tracks.now.tracks legs → MayRefuseLeg fault) }
-
-    // Of chains that are not whole, which page is named.
-    ensures named { IfErr result (λ fault. IsTrue (S.seen old.old).is_faithful
-        → I.is_sound index.old → I.content index.old ≡ [] → length places.now < 2 ^ 32
-        → IfDamagedInIndex (IsNamedOfLeaves (pages_of_old (S.seen old.old)) most rows places.now
-        tracks.now.tracks) fault) }
 
     // The store is only read, and the index stays marked.
     ensures stays { Stays (S.seen old.old) (S.seen old.new) }
@@ -323,10 +306,6 @@ pub fn take_old_legs<S: PageStore, I: LegIndex>(
         → Faulted (S.seen old.old) (S.seen old.new)
         ⊎ HasRisen (I.faults index.old) (I.faults index.new) }
     ensures full { IsErrOf result IndexFault.StoreFull → I.is_store_full index.new }
-    ensures lacks { IsErrOf result IndexFault.StoreFull → IsTrue (S.seen old.old).is_faithful
-        → I.is_sound index.old → I.content index.old ≡ [] → (legs : List LegView)
-        × HoldChains (pages_of_old (S.seen old.old)) most rows tracks.now.legs places.now
-        tracks.now.tracks legs × LacksPages I.Listed index.old index.new legs }
 {
     treecheck::laws();
     let survey = match survey_leaves(alloc, old, most, places, tracks, rows) {
@@ -356,11 +335,6 @@ fn bring<S: PageStore, I: LegIndex>(
         → I.content index.old ≡ [] → (list : List LegView)
         → HaveLegsOf (pages_by old_node_of (fresh (S.seen old.old) 1)) leaves.now list
         → IsNumbered legs list → I.is_sound index.new × (I.content index.new ≡ list)) }
-    ensures grown { OnOk result (IsTrue (S.seen old.old).is_faithful → I.is_sound index.old
-        → I.content index.old ≡ [] → (list : List LegView)
-        → HaveLegsOf (pages_by old_node_of (fresh (S.seen old.old) 1)) leaves.now list
-        → IsNumbered legs list
-        → GrowsBy I.Listed index.old index.new (I.content index.new)) }
     ensures only { IfErr result (λ fault. IsTrue (S.seen old.old).is_faithful
         → I.is_sound index.old → I.content index.old ≡ [] → (list : List LegView)
         → HaveLegsOf (pages_by old_node_of (fresh (S.seen old.old) 1)) leaves.now list
@@ -379,10 +353,6 @@ fn bring<S: PageStore, I: LegIndex>(
         → Faulted (S.seen old.old) (S.seen old.new)
         ⊎ HasRisen (I.faults index.old) (I.faults index.new) }
     ensures full { IsErrOf result IndexFault.StoreFull → I.is_store_full index.new }
-    ensures lacks { IsErrOf result IndexFault.StoreFull → IsTrue (S.seen old.old).is_faithful
-        → I.is_sound index.old → I.content index.old ≡ [] → (list : List LegView)
-        → HaveLegsOf (pages_by old_node_of (fresh (S.seen old.old) 1)) leaves.now list
-        → IsNumbered legs list → LacksPages I.Listed index.old index.new list }
     ensures later { IsLater I.Listed index.old index.new }
 {
     let mut opened = HashMap::with_hasher(alloc, keys);

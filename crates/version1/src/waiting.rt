@@ -1,9 +1,9 @@
 //! Legs that wait until there are so many that they are put into an index together.
 ghost use Rattle.std.specs.Prelude.{◌≡◌, ◌<◌, ◌∷◌, ◌++◌, [], length, IsErrOf, IfErr, OnOk};
-ghost use Rattle.legs.specs.Asking.{IsLater, LacksPages};
+ghost use Rattle.legs.specs.Asking.{IsLater};
 ghost use Rattle.legs.specs.Index.{HasRisen, MayRefuseLeg};
 ghost use Rattle.legs.specs.declared.index.IndexFault.{IndexFault};
-ghost use Rattle.version1.specs.Waiting.{GrowsOn, Holds, MayWait};
+ghost use Rattle.version1.specs.Waiting.{Holds, MayWait};
 
 use legs::{IndexFault, Leg, LegIndex};
 
@@ -17,8 +17,6 @@ pub(crate) fn put_waiting<I: LegIndex>(
 ) -> Result<(), IndexFault>
     ensures holds { OnOk result (MayWait I.Listed index.old waiting.old.items
         → Holds I.Listed index.old index.new waiting.old.items []) }
-    ensures grown { OnOk result (MayWait I.Listed index.old waiting.old.items
-        → GrowsOn I.Listed index.old index.new) }
     ensures none { OnOk result (waiting.new.items ≡ []) }
     ensures only { IfErr result (λ fault. MayWait I.Listed index.old waiting.old.items
         → MayRefuseLeg fault) }
@@ -27,8 +25,6 @@ pub(crate) fn put_waiting<I: LegIndex>(
     ensures store { IsErrOf result IndexFault.Store
         → HasRisen (I.faults index.old) (I.faults index.new) }
     ensures full { IsErrOf result IndexFault.StoreFull → I.is_store_full index.new }
-    ensures lacks { IsErrOf result IndexFault.StoreFull
-        → LacksPages I.Listed index.old index.new waiting.old.items }
     ensures later { IsLater I.Listed index.old index.new }
 {
     index.add_all(waiting.as_slice())?;
@@ -46,8 +42,6 @@ pub(crate) fn put_behind<I: LegIndex>(
     ensures few { OnOk result (length waiting.new.items < 65536) }
     ensures holds { OnOk result (MayWait I.Listed index.old (waiting.old.items ++ leg ∷ [])
         → Holds I.Listed index.old index.new (waiting.old.items ++ leg ∷ []) waiting.new.items) }
-    ensures grown { OnOk result (MayWait I.Listed index.old (waiting.old.items ++ leg ∷ [])
-        → GrowsOn I.Listed index.old index.new) }
     ensures only { IfErr result (λ fault. MayWait I.Listed index.old
         (waiting.old.items ++ leg ∷ []) → MayRefuseLeg fault) }
     ensures marked { MayWait I.Listed index.old (waiting.old.items ++ leg ∷ [])
@@ -55,8 +49,6 @@ pub(crate) fn put_behind<I: LegIndex>(
     ensures store { IsErrOf result IndexFault.Store
         → HasRisen (I.faults index.old) (I.faults index.new) }
     ensures full { IsErrOf result IndexFault.StoreFull → I.is_store_full index.new }
-    ensures lacks { IsErrOf result IndexFault.StoreFull
-        → LacksPages I.Listed index.old index.new (waiting.old.items ++ leg ∷ []) }
     ensures later { IsLater I.Listed index.old index.new }
 {
     waiting.push(leg)?;

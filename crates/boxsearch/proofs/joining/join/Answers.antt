@@ -1,17 +1,9 @@
-use Rattle.std.proofs.Common.{◌≡◌, OnOk, ap, subst, sym, ◌∙◌}
-use Rattle.std.specs.Prelude.{IsTrue}
-use Rattle.std.specs.List.{Contains}
-use Rattle.legs.specs.Asking.{FitsLeg, HasAdded}
-use Rattle.legs.specs.Legs.{LegView}
-use Rattle.boxsearch.specs.Index.{IndexView, words}
+use Rattle.std.proofs.Common.{◌≡◌, ap, subst, sym, ◌∙◌}
+use Rattle.boxsearch.specs.Index.{IndexView}
 use Rattle.boxsearch.specs.Putting.{PutsAll}
-use Rattle.boxsearch.specs.Runs.{RunsAsk}
 use Rattle.boxsearch.specs.Taking.{Taking}
 use Rattle.boxsearch.proofs.AddLemmas.{made}
-use Rattle.boxsearch.proofs.EndLemmas.{run_takes}
-use Rattle.boxsearch.proofs.FitLemmas.{joined_fits}
 use Rattle.boxsearch.proofs.ResultLemmas.{from_ok}
-use Rattle.boxsearch.proofs.RunLemmas.{joined_asks}
 use Rattle.boxsearch.proofs.TakingTurns.{OrderLaws, joined, taking_none}
 use Rattle.boxsearch.proofs.joining.join.Given as given
 use Rattle.boxsearch.proofs.joining.join.Goals as goal
@@ -31,18 +23,3 @@ returns-then-not-has_place-clause-taking g c =
     let old = c.args.index.now in
     let mid : c.make_place.new.self ≡ made old c.args.feature = from_ok c.make_place.result (sym c.is_err.ensures.value ∙ c.if-is_err.false) c.make_place.ensures.ok in
     taking_none old c.make_place.new.self c.spend-then-not-has_place.new.self c.args.legs.now c.spend-then-not-has_place.ensures (ap (λ (i : IndexView). i.cache) mid)
-
-pub returns-clause-asks : goal.returns-clause-asks
-returns-clause-asks g c =
-    subst (λ r. OnOk r (RunsAsk c.args.index.now c.put_all.new.self 1)) (sym c.answer.ensures) (joined_asks c.args.index.now c.put_all.new.self c.args.feature c.args.legs.now c.put_all.result (has_put g c))
-
-pub returns-clause-takes : goal.returns-clause-takes
-returns-clause-takes g c =
-    let takes = run_takes c.args.index.now c.put_all.new.self c.args.feature c.args.legs.now c.requires.some c.requires.one c.put_all.result (has_put g c) in
-    subst (λ r. OnOk r (HasAdded words c.args.index.now c.put_all.new.self c.args.legs.now)) (sym c.answer.ensures) takes
-
-pub returns-clause-fits : goal.returns-clause-fits
-returns-clause-fits g c =
-    let old = c.args.index.now in
-    let legs = c.args.legs.now in
-    subst (λ r. OnOk r (IsTrue old.cache.store.is_faithful → (leg : LegView) → Contains legs leg → FitsLeg words old legs leg)) (sym c.answer.ensures) (joined_fits old c.put_all.new.self c.args.feature legs c.requires.one c.requires.works c.put_all.result (has_put g c))

@@ -1,14 +1,11 @@
-use Rattle.std.proofs.Common.{◌≡◌, ◌∙◌, ◌+◌, ◌++◌, ◌∷◌, [], List, All, drop, length, subst, ap, arith, sym, refl}
+use Rattle.std.proofs.Common.{◌≡◌, ◌∙◌, ◌+◌, ◌++◌, ◌∷◌, [], List, All, drop, length, subst, ap, arith, sym}
 use Rattle.std.proofs.lemmas.List.{length_push}
 use Rattle.std.proofs.lemmas.List.Elements.{All-nil, All-push}
 use Rattle.legs.specs.Legs.{LegView}
-use Rattle.boxsearch.specs.Runs.{numbered_legs, runs_in}
 use Rattle.boxsearch.specs.Taking.{taken}
 use Rattle.boxsearch.specs.declared.turns.Turn.{Turn}
-use Rattle.boxsearch.proofs.RunLemmas.{runs_first, runs_same, runs_other, runs_none, taken_more}
-use Rattle.boxsearch.proofs.TakingTurns.{taken_next}
+use Rattle.boxsearch.proofs.TakingTurns.{taken_more, taken_next}
 use Rattle.boxsearch.proofs.joining.next_run.Goals as goal
-use Rattle.boxsearch.proofs.joining.next_run.Goals.{then-turns-n-via-then-turns-n, then-turns-n-via-else-turns-n+then-leg-feature}
 
 pub turns-init : goal.turns-init
 turns-init c =
@@ -24,26 +21,7 @@ turns-init c =
       many = ap length items;
       taken = taken_next legs turns 0 turn leg c.requires.some c.requires.within c.index-legs-turns.is ∙ ap (λ (l : List LegView). l ++ taken legs (drop 1 turns)) (sym items);
       one = subst (λ (l : List LegView). All (λ leg. leg.feature ≡ c.first.inside.feature) l) (sym items) (All-push (λ (leg : LegView). leg.feature ≡ c.first.inside.feature) [] leg (All-nil (λ (leg : LegView). leg.feature ≡ c.first.inside.feature)) (sym feature));
-      whole = runs_first legs turns turn leg _ c.first.inside.feature c.requires.some c.requires.within c.index-legs-turns.is refl feature;
     }
-
-pub returns-clause-whole : goal.returns-clause-whole
-returns-clause-whole c =
-    let many = c.turns.invariant.many in
-    let off = c.turns-test.false in
-    c.turns.invariant.whole ∙ ap (λ n. 1 + n) (runs_none c.args.legs.now c.args.turns.now c.turns.n _ _ (omega (arith, off)))
-    ∙ ap (λ n. 1 + runs_in (numbered_legs c.args.legs.now (drop n c.args.turns.now))) (sym many)
-
-pub returns-then-turns-n-clause-whole : goal.returns-then-turns-n-clause-whole
-returns-then-turns-n-clause-whole c =
-    let turn : Turn = record { leaf = 0; place = 0 } in
-    let legs = c.args.legs.now in
-    let turns = c.args.turns.now in
-    let leg = c.index-legs-turns-in-turns.result in
-    let feature = ap (λ (l : LegView). l.feature) c.leg.view_is in
-    c.turns.invariant.whole
-    ∙ ap (λ n. 1 + n) (runs_other legs turns c.turns.n turn leg _ _ c.turns-test.true c.requires.within c.index-legs-turns-in-turns.is (elim c.then-turns-n.branch [ then-turns-n-via-then-turns-n w ↦ λ e. absurd (w.if-turns-n.true e) | then-turns-n-via-else-turns-n+then-leg-feature w ↦ λ e f. w.if-leg-feature.true (feature ∙ f) ]))
-    ∙ ap (λ n. 1 + runs_in (numbered_legs legs (drop n turns))) (sym c.turns.invariant.many)
 
 pub turns-preserved : goal.turns-preserved
 turns-preserved c =
@@ -61,5 +39,4 @@ turns-preserved c =
       many = ap length items ∙ length_push c.turns.run.items leg ∙ ap (λ n. n + 1) c.turns.invariant.many;
       taken = taken_more legs turns k turn leg c.turns.run.items c.turns-test.true c.requires.within c.index-legs-turns-in-turns.is c.turns.invariant.taken ∙ ap (λ (l : List LegView). l ++ taken legs (drop (k + 1) turns)) (sym items);
       one = subst (λ (l : List LegView). All (λ leg. leg.feature ≡ c.first.inside.feature) l) (sym items) (All-push (λ (leg : LegView). leg.feature ≡ c.first.inside.feature) c.turns.run.items leg c.turns.invariant.one own);
-      whole = c.turns.invariant.whole ∙ ap (λ n. 1 + n) (runs_same legs turns k turn leg _ _ c.turns-test.true c.requires.within c.index-legs-turns-in-turns.is c.if-turns-n.false own);
     }

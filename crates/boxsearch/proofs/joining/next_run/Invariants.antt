@@ -1,5 +1,4 @@
-use Rattle.std.proofs.Common.{◌≡◌, ◌≤◌, ◌<◌, ◌+◌, ◌-◌, ◌++◌, All, drop, length}
-use Rattle.boxsearch.specs.Runs.{numbered_legs, runs_in, runs_past}
+use Rattle.std.proofs.Common.{◌≡◌, ◌≤◌, ◌<◌, ◌-◌, ◌++◌, All, drop, length}
 use Rattle.boxsearch.specs.Taking.{taken}
 use Rattle.boxsearch.proofs.joining.next_run.Given as goal
 
@@ -14,5 +13,4 @@ invariant-turns l = record {
   many : length l.run.items ≡ l.n;
   taken : taken l.legs l.turns ≡ l.run.items ++ taken l.legs (drop l.n l.turns);
   one : All (λ leg. leg.feature ≡ l.feature) l.run.items;
-  whole : runs_in (numbered_legs l.legs l.turns) ≡ 1 + runs_past l.leaf l.feature (numbered_legs l.legs (drop l.n l.turns));
 }

@@ -3,10 +3,9 @@ use Rattle.std.specs.Result.{is_ok}
 use Rattle.std.proofs.lemmas.Bool.{true≢false}
 use Rattle.pagecache.specs.Cache.{is_changed, Rests, IsRefused}
 use Rattle.header.specs.Front.{IsUnfinished}
-use Rattle.boxsearch.proofs.PlaceLemmas.{some_none, some_same}
-use Rattle.boxsearch.proofs.MarkLemmas.{already_marked, first_marked, first_rests, rests_marks, marks_trans, flushed_marks, is_marked, others_written, was_marked}
+use Rattle.boxsearch.proofs.MarkLemmas.{already_marked, rests_marks, marks_trans, flushed_marks, is_marked, others_written, was_marked}
 use Rattle.header.proofs.FrontLemmas.{marked_is}
-use Rattle.boxsearch.proofs.ResultLemmas.{on_any, on_ok, on_fault, the_error}
+use Rattle.boxsearch.proofs.ResultLemmas.{on_ok, on_fault, the_error}
 use Rattle.boxsearch.proofs.marking.mark_page.Goals.{else-is_unfinished-via-then-is_unfinished+else-not-is_changed, else-is_unfinished-via-else-is_unfinished}
 use Rattle.boxsearch.proofs.marking.mark_page.Given as given
 use Rattle.boxsearch.proofs.marking.mark_page.Goals as goal
@@ -48,23 +47,6 @@ returns-clause-others g c =
     others_written c.args.cache.now c.page.follows.lender-at-none (c.page_mut.follows.lender c.set_unfinished.new.payload) c.flush.new.self c.in_ok-page.field-0.now c.set_unfinished.new.payload c.page.follows.holds-at-none.0 c.in_ok-page.ensures.value (not_marked g c)
     (c.page_mut.follows.holds c.set_unfinished.new.payload (ap is_ok c.in_ok-page_mut.was)) c.flush.ensures.stays c.flush.ensures.length c.flush.ensures.asked f clean)
 
-pub returns-then-not-is_changed-clause-header : goal.returns-then-not-is_changed-clause-header
-returns-then-not-is_changed-clause-header g c = first_rests _ _ c.in_ok-page.field-0.now c.page.follows.holds-at-none.0 c.in_ok-page.ensures.value (c.is_unfinished.ensures.0 c.if-is_unfinished.true)
-
-pub returns-clause-header : goal.returns-clause-header
-returns-clause-header g c =
-    on_any c.flush.result
-    (first_marked c.args.cache.now c.page.follows.lender-at-none (c.page_mut.follows.lender c.set_unfinished.new.payload) c.flush.new.self c.in_ok-page.field-0.now c.set_unfinished.new.payload c.page.follows.holds-at-none.0 c.in_ok-page.ensures.value (not_marked g c)
-    (c.page_mut.follows.holds c.set_unfinished.new.payload (ap is_ok c.in_ok-page_mut.was)) c.flush.ensures.stays c.flush.ensures.length c.flush.ensures.asked c.in_ok-page_mut.field-0.now c.in_ok-page_mut.ensures.value c.set_unfinished.ensures)
-
-pub returns-then-not-is_changed-clause-synced : goal.returns-then-not-is_changed-clause-synced
-returns-then-not-is_changed-clause-synced g c = λ f p at not_marked.
-    let page = c.in_ok-page.field-0.now in
-    absurd (not_marked (subst (λ q. IsUnfinished q) (some_same page p (sym (c.in_ok-page.ensures.value f) ∙ at)) (c.is_unfinished.ensures.0 c.if-is_unfinished.true)))
-
-pub returns-clause-synced : goal.returns-clause-synced
-returns-clause-synced g c = on_ok c.flush.result (λ synced f p at not_marked. synced) c.flush.ensures.synced
-
 pub returns-then-not-is_changed-clause-marked : goal.returns-then-not-is_changed-clause-marked
 returns-then-not-is_changed-clause-marked g c = λ f.
     already_marked _ _ c.in_ok-page.field-0.now c.page.follows.holds-at-none.0 c.in_ok-page.ensures.value (c.is_unfinished.ensures.0 c.if-is_unfinished.true) f c.in_ok-page.ensures.below (c.page.follows.holds-at-none.0.stays.changed 0 (sym c.is_changed-is_changed.ensures ∙ c.if-not-is_changed.true))
@@ -75,9 +57,3 @@ returns-then-not-is_changed-clause-unmarked g c = λ f not_marked.
 
 pub returns-clause-unmarked : goal.returns-clause-unmarked
 returns-clause-unmarked g c = on_ok c.flush.result (λ synced f not_marked. synced) c.flush.ensures.synced
-
-pub returns-then-not-is_changed-clause-there : goal.returns-then-not-is_changed-clause-there
-returns-then-not-is_changed-clause-there g c = λ f none. some_none _ (sym (c.in_ok-page.ensures.value f) ∙ none)
-
-pub returns-clause-there : goal.returns-clause-there
-returns-clause-there g c = on_any c.flush.result (λ f none. some_none _ (sym (c.in_ok-page.ensures.value f) ∙ none))

@@ -1,9 +1,6 @@
 use Rattle.boxsearch.proofs.StartLemmas.{beside_content, beside_sound}
 use Rattle.boxsearch.proofs.BoundLemmas.{TreeBounds, alike, all_counted, bounded, first_held, first_there, place_counts}
-use Rattle.boxsearch.proofs.EndedLemmas.{ended}
 use Rattle.boxsearch.proofs.FlushLemmas.{in_turn, marked_of}
-use Rattle.boxsearch.proofs.IndexLemmas.{found_in}
-use Rattle.boxsearch.proofs.LedLemmas.{box_led}
 use Rattle.boxsearch.proofs.parts.laws.Goals as goal
 
 -- how large the trees are that are cited here
@@ -39,12 +36,3 @@ returns-clause-in_turn c = in_turn
 
 pub returns-clause-marked : goal.returns-clause-marked
 returns-clause-marked c = marked_of
-
-pub returns-clause-found : goal.returns-clause-found
-returns-clause-found c = found_in c.laws.ensures.found
-
-pub returns-clause-ended : goal.returns-clause-ended
-returns-clause-ended c = ended
-
-pub returns-clause-led : goal.returns-clause-led
-returns-clause-led c = box_led

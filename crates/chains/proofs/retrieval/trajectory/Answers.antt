@@ -6,7 +6,6 @@ use Rattle.std.proofs.lemmas.Result.{err_from_is_err_and}
 use Rattle.tbtree.specs.Nodes.{pages_of_cache}
 use Rattle.chains.proofs.FaultLemmas.{allowed_of, whole_from, whole_to}
 use Rattle.chains.proofs.PlaceLemmas.{whole_chain, whole_walk, whole_cost, walked_all}
-use Rattle.chains.proofs.ReachLemmas.{reach_any}
 use Rattle.chains.proofs.SpanLemmas.{cost_whole}
 use Rattle.chains.proofs.retrieval.trajectory.Goals as goal
 
@@ -56,15 +55,3 @@ returns-in_err-found-clause-only g c = λ fa h.
 
 pub returns-clause-chain : goal.returns-clause-chain
 returns-clause-chain g c = λ fa. whole_to (pages_of_cache c.args.cache.now) None c.args.shape.now c.args.feature c.args.place.now (c.in_ok-found.ensures.whole fa)
-
-pub returns-clause-walked : goal.returns-clause-walked
-returns-clause-walked g c = λ fa below.
-    let place = c.args.place.now in
-    let each = cost_whole (pages_of_cache c.args.cache.now) c.args.spans.now.items (div_ceil place.legs c.args.shape.now.leaf) place.last in
-    let asked = c.in_ok-found.ensures.asked fa below in
-    omega (arith, asked, each)
-
-pub returns-clause-recalls : goal.returns-clause-recalls
-returns-clause-recalls g c = λ fa period.
-    let place = c.args.place.now in
-    reach_any (pages_of_cache c.args.cache.now) period c.walk_back.new.spans.items (div_ceil place.legs c.args.shape.now.leaf) place.last (c.in_ok-found.ensures.recalls fa)

@@ -4,14 +4,10 @@ use Rattle.std.proofs.lemmas.List.{reverse-reverse}
 use Rattle.std.proofs.lemmas.Result.{err_from_is_err_and}
 use Rattle.legs.specs.Index.{live_legs_of}
 use Rattle.tbtree.specs.Nodes.{pages_of_cache}
-use Rattle.chains.specs.Chains.{last_link}
 use Rattle.chains.proofs.PeriodLemmas.{live_walk, few_walked}
 use Rattle.chains.proofs.FaultLemmas.{allowed_of, whole_from, whole_to}
 use Rattle.chains.proofs.PlaceLemmas.{whole_chain}
-use Rattle.std.specs.Int.{div_ceil}
-use Rattle.chains.proofs.ReachLemmas.{few_met, reach_later}
 use Rattle.chains.proofs.SieveLemmas.{sieved_by}
-use Rattle.chains.proofs.SpanLemmas.{known_few}
 use Rattle.chains.proofs.retrieval.trajectory_in.Goals as goal
 
 pub returns-in_err-found-clause-found : goal.returns-in_err-found-clause-found
@@ -61,27 +57,3 @@ returns-in_err-found-clause-only g c = λ fa h.
 
 pub returns-clause-chain : goal.returns-clause-chain
 returns-clause-chain g c = λ fa. whole_to (pages_of_cache c.args.cache.now) (Some c.args.period.now) c.args.shape.now c.args.feature c.args.place.now (c.in_ok-found.ensures.whole fa)
-
-pub returns-clause-known : goal.returns-clause-known
-returns-clause-known g c = λ fa back.
-    let shape = c.args.shape.now in
-    let place = c.args.place.now in
-    let few = known_few (pages_of_cache c.args.cache.now) c.args.period.now shape.leaf place.legs place.first c.args.spans.now.items (div_ceil place.legs shape.leaf) (last_link c.args.feature place) c.start.ensures.ordered (c.requires.known fa) back in
-    let asked = c.in_ok-found.ensures.few fa in
-    omega (arith, asked, few)
-
-pub returns-clause-met : goal.returns-clause-met
-returns-clause-met g c = λ fa legs h back.
-    let nodes = pages_of_cache c.args.cache.now in
-    let shape = c.args.shape.now in
-    let place = c.args.place.now in
-    let some : 0 < shape.leaf = let least = c.walk_back.ensures.shape.least_leaf in omega (arith, least) in
-    let few = known_few nodes c.args.period.now shape.leaf place.legs place.first c.args.spans.now.items (div_ceil place.legs shape.leaf) (last_link c.args.feature place) c.start.ensures.ordered (c.requires.known fa) back in
-    let met = few_met nodes shape place c.args.feature legs some h c.args.period.now c.args.spans.now.items (c.requires.known fa) in
-    let asked = c.in_ok-found.ensures.few fa in
-    omega (arith, asked, few, met)
-
-pub returns-clause-recalls : goal.returns-clause-recalls
-returns-clause-recalls g c = λ fa later h.
-    let place = c.args.place.now in
-    reach_later (pages_of_cache c.args.cache.now) c.args.period.now later c.walk_back.new.spans.items (div_ceil place.legs c.args.shape.now.leaf) place.last h (c.in_ok-found.ensures.recalls fa)

@@ -4,8 +4,7 @@ use Rattle.tbtree.specs.Nodes.{Pages, pages_of_cache}
 use Rattle.std.specs.Int.{div_ceil}
 use Rattle.chains.specs.Chains.{fault_from, last_link, walk, walked}
 use Rattle.chains.specs.Spans.{AreSpans, AsksAs, IsKnown, pass_at, walked_by}
-use Rattle.chains.proofs.SpanLemmas.{IsOnWay, all_known, asks_last, asks_on, cost_none, few_last, few_on, past_read, rest_same, spans_last}
-use Rattle.chains.proofs.ReachLemmas.{front_then, reached_all, reached_end, reached_on}
+use Rattle.chains.proofs.SpanLemmas.{IsOnWay, all_known, asks_last, asks_on, cost_none, past_read, rest_same, spans_last}
 use Rattle.chains.proofs.WalkLemmas.{linked_by}
 use Rattle.chains.specs.Links.{fits, is_end, link_back, spot_of}
 use Rattle.chains.specs.Taking.{fault_at, TakesPage}
@@ -114,13 +113,6 @@ leaves-preserved g c =
           let so_far = inv.asked fa more.0 in
           let same = walked_same g at fa c.in-Some.back c.in-Some.is in
           omega (arith, more.1, so_far, same);
-      some = λ fa.
-          let t = taken g at fa in
-          let s = on g at fa c.in-Some.back c.in-Some.is in
-          let more = few_on nodes period c.leaves.passed c.leaves.spans.items rest n link.page less t.leaf t.is c.leaves.cache c.step.new.cache c.in-Some.back (asks g at (Some c.in-Some.back) c.in-Some.is) s.0 in
-          let so_far = inv.some fa in
-          let same = walked_same g at fa c.in-Some.back c.in-Some.is in
-          omega (arith, more, so_far, same);
       within = λ fa.
           let t = taken g at fa in
           let s = on g at fa c.in-Some.back c.in-Some.is in
@@ -128,13 +120,7 @@ leaves-preserved g c =
           let more = asked_on nodes period link t.leaf t.is rest n less s.0 in
           let same = ap (λ b. walked nodes period rest b.page) s.1 in
           omega (arith, c.step.ensures.most, so_far, more, same);
-      keeps = front_then c.args.spans.now.items c.leaves.spans.items c.step.new.spans.items inv.keeps c.step.ensures.keeps;
-      reached = λ fa.
-          let t = taken g at fa in
-          let s = on g at fa c.in-Some.back c.in-Some.is in
-          rw (next, s.1) (reached_on nodes period blocks place.last c.leaves.passed link.page c.leaves.spans.items c.step.new.spans.items n rest link.page t.leaf (inv.way fa).within t.learns less t.is (inv.reached fa));
       passed = omega (arith, inv.passed, less);
-      few = omega (arith, c.step.ensures.most, inv.few, less);
     }
 
 pub returns-in_err-back-clause-named : goal.returns-in_err-back-clause-named
@@ -177,15 +163,6 @@ returns-in_default-clause-asked g c = λ fa below.
     let so_far = c.leaves.invariant.asked fa end.0 in
     omega (arith, end.1, so_far)
 
-pub returns-in_default-clause-few : goal.returns-in_default-clause-few
-returns-in_default-clause-few g c = λ fa.
-    let at = (goal.at.returns-in_default-clause-few g c).In_ok-back in
-    let t = taken g at fa in
-    let end = few_last (pages_of_cache c.args.cache.now) c.args.want.now.period c.leaves.passed c.leaves.spans.items (c.leaves.left - 1) c.leaves.left c.leaves.link.page (less g at) t.leaf t.is c.leaves.cache c.step.new.cache
-    (asks g at None c.in_default.is) (last g at fa c.in_default.is) in
-    let so_far = c.leaves.invariant.some fa in
-    omega (arith, end, so_far)
-
 pub returns-in_default-clause-learns : goal.returns-in_default-clause-learns
 returns-in_default-clause-learns g c = λ fa.
     let at = (goal.at.returns-in_default-clause-learns g c).In_ok-back in
@@ -225,21 +202,6 @@ step-requires-clause-known g c = λ fa.
 pub returns-clause-found : goal.returns-clause-found
 returns-clause-found g c = λ fa.
     found_all (pages_of_cache c.args.cache.now) c.args.want.now.period c.args.want.now.sieve c.leaves.left c.leaves.link.page _ c.leaves.found.items (omega (arith, c.leaves-test.false)) (c.leaves.invariant.found fa)
-
-pub returns-in_default-clause-recalls : goal.returns-in_default-clause-recalls
-returns-in_default-clause-recalls g c = λ fa.
-    let at = (goal.at.returns-in_default-clause-recalls g c).In_ok-back in
-    let place = c.args.place.now in
-    let link = c.leaves.link in
-    let inv = c.leaves.invariant in
-    let t = taken g at fa in
-    reached_end (pages_of_cache c.args.cache.now) c.args.want.now.period (div_ceil place.legs c.args.shape.now.leaf) place.last c.leaves.passed link.page c.leaves.spans.items c.step.new.spans.items c.leaves.left (c.leaves.left - 1) link.page t.leaf (inv.way fa).within t.learns (less g at) t.is (inv.reached fa) (last g at fa c.in_default.is)
-
-pub returns-clause-recalls : goal.returns-clause-recalls
-returns-clause-recalls g c = λ fa.
-    let place = c.args.place.now in
-    let none : c.leaves.left ≡ 0 = omega (arith, c.leaves-test.false) in
-    reached_all (pages_of_cache c.args.cache.now) c.args.want.now.period (div_ceil place.legs c.args.shape.now.leaf) place.last c.leaves.passed c.leaves.spans.items c.leaves.left c.leaves.link.page none (c.leaves.invariant.reached fa)
 
 pub returns-in_err-back-clause-learns : goal.returns-in_err-back-clause-learns
 returns-in_err-back-clause-learns g c = λ fa.

@@ -4,8 +4,7 @@ use Rattle.std.specs.Int.{div_ceil}
 use Rattle.tbtree.specs.Nodes.{pages_of_cache}
 use Rattle.chains.specs.Chains.{chain_fault, fault_from, last_link, walk, walked}
 use Rattle.chains.specs.Reads.{OnlyReads}
-use Rattle.chains.specs.Spans.{IsFront, walked_by}
-use Rattle.chains.proofs.ReachLemmas.{IsReached}
+use Rattle.chains.specs.Spans.{walked_by}
 use Rattle.chains.proofs.SpanLemmas.{IsOnWay}
 use Rattle.chains.proofs.StepLemmas.{IsFound}
 use Rattle.chains.proofs.retrieval.walk_back.Given as goal
@@ -27,10 +26,6 @@ invariant-leaves g l =
       fault : IsTrue old.store.is_faithful → fault_from nodes l.fn.want.period l.fn.shape.leaf place.legs place.first l.left l.link ≡ chain_fault nodes l.fn.want.period l.fn.shape l.fn.feature place;
       asked : IsTrue old.store.is_faithful → l.cache.asked < 2 ^ 64 - 1
           → l.cache.asked + walked_by nodes l.fn.want.period (drop l.passed l.spans.items) l.left l.link.page ≡ old.asked + walked_by nodes l.fn.want.period l.fn.spans.items blocks place.last;
-      some : IsTrue old.store.is_faithful → l.cache.asked + walked_by nodes l.fn.want.period (drop l.passed l.spans.items) l.left l.link.page ≤ old.asked + walked_by nodes l.fn.want.period l.fn.spans.items blocks place.last;
       within : IsTrue old.store.is_faithful → l.cache.asked + walked nodes l.fn.want.period l.left l.link.page ≤ old.asked + walked nodes l.fn.want.period blocks place.last;
-      keeps : IsFront l.fn.spans.items l.spans.items;
-      reached : IsTrue old.store.is_faithful → IsReached nodes l.fn.want.period blocks place.last l.passed l.spans.items l.left l.link.page;
       passed : l.passed + l.left ≡ blocks;
-      few : l.cache.asked + l.left ≤ old.asked + blocks;
     }

@@ -1,4 +1,4 @@
-use Rattle.std.proofs.Common.{◌≡◌, ◌∙◌, inl, inr, refl, sym, subst, IsTrue, Ok, arith}
+use Rattle.std.proofs.Common.{◌≡◌, inl, refl, sym, subst, IsTrue}
 use Rattle.std.specs.Prelude.{IfSome, OnOk}
 use Rattle.legs.specs.Book.{Book}
 use Rattle.legs.specs.Costs.{ShapeView}
@@ -9,7 +9,7 @@ use Rattle.trajdb.specs.Lasting.{IsIdle}
 use Rattle.trajdb.specs.Script.{lines_of}
 use Rattle.sessions.specs.Answers.{SendsFront}
 use Rattle.sessions.specs.Folder.{BeginsWith, History, IsRefusedBeside, NameIsKept, RunsBeside, store_in}
-use Rattle.sessions.proofs.FolderLemmas.{begun_with, beside, each, front_answered, front_none, front_opened, if_refused, made_empty, on_both, only_if, over_ended, over_opened, over_unsent, refused_by_folder, refused_done, refused_run, some_only, tells, under, under_err}
+use Rattle.sessions.proofs.FolderLemmas.{begun_with, beside, each, front_answered, front_none, front_opened, if_refused, made_empty, only_if, over_ended, over_opened, over_unsent, refused_done, refused_run, some_only, tells, under, under_err}
 use Rattle.sessions.proofs.beside.run_on_copy.Goals as goal
 
 pub returns-in-Ok-answered-clause-runs : goal.returns-in-Ok-answered-clause-runs
@@ -113,44 +113,3 @@ returns-in-Ok-answered-clause-refused g c =
     refused_done c.args.files.now sent sent' lines last opened c.answer-store.result.1 shape limits book fault c.in-Ok-answered.is
     pages idle (over_opened g.F.Store.PageStore.seen g.O.Output.seen c.args.files.now c.args.out.now c.answer-store.new.out (lines_of c.args.script.now) (g.F.Store.PageStore.seen c.answer-store.result.0) c.answer-store.result.1 c.answer-store.result.2 c.database-database.result c.answer-store.ensures.over) c.answer-store.ensures.runs
     (begun_with opened first (store_in past) same c.args.how.is_new shape limits book faithful (made_empty g.F.Store.PageStore.seen c.args.how.is_new c.args.how.cache_pages c.database-database.result (g.F.Store.PageStore.seen c.in-Ok.store) c.database-database.ensures.opens) c.database-database.ensures.kept h))
-
-pub returns-in-Err-clause-over : goal.returns-in-Err-clause-over
-returns-in-Err-clause-over g c =
-    let early = c.in-Err.ensures.cause in
-    let late = c.discard.ensures.refuses_none in
-    inl ((cc, (c.in-Err.ensures.named, omega (arith, early, late), c.discard.ensures.last_fault ∙ c.in-Err.ensures.last_fault)), refl)
-
-pub returns-in-Err-answered-clause-over : goal.returns-in-Err-answered-clause-over
-returns-in-Err-answered-clause-over g c = inr (record {
-  copy = g.F.Store.PageStore.seen c.in-Ok.store;
-  copies = c.in-Ok.ensures.copies;
-  opened = c.database-database.result;
-  opens = c.database-database.ensures.opens;
-  answered = c.answer-store.result.1;
-  closed = c.answer-store.result.2;
-  store = g.F.Store.PageStore.seen c.answer-store.result.0;
-  run = c.answer-store.ensures.over;
-  kept = tt;
-  refused = inl c.in-Err-answered.is;
-})
-
-pub returns-in-Ok-answered-clause-over : goal.returns-in-Ok-answered-clause-over
-returns-in-Ok-answered-clause-over g c =
-    let last = g.F.Store.PageStore.seen c.answer-store.result.0 in
-    let was = g.F.Folder.held c.args.folder.now in
-    let is = g.F.Folder.held c.keep.new.folder in
-    let answered = c.answer-store.result.1 in
-    let kept = subst (λ h. OnOk c.keep.result (NameIsKept last h is)) c.copy.ensures.stays c.keep.ensures.kept in
-    inr (record {
-      copy = g.F.Store.PageStore.seen c.in-Ok.store;
-      copies = c.in-Ok.ensures.copies;
-      opened = c.database-database.result;
-      opens = c.database-database.ensures.opens;
-      answered = answered;
-      closed = c.answer-store.result.2;
-      store = last;
-      run = c.answer-store.ensures.over;
-      kept = on_both (answered ≡ Ok tt) (NameIsKept last was is) c.keep.result c.in-Ok-answered.is kept;
-      refused = refused_by_folder (g.F.Folder.refusals c.args.folder.now) (g.F.Folder.refusals c.copy.new.self) (g.F.Folder.refusals c.keep.new.folder) (g.F.Folder.last_fault c.keep.new.folder) answered c.keep.result
-          c.in-Ok.ensures.later c.in-Ok-answered.is c.keep.ensures.named;
-    })

@@ -6,7 +6,7 @@ use Rattle.trajdb.specs.Db.{HasPages, IsSoundDb}
 use Rattle.trajdb.specs.Calls.{IsLoadFault}
 use Rattle.trajdb.specs.Lasting.{IsClosingFault, IsIdle}
 use Rattle.sessions.proofs.AnswerLemmas.{checks, err_of, keeps, not_refused}
-use Rattle.sessions.proofs.CheckLemmas.{check_fault, close_fault, left_book, no_page, of_load}
+use Rattle.sessions.proofs.CheckLemmas.{check_fault, close_fault, left_book, of_load}
 use Rattle.sessions.proofs.WrittenLemmas.{checked_stays}
 use Rattle.sessions.proofs.checking.check_and_close.Goals as goal
 
@@ -40,16 +40,6 @@ returns-in-Err-closed-clause-only g c = λ sound pages idle unbegun lives.
 
 pub returns-in-Err-clause-only : goal.returns-in-Err-clause-only
 returns-in-Err-clause-only g c = λ sound pages idle unbegun lives. c.in-Err.ensures.call.only sound pages idle lives
-
-pub returns-in-Err-closed-clause-named : goal.returns-in-Err-closed-clause-named
-returns-in-Err-closed-clause-named g c = λ faithful page is.
-    let e = c.in-Ok.ensures.call in
-    let new = c.check-checked.new.self in
-    let only = err_of (λ f. IsSoundDb new → new.failed ≡ false → IsLoadFault f) c.close-store.result.1 c.in-Err-closed.fault c.in-Err-closed.is c.close-store.ensures.only in
-    no_page _ c.in-Err-closed.fault page (only (e.sound faithful) e.lives) is
-
-pub returns-in-Err-clause-named : goal.returns-in-Err-clause-named
-returns-in-Err-clause-named g c = λ faithful page is. c.in-Err.ensures.call.named faithful page is
 
 pub returns-in-Err-closed-clause-stops : goal.returns-in-Err-closed-clause-stops
 returns-in-Err-closed-clause-stops g c = λ sound pages idle lives.

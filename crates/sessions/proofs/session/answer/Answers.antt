@@ -1,4 +1,4 @@
-use Rattle.std.proofs.Common.{◌≡◌, false, sym, subst, IsTrue}
+use Rattle.std.proofs.Common.{◌≡◌, false, sym, subst}
 use Rattle.std.specs.Prelude.{IfOk, IsErrOf, OnErr, OnOk}
 use Rattle.pages.specs.Store.{Faulted, IsSynced}
 use Rattle.trajdb.specs.Db.{DbView, HasPages, IsSoundDb}
@@ -6,10 +6,9 @@ use Rattle.trajdb.specs.Lasting.{IsIdle}
 use Rattle.trajdb.specs.Script.{lines_of}
 use Rattle.trajdb.specs.declared.RunFault.TheVariants as run
 use Rattle.sessions.specs.declared.fault.Fault.TheVariants.{Run}
-use Rattle.sessions.specs.Answers.{Answers, HasWritten, NoneBegins, OnlyAsks, RunBegins, RunsOver, SendsFront}
+use Rattle.sessions.specs.Answers.{Answers, RunBegins, RunsOver, SendsFront}
 use Rattle.sessions.proofs.AnswerLemmas.{on_error}
 use Rattle.sessions.proofs.LeftLemmas.{on_said, said_of}
-use Rattle.sessions.proofs.WrittenLemmas.{on_said_run}
 use Rattle.sessions.proofs.session.answer.Goals as goal
 
 pub returns-in-Ok-clause-runs : goal.returns-in-Ok-clause-runs
@@ -51,19 +50,3 @@ returns-in-Ok-clause-synced g c =
     let lines = lines_of c.args.script.now in
     subst (λ k. OnOk c.answer_of.result (IfOk k (λ (d : DbView). RunBegins d c.args.files.now lines → IsSynced s))) (sym c.in-Ok.is)
     (on_said (RunBegins c.in-Ok.database c.args.files.now lines → IsSynced s) r.1 r.2 c.answer_of.result c.answer_of.ensures c.run_and_close-store.ensures.synced)
-
-pub returns-in-Ok-clause-stays : goal.returns-in-Ok-clause-stays
-returns-in-Ok-clause-stays g c =
-    let r = c.run_and_close-store.result in
-    let s = g.S.PageStore.seen r.0 in
-    let lines = lines_of c.args.script.now in
-    let db = c.in-Ok.database in
-    subst (λ k. OnOk c.answer_of.result (IfOk k (λ (d : DbView). IsTrue d.index.cache.store.is_faithful → IsIdle d → d.begun ≡ false → NoneBegins d c.args.files.now lines → HasWritten d s))) (sym c.in-Ok.is)
-    (on_said_run (IsTrue db.index.cache.store.is_faithful → IsIdle db → db.begun ≡ false → NoneBegins db c.args.files.now lines → HasWritten db s) r.1 r.2 c.answer_of.result c.answer_of.ensures c.run_and_close-store.ensures.stays)
-
-pub returns-in-Ok-clause-asked : goal.returns-in-Ok-clause-asked
-returns-in-Ok-clause-asked g c =
-    let s = g.S.PageStore.seen c.run_and_close-store.result.0 in
-    let lines = lines_of c.args.script.now in
-    subst (λ k. IfOk k (λ (d : DbView). IsTrue d.index.cache.store.is_faithful → IsIdle d → d.begun ≡ false → d.failed ≡ false → OnlyAsks c.args.files.now lines → HasWritten d s)) (sym c.in-Ok.is)
-    c.run_and_close-store.ensures.asked

@@ -1,6 +1,6 @@
 use Rattle.trajdb.specs.Script.{lines_of}
 use Rattle.sessions.proofs.LeftLemmas.{answered_both, closing_full, ended, said_to_fail, sends_front}
-use Rattle.sessions.proofs.WrittenLemmas.{asked_stays, closed_lasts, ran_stays, synced_both}
+use Rattle.sessions.proofs.WrittenLemmas.{closed_lasts, synced_both}
 use Rattle.sessions.proofs.session.run_and_close.Goals as goal
 
 pub returns-clause-runs : goal.returns-clause-runs
@@ -43,15 +43,3 @@ pub returns-clause-synced : goal.returns-clause-synced
 returns-clause-synced g c =
     let e = c.run-ran.ensures.call in
     synced_both c.args.database c.run-ran.new.self (g.S.PageStore.seen c.close-store.result.0) c.args.files.now (lines_of c.args.script.now) c.run-ran.result c.close-store.result.1 e.begins e.pages.begun c.close-store.ensures.synced
-
-pub returns-clause-stays : goal.returns-clause-stays
-returns-clause-stays g c =
-    let e = c.run-ran.ensures.call in
-    let d = c.close-store.ensures in
-    ran_stays c.args.database c.run-ran.new.self (g.S.PageStore.seen c.close-store.result.0) c.args.files.now (lines_of c.args.script.now) c.run-ran.result e.lives e.only e.whole e.pages (λ l b. (d.idle l b).1)
-
-pub returns-clause-asked : goal.returns-clause-asked
-returns-clause-asked g c =
-    let e = c.run-ran.ensures.call in
-    let d = c.close-store.ensures in
-    asked_stays c.args.database c.run-ran.new.self (g.S.PageStore.seen c.close-store.result.0) c.args.files.now (lines_of c.args.script.now) c.run-ran.result e.lives e.cut_lives e.stops e.whole e.pages (λ l b. (d.idle l b).1)

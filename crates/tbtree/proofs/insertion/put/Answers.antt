@@ -1,10 +1,9 @@
-use Rattle.std.proofs.Common.{◌≡◌, ◌∙◌, ◌<◌, ◌≤◌, ◌-◌, ◌^◌, arith, length, refl, ⊎_elim}
+use Rattle.std.proofs.Common.{◌≡◌, ◌∙◌, ◌<◌, ◌≤◌, ◌-◌, ◌^◌, arith, length, ⊎_elim}
 use Rattle.std.proofs.lemmas.Bool.{cases_lt}
 use Rattle.tbtree.specs.declared.fault.TreeFault.TheVariants.{Malformed}
-use Rattle.tbtree.specs.Needs.{HasNumbers}
 use Rattle.tbtree.specs.Nodes.{pages_of_cache}
 use Rattle.tbtree.proofs.InsertLemmas.{few_enough, place_named}
-use Rattle.tbtree.proofs.OldLeaf.{fits}
+use Rattle.tbtree.proofs.RoomLemmas.{fits}
 use Rattle.tbtree.proofs.insertion.put.Goals as goal
 use Rattle.tbtree.proofs.insertion.put.Goals.{then-tree-count-via-then-tree-count, then-tree-count-via-else-tree-count+then-tree-ge-MOST_LEVELS, then-tree-count-via-else-tree-count+else-tree-ge-MOST_LEVELS+then-place-leaf}
 
@@ -43,39 +42,3 @@ pub into_last-requires-clause-room : goal.into_last-requires-clause-room
 into_last-requires-clause-room g c =
     let least = c.leaf.ensures.range.least_leaf in
     fits c.args.tree.now.shape.leaf c.args.place.now.legs (length c.args.legs.now) (omega (arith, least)) c.requires.room
-
-pub returns-then-tree-count-clause-blames : goal.returns-then-tree-count-clause-blames
-returns-then-tree-count-clause-blames g c = λ fa fit.
-    let tree = c.args.tree.now in
-    let numbers = fit.root refl in
-    let leaf : c.from-leaf.result ≡ tree.shape.leaf = c.from-leaf.ensures ∙ c.leaf.ensures.value in
-    let leaves = numbers.leaves in
-    let levels = numbers.levels in
-    let legs = numbers.legs in
-    elim c.then-tree-count.branch [
-      | then-tree-count-via-then-tree-count w ↦ (let e = w.if-tree-count.true in omega (arith, leaves, e, c.count.ensures.value))
-      | then-tree-count-via-else-tree-count+then-tree-ge-MOST_LEVELS w ↦ (let e = w.if-tree-ge-MOST_LEVELS.true in omega (arith, levels, e))
-      | then-tree-count-via-else-tree-count+else-tree-ge-MOST_LEVELS+then-place-leaf w ↦ (let e = w.if-place-leaf.true in omega (arith, legs, e, leaf))
-    ]
-
-pub returns-then-place-leaf-eq0-clause-fits : goal.returns-then-place-leaf-eq0-clause-fits
-returns-then-place-leaf-eq0-clause-fits g c = λ fa.
-    let leaf : c.from-leaf.result ≡ c.args.tree.now.shape.leaf = c.from-leaf.ensures ∙ c.leaf.ensures.value in
-    let numbers : HasNumbers (pages_of_cache c.args.cache.now) c.args.tree.now c.args.place.now = record {
-      root = omega (arith, c.if-root-count.false, c.count-2.ensures.value);
-      leaves = omega (arith, c.if-tree-count.false, c.count.ensures.value);
-      levels = omega (arith, c.if-tree-ge-MOST_LEVELS.false);
-      legs = omega (arith, c.if-place-leaf.false, leaf);
-    } in
-    c.begin.ensures.fits fa numbers (c.is_torn.ensures.whole c.if-is_torn.false)
-
-pub returns-clause-fits : goal.returns-clause-fits
-returns-clause-fits g c = λ fa.
-    let leaf : c.from-leaf.result ≡ c.args.tree.now.shape.leaf = c.from-leaf.ensures ∙ c.leaf.ensures.value in
-    let numbers : HasNumbers (pages_of_cache c.args.cache.now) c.args.tree.now c.args.place.now = record {
-      root = omega (arith, c.if-root-count.false, c.count-2.ensures.value);
-      leaves = omega (arith, c.if-tree-count.false, c.count.ensures.value);
-      levels = omega (arith, c.if-tree-ge-MOST_LEVELS.false);
-      legs = omega (arith, c.if-place-leaf.false, leaf);
-    } in
-    c.into_last.ensures.fits fa numbers (c.is_torn.ensures.whole c.if-is_torn.false)

@@ -5,8 +5,6 @@ use Rattle.tbtree.specs.Nodes.{pages_of_cache}
 use Rattle.tbtree.proofs.LawfulBoxes.{lawful}
 use Rattle.tbtree.proofs.Hanging.{hang_rooted, cover_refused}
 use Rattle.tbtree.proofs.Still.{still}
-use Rattle.tbtree.proofs.ContentLemmas.{carries_rooted}
-use Rattle.tbtree.proofs.PlantedPages.{hung_rooted}
 use Rattle.tbtree.proofs.insertion.root_over.Goals as goal
 
 pub returns-clause-hangs : goal.returns-clause-hangs
@@ -20,22 +18,3 @@ returns-in_err-bounds-clause-hangs g c = λ fa at.
     let tree = c.args.tree.now in
     let p = err_from_is_err_and c.from_residual.result c.from_residual.ensures.1 in
     rw (p.1, p.2) (cover_refused leg_boxes lawful leg_feature tree.shape.inner tree.levels tree.root (pages_of_cache c.args.cache.now) (pages_of_cache c.cover.new.cache) c.args.level at c.args.child.now.child c.args.child.now.bounds _ c.requires.wide c.requires.top (c.in_err-bounds.ensures.only fa))
-
-pub returns-clause-carries : goal.returns-clause-carries
-returns-clause-carries g c = λ fa low end on.
-    let tree = c.args.tree.now in
-    let old = pages_of_cache c.args.cache.now in
-    let mid = pages_of_cache c.cover.new.cache in
-    carries_rooted old mid (pages_of_cache c.add_root.new.cache) tree.root tree.levels c.args.level c.args.child.now.child c.in_ok-root.root c.in_ok-bounds.bounds c.args.child.now.bounds
-    low end on c.add_root.ensures.fresh c.requires.top (c.in_ok-bounds.ensures.covers fa)
-    (c.in_ok-root.ensures.adds (still _ _ c.cover.ensures.touches.passes.store.faithful fa))
-
-pub returns-clause-hung : goal.returns-clause-hung
-returns-clause-hung g c = λ fa some at.
-    hung_rooted (pages_of_cache c.args.cache.now) (pages_of_cache c.cover.new.cache) (pages_of_cache c.add_root.new.cache) c.args.tree.now c.in_ok-root.root c.args.level c.args.child.now c.in_ok-bounds.bounds
-    c.requires.top some c.in_ok-bounds.ensures.above (c.in_ok-bounds.ensures.covers fa) (c.in_ok-root.ensures.adds (still _ _ c.cover.ensures.touches.passes.store.faithful fa)) at
-
-pub returns-clause-bare : goal.returns-clause-bare
-returns-clause-bare g c = λ fa.
-    let covers = c.in_ok-bounds.ensures.covers fa in
-    (c.in_ok-bounds.ensures.above, record { node = covers.node; is = covers.is; box = c.in_ok-bounds.bounds; cover = covers.cover })

@@ -1,5 +1,5 @@
 use Rattle.std.proofs.Common.{[], refl, ◌≡◌, ◌<◌, length, false, sym, ap, ◌∙◌, subst, List, IsTrue}
-use Rattle.std.specs.Prelude.{IfErr, IsErrOf, OnOk}
+use Rattle.std.specs.Prelude.{IfErr, OnOk}
 use Rattle.legs.specs.Asking.{Leaves}
 use Rattle.legs.specs.Index.{MayRefuse}
 use Rattle.pagecache.specs.Cache.{payload_of}
@@ -9,19 +9,16 @@ use Rattle.tbtree.specs.Nodes.{pages_of_cache}
 use Rattle.tbtree.specs.Shape.{IsShape}
 use Rattle.tbtree.specs.declared.tree.Place.{Place}
 use Rattle.tbtree.specs.declared.tree.TbTree.{TbTree}
-use Rattle.boxsearch.specs.Answers.{answered, of_tree}
+use Rattle.boxsearch.specs.Answers.{of_tree}
 use Rattle.boxsearch.specs.Beside.{with_cache}
-use Rattle.tbtree.specs.Faults.{MayRefuseRead, NamesEach, RefusesRead}
+use Rattle.tbtree.specs.Faults.{MayRefuseRead}
 use Rattle.boxsearch.specs.Index.{IndexView, words, content, IsSound}
 use Rattle.header.specs.Front.{SaysState}
 use Rattle.boxsearch.proofs.AnswerLemmas.{each_fault, each_value, read_allowed}
 use Rattle.boxsearch.proofs.IndexLemmas.{reads_leave}
 use Rattle.treecheck.specs.Checking.{Agree, AreTracksOf}
-use Rattle.treecheck.specs.Naming.{IsFirstDamaged, IsFirstMalformed}
-use Rattle.treecheck.proofs.NamingLemmas.{either_named}
 use Rattle.treecheck.proofs.SoundLemmas.{TreeLaws, ended, sound, tracks_are, agrees, few, held, passed}
 use Rattle.treecheck.proofs.WalkedLemmas.{same_pages}
-use Rattle.legs.specs.declared.index.IndexFault.TheVariants.{Damaged}
 use Rattle.treecheck.proofs.checking.check.Given as given
 use Rattle.treecheck.proofs.checking.check.Goals as goal
 
@@ -103,23 +100,6 @@ returns-clause-only g c = λ s a says.
 pub returns-clause-leaves : goal.returns-clause-leaves
 returns-clause-leaves g c =
     subst (λ (v : IndexView). Leaves words c.args.index.now v) (sym (index_is g c)) (reads_leave c.args.index.now c.check_index-given.new.index.cache [] (index_reads g c))
-
-pub returns-clause-named : goal.returns-clause-named
-returns-clause-named g c = λ fa n e.
-    let index : IndexView = c.args.index.now in
-    let left : IndexView = c.check_index-given.new.index in
-    let given = c.check_index-given in
-    let rest = c.take_places-places.ensures.rest in
-    let begun = c.args.begun in
-    let tracks = c.args.tracks.now in
-    let rows = c.args.rows in
-    let places : List Place = c.as_slice.result.now in
-    let value : places ≡ index.places = c.as_slice.ensures.value ∙ c.take_places-places.ensures.taken in
-    let said : IsErrOf (answered (λ fault. of_tree fault) given.result) (Damaged n) = sym c.answer.ensures ∙ e in
-    either_named index.cache left.cache (λ n. IsFirstDamaged index.cache n) (λ n. IsFirstMalformed begun index.tree rows index.legs index.places tracks index.cache n) given.result
-    (subst (λ (v : IndexView). IfErr given.result (RefusesRead v.cache left.cache)) rest given.ensures.reads.caused)
-    (subst (λ places. IfErr given.result (NamesEach (IsFirstDamaged index.cache) (IsFirstMalformed begun index.tree rows index.legs places tracks index.cache))) value
-    (subst (λ (v : IndexView). IsTrue v.cache.store.is_faithful → IfErr given.result (NamesEach (IsFirstDamaged v.cache) (IsFirstMalformed begun v.tree rows v.legs places tracks v.cache))) rest given.ensures.named fa)) n said
 
 pub returns-clause-whole : goal.returns-clause-whole
 returns-clause-whole g c =

@@ -6,6 +6,7 @@ use Rattle.std.proofs.lemmas.List.Sorted.{IsPermutation-refl}
 use Rattle.std.proofs.lemmas.Result.{err_from_is_err_and}
 use Rattle.legs.specs.Boxes.{BoxView}
 use Rattle.legs.specs.Legs.{LegView}
+use Rattle.treecheck.proofs.OrderedPages.{order_of, IsOrder}
 use Rattle.treecheck.specs.Check.{AreChains, IsTreeOver}
 use Rattle.tbtree.specs.Nodes.{Pages, pages_of_cache}
 use Rattle.header.specs.Front.{SaysState}
@@ -14,25 +15,17 @@ use Rattle.treecheck.specs.Walking.{IsMet, Surveys}
 use Rattle.treecheck.specs.Ordering.{NameLast}
 use Rattle.treecheck.specs.declared.walking.Met.{Met}
 use Rattle.chains.specs.Reads.{OnlyReads}
-use Rattle.chains.proofs.ReadLemmas.{caused_after, reads_refused, reads_trans}
-use Rattle.tbtree.specs.Faults.{IfMalformed, NamesEach, RefusesRead}
-use Rattle.tbtree.specs.declared.fault.TreeFault.{TreeFault}
+use Rattle.chains.proofs.ReadLemmas.{reads_refused, reads_trans}
 use Rattle.tbtree.specs.declared.tree.Place.{Place}
 use Rattle.tbtree.specs.declared.tree.TbTree.{TbTree}
 use Rattle.tbtree.specs.Turn.{IsRising}
 use Rattle.pagecache.specs.Cache.{Cache}
 use Rattle.legs.specs.Tracks.{TracksView}
 use Rattle.treecheck.specs.declared.walking.Survey.{Survey}
-use Rattle.tbtree.specs.declared.fault.TreeFault.TheVariants.{Malformed}
-use Rattle.tbtree.proofs.FaultLemmas.{names_then}
-use Rattle.treecheck.specs.Naming.{HoldLeaves, HoldList, IsFirstDamaged, IsFirstMalformed, IsMiscounted, IsOrder}
-use Rattle.treecheck.specs.Descent.{DescentStopsAt}
-use Rattle.treecheck.specs.Stopping.{AllStopAt}
-use Rattle.treecheck.proofs.NamingLemmas.{has_payload, IsLater, later_named, malformed_of, miscounted, order_of, state_named, tree_later, walk_later, zero_later}
 use Rattle.treecheck.proofs.WalkedLemmas.{as_after, as_before, same_pages}
-use Rattle.treecheck.proofs.CheckingLemmas.{checked, list_of, list_whole, order_same, order_strict, are_met, within, whole}
+use Rattle.treecheck.proofs.CheckingLemmas.{checked, order_same, order_strict, are_met, within, whole}
 use Rattle.treecheck.proofs.checking.check_pages.Given as given
-use Rattle.treecheck.proofs.checking.check_pages.Goals.{After-as_slice, After-check_state, After-check_tree, After-put_in_order, After-walk_all, In_ok-check_tree, In_ok-survey}
+use Rattle.treecheck.proofs.checking.check_pages.Goals.{After-check_state, After-check_tree, After-put_in_order, After-walk_all, In_ok-check_tree, In_ok-survey}
 use Rattle.treecheck.proofs.checking.check_pages.Goals as goal
 
 -- up to page 0 all was read of the pages as they were
@@ -102,23 +95,6 @@ stands g c fa reads f =
     as_before _ _ reads fa _ _ value (λ nodes leaves. StandsOver nodes c.args.tree.now (pages_of_leaves leaves))
     (c.in_ok-check_tree.ensures.over (reads.store.faithful ∙ fa) (as_after _ _ reads fa _ _ value AreMet f.met) (as_after _ _ reads fa _ _ value AreInside f.inside))
 
--- once page 0 said its state, a page is named of which what is to be known later is known
-name_later : (g : given.Over) (c : After-walk_all g) → IsTrue c.args.cache.now.store.is_faithful → (new : Cache) (fault : TreeFault) → RefusesRead c.args.cache.now new fault
-    → IfMalformed (IsLater c.args.tree.now c.args.rows c.args.legs c.args.places.now c.args.tracks.now c.args.cache.now) fault
-    → NamesEach (IsFirstDamaged c.args.cache.now) (IsFirstMalformed c.args.begun c.args.tree.now c.args.rows c.args.legs c.args.places.now c.args.tracks.now c.args.cache.now) fault
-name_later g c fa new fault =
-    let first = c.read_pages.ensures.reads.only in
-    later_named c.args.begun c.args.tree.now c.args.rows c.args.legs c.args.places.now c.args.tracks.now c.args.cache.now new fa (c.in_ok-read_pages.ensures.held fa) c.in_ok-read_pages.ensures.some c.in_ok-read_pages.ensures.count
-    (subst (SaysState c.args.begun) (first.payloads fa 0) (c.in_ok-check_state.ensures.says (first.store.faithful ∙ fa))) fault
-
--- where the walk passed, that is page 0, but for the pages of the tree
-name_zero : (g : given.Over) (c : After-walk_all g) → IsTrue c.args.cache.now.store.is_faithful → HoldLeaves c.args.cache.now c.args.tree.now c.args.rows c.args.places.now c.args.tracks.now
-    → (HoldList c.args.cache.now c.args.tree.now c.args.rows c.args.places.now c.args.tracks.now c.args.legs → (order : List ℕ) → IsOrder c.args.cache.now c.args.tree.now c.args.rows c.args.places.now c.args.tracks.now order
-    → ((pages : ℕ → List ℕ) → IsTreeOver (pages_of_cache c.args.cache.now) c.args.tree.now order pages → ⊥) → ⊥)
-    → IsFirstMalformed c.args.begun c.args.tree.now c.args.rows c.args.legs c.args.places.now c.args.tracks.now c.args.cache.now 0
-name_zero g c fa chains apart =
-    name_later g c fa c.args.cache.now (Malformed 0) tt (zero_later c.args.tree.now c.args.rows c.args.legs c.args.places.now c.args.tracks.now c.args.cache.now chains apart)
-
 pub returns-in_err-survey-clause-only : goal.returns-in_err-survey-clause-only
 returns-in_err-survey-clause-only g c = λ fa same says few agrees k.
     let p = err_from_is_err_and c.from_residual-in_err-survey.result c.from_residual-in_err-survey.ensures.1 in
@@ -185,111 +161,6 @@ pub returns-clause-says : goal.returns-clause-says
 returns-clause-says g c = λ fa.
     let reads = c.read_pages.ensures.reads.only in
     subst (SaysState c.args.begun) (reads.payloads fa 0) (c.in_ok-check_state.ensures.says (reads.store.faithful ∙ fa))
-
-pub returns-in_err-read_pages-clause-named : goal.returns-in_err-read_pages-clause-named
-returns-in_err-read_pages-clause-named g c = λ fa.
-    let p = err_from_is_err_and c.from_residual.result c.from_residual.ensures.1 in
-    let old = c.args.cache.now in
-    rw (p.1, p.2) (names_then (IsFirstDamaged old) (IsMiscounted old) (IsFirstDamaged old) (IsFirstMalformed c.args.begun c.args.tree.now c.args.rows c.args.legs c.args.places.now c.args.tracks.now old) (λ n d. d)
-    (miscounted c.args.begun c.args.tree.now c.args.rows c.args.legs c.args.places.now c.args.tracks.now old) c.in_err-read_pages.field-0.0 (c.in_err-read_pages.ensures.named fa))
-
-pub returns-in_err-check_state-clause-named : goal.returns-in_err-check_state-clause-named
-returns-in_err-check_state-clause-named g c = λ fa.
-    let p = err_from_is_err_and c.from_residual-in_err-check_state.result c.from_residual-in_err-check_state.ensures.1 in
-    let old = c.args.cache.now in
-    let tree = c.args.tree.now in
-    let rows = c.args.rows in
-    let total = c.args.legs in
-    let places = c.args.places.now in
-    let tracks = c.args.tracks.now in
-    let held = c.in_ok-read_pages.ensures.held fa in
-    let some = c.in_ok-read_pages.ensures.some in
-    let count = c.in_ok-read_pages.ensures.count in
-    let first = c.read_pages.ensures.reads.only in
-    let there = has_payload old 0 (held 0 some) in
-    let fault = c.in_err-check_state.field-0.0 in
-    rw (p.1, p.2) (state_named c.args.begun tree rows total places tracks old c.check_state.new.cache fa held some count fault
-    (caused_after old c.read_pages.new.cache c.check_state.new.cache fault first c.in_err-check_state.ensures.reads.caused)
-    (λ says. c.in_err-check_state.ensures.only (first.store.faithful ∙ fa) (subst (SaysState c.args.begun) (sym (first.payloads fa 0)) says) (subst (λ n. 0 < n) (sym first.count) some))
-    (c.in_err-check_state.ensures.named (first.store.faithful ∙ fa) (λ e. there (sym (first.payloads fa 0) ∙ e))))
-
-pub returns-in_err-survey-clause-named : goal.returns-in_err-survey-clause-named
-returns-in_err-survey-clause-named g c = λ fa.
-    let p = err_from_is_err_and c.from_residual-in_err-survey.result c.from_residual-in_err-survey.ensures.1 in
-    let at = goal.at.returns-in_err-survey-clause-named g c in
-    let old = c.args.cache.now in
-    let mid = c.check_state.new.cache in
-    let leaf = c.args.tree.now.shape.leaf in
-    let rows = c.args.rows in
-    let places = c.args.places.now in
-    let tracks = c.args.tracks.now in
-    let reads = begun_reads g at.After-check_state in
-    let same = same_pages old mid reads fa in
-    let most = c.from-most.ensures ∙ c.leaf.ensures.value in
-    let fault = c.in_err-survey.field-0.0 in
-    let stops : Pages LegView BoxView → ℕ → Type 0 = λ nodes n. IfMalformed (AllStopAt nodes n rows places tracks.tracks) fault in
-    rw (p.1, p.2) (name_later g at.After-walk_all fa c.walk_all.new.source fault
-    (caused_after old mid c.walk_all.new.source fault reads c.in_err-survey.ensures.reads.caused)
-    (walk_later c.args.tree.now rows c.args.legs places tracks old fault
-    (subst (λ nodes. stops nodes leaf) same (subst (stops (pages_of_cache mid)) most
-    (malformed_of (AllStopAt (pages_of_cache mid) c.from-most.result rows places tracks.tracks) fault (c.in_err-survey.ensures.stops (reads.store.faithful ∙ fa)))))
-    (λ few k. c.in_err-survey.ensures.only (reads.store.faithful ∙ fa) few k.0
-    (subst (λ nodes. AreChains nodes c.from-most.result rows 0 places tracks.tracks k.0) (sym same)
-    (subst (λ n. AreChains (pages_of_cache old) n rows 0 places tracks.tracks k.0) (sym most) k.1)))))
-
-pub returns-then-not-is_whole-clause-named : goal.returns-then-not-is_whole-clause-named
-returns-then-not-is_whole-clause-named g c = λ fa.
-    let at = goal.at.returns-then-not-is_whole-clause-named g c in
-    let sv = surveyed g at.In_ok-survey fa in
-    let survey = c.in_ok-survey.survey in
-    name_zero g at.After-walk_all fa (sv.chains, sv.are_chains) (λ k _ _ _.
-    let w = list_whole (pages_of_cache c.args.cache.now) c.args.tree.now c.args.rows c.args.legs c.args.places.now c.args.tracks.now.tracks survey survey.leaves.items sv (IsPermutation-refl survey.leaves.items) k.0 k.1 in
-    true≢false (sym (c.is_whole.ensures.only w) ∙ c.if-not-is_whole.true))
-
-pub returns-then-not-agree-clause-named : goal.returns-then-not-agree-clause-named
-returns-then-not-agree-clause-named g c = λ fa.
-    let at = goal.at.returns-then-not-agree-clause-named g c in
-    let sv = surveyed g at.In_ok-survey fa in
-    name_zero g at.After-walk_all fa (sv.chains, sv.are_chains) (λ k _ _ _. true≢false (sym (c.agree.ensures.1 k.2) ∙ c.if-not-agree.true))
-
-pub returns-then-not-put_in_order-clause-named : goal.returns-then-not-put_in_order-clause-named
-returns-then-not-put_in_order-clause-named g c = λ fa.
-    let at = goal.at.returns-then-not-put_in_order-clause-named g c in
-    let sv = surveyed g at.In_ok-survey fa in
-    name_zero g at.After-walk_all fa (sv.chains, sv.are_chains) (λ _ order o _.
-    true≢false (sym (c.put_in_order.ensures.strict.1 ((in_order g at.After-put_in_order sv).rising order o)) ∙ c.if-not-put_in_order.true))
-
-pub returns-in_err-check_tree-clause-named : goal.returns-in_err-check_tree-clause-named
-returns-in_err-check_tree-clause-named g c = λ fa.
-    let p = err_from_is_err_and c.from_residual-in_err-check_tree.result c.from_residual-in_err-check_tree.ensures.1 in
-    let at = goal.at.returns-in_err-check_tree-clause-named g c in
-    let tree = c.args.tree.now in
-    let rows = c.args.rows in
-    let total = c.args.legs in
-    let places = c.args.places.now in
-    let tracks = c.args.tracks.now in
-    let leaves = c.put_in_order.new.survey.leaves.items in
-    let fault = c.in_err-check_tree.field-0.0 in
-    let value = c.as_slice.ensures.value in
-    let reads = walked_reads g at.After-walk_all in
-    let sv = surveyed g at.In_ok-survey fa in
-    let ordered = in_order g at.After-put_in_order sv in
-    let met = as_after _ _ reads fa _ _ value AreMet ordered.met in
-    let one = list_of (pages_of_cache c.args.cache.now) tree rows total places tracks.tracks c.in_ok-survey.survey leaves sv ordered.moved (c.is_whole.ensures.whole c.if-not-is_whole.false) in
-    rw (p.1, p.2) (name_later g at.After-walk_all fa c.check_tree.new.cache fault
-    (caused_after c.args.cache.now c.walk_all.new.source c.check_tree.new.cache fault reads c.in_err-check_tree.ensures.reads.caused)
-    (tree_later tree rows total places tracks c.args.cache.now (sv.chains, sv.are_chains) (one.0, one.1, c.agree.ensures.0 c.if-not-agree.false) (pages_of_leaves leaves) ordered.order_is fault
-    (as_before _ _ reads fa _ _ value (λ nodes leaves. IfMalformed (DescentStopsAt nodes tree (pages_of_leaves leaves)) fault) (c.in_err-check_tree.ensures.stops (reads.store.faithful ∙ fa) met))
-    (λ pages over. c.in_err-check_tree.ensures.only (reads.store.faithful ∙ fa) met pages (as_after _ _ reads fa _ _ value (λ nodes leaves. IsTreeOver nodes tree (pages_of_leaves leaves) pages) over))))
-
-pub returns-then-not-name_last-clause-named : goal.returns-then-not-name_last-clause-named
-returns-then-not-name_last-clause-named g c = λ fa.
-    let at = goal.at.returns-then-not-name_last-clause-named g c in
-    let sv = surveyed g at.In_ok-survey fa in
-    let ordered = in_order g at.After-put_in_order sv in
-    let tree = stands g at.In_ok-check_tree fa (walked_reads g at.After-walk_all) ordered in
-    name_zero g at.After-walk_all fa (sv.chains, sv.are_chains) (λ _ order o none.
-    none tree.pages (subst (λ order. IsTreeOver (pages_of_cache c.args.cache.now) c.args.tree.now order tree.pages) (ordered.order_is order o) tree.is_over))
 
 pub returns-in_err-check_state-clause-reads : goal.returns-in_err-check_state-clause-reads
 returns-in_err-check_state-clause-reads g c =

@@ -2,7 +2,6 @@ use Rattle.std.proofs.Common.{arith}
 use Rattle.treecheck.proofs.ChainLemmas.{chained, one_list}
 use Rattle.treecheck.proofs.CheckTree.{hold}
 use Rattle.treecheck.proofs.HeldTree.{checked, chains_hold}
-use Rattle.treecheck.proofs.OneStopLemmas.{one_stop}
 use Rattle.tbtree.proofs.OwnedLists.{numbered}
 use Rattle.tbtree.proofs.SortLemmas.{sort_moves}
 use Rattle.treecheck.proofs.holding.laws.Goals as goal
@@ -14,6 +13,5 @@ returns c = record {
   chained = λ nodes most rows total places tracks legs some. chained nodes most rows total places tracks some legs;
   one_list = one_list;
   held_chains = chains_hold;
-  one_stop = one_stop;
   numbered = λ all total once. (sort_moves all, numbered all total once);
 }

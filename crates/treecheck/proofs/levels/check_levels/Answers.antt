@@ -5,11 +5,8 @@ use Rattle.std.specs.List.{flat_map}
 use Rattle.tbtree.specs.Nodes.{pages_of_cache}
 use Rattle.chains.proofs.ReadLemmas.{reads_refused, reads_trans}
 use Rattle.treecheck.proofs.WalkedLemmas.{same_pages}
-use Rattle.treecheck.specs.Descent.{IsFirstWithout, IsHighestWithout}
-use Rattle.tbtree.specs.Faults.{IfMalformed}
-use Rattle.tbtree.proofs.FaultLemmas.{malformed_then}
 use Rattle.treecheck.proofs.SpanLemmas.{Level, level_at, span_down, width_above, level_is}
-use Rattle.treecheck.specs.Levels.{named_by, named_below, AllStandAbove, IsInBlock, IsInLevel}
+use Rattle.treecheck.specs.Levels.{named_by, named_below, AllStandAbove}
 use Rattle.treecheck.specs.declared.walking.Met.{Met}
 use Rattle.tbtree.specs.Nodes.{Pages}
 use Rattle.legs.specs.Boxes.{BoxView}
@@ -37,9 +34,6 @@ below height level = height - (level + 1)
 
 abbrev AreAbove : Pages LegView BoxView → List Met → Level → Type 0
 AreAbove nodes leaves level = AllStandAbove nodes level.height level.width level.span leaves level.pages
-
-abbrev IsFirstBeside : Pages LegView BoxView → List Met → ℕ → Level → Type 0
-IsFirstBeside nodes leaves page level = IsFirstWithout (IsInBlock nodes level.height level.width level.span leaves) level.pages page
 
 pub returns-in_err-pages-clause-only : goal.returns-in_err-pages-clause-only
 returns-in_err-pages-clause-only g c = λ fa all.
@@ -87,22 +81,3 @@ pub returns-in_err-pages-clause-reads : goal.returns-in_err-pages-clause-reads
 returns-in_err-pages-clause-reads g c =
     let p = err_from_is_err_and c.from_residual-in_err-pages.result c.from_residual-in_err-pages.ensures.1 in
     rw (p.1, p.2) (reads_refused c.args.cache.now c.loop-level.cache c.level_below.new.cache c.in_err-pages.field-0.0 c.loop-level.invariant.reads c.in_err-pages.ensures.reads)
-
-pub returns-in_err-pages-clause-stops : goal.returns-in_err-pages-clause-stops
-returns-in_err-pages-clause-stops g c = λ fa.
-    let p = err_from_is_err_and c.from_residual-in_err-pages.result c.from_residual-in_err-pages.ensures.1 in
-    let nodes = pages_of_cache c.args.cache.now in
-    let inv = c.loop-level.invariant in
-    let level = c.loop-level.level in
-    let n : level + suc (below c.args.height level) ≡ c.args.height = omega (arith, c.loop-level-test.true) in
-    let fault = c.in_err-pages.field-0.0 in
-    let before = (goal.at.returns-in_err-pages-clause-stops g c).After-deref in
-    rw (p.1, p.2) (malformed_then (λ page. IsFirstBeside nodes c.args.leaves.now page (read_level g before)) (IsHighestWithout (IsInLevel nodes c.args.inner c.args.leaves.now) (named_below nodes c.args.root) c.args.height)
-    (λ page s. record {
-      above = level;
-      below = below c.args.height level;
-      all = n;
-      higher = λ a i l e. inv.above fa i a e l;
-      first = subst (IsFirstBeside nodes c.args.leaves.now page) (level_read g before fa (below c.args.height level) level n refl) s;
-    }) fault
-    (subst (λ nodes. IfMalformed (λ page. IsFirstBeside nodes c.args.leaves.now page (read_level g before)) fault) (same_pages c.args.cache.now c.loop-level.cache inv.reads fa) (c.in_err-pages.ensures.stops (inv.reads.store.faithful ∙ fa))))

@@ -1,15 +1,9 @@
 use Rattle.std.proofs.Common.{ℕ, suc, ◌≡◌, ◌≢◌, ◌-◌, ◌<◌, ◌≤◌, List, length, Some, slice_get, arith, sym, ap, ◌∙◌, subst}
 use Rattle.std.proofs.lemmas.Bool.{true≢false}
 use Rattle.tbtree.specs.Nodes.{pages_of_cache}
-use Rattle.treecheck.specs.Levels.{pages_of_leaves, named_below, IsHeight, IsInLevel, LevelsStandAbove}
+use Rattle.treecheck.specs.Levels.{pages_of_leaves, IsHeight, LevelsStandAbove}
 use Rattle.treecheck.specs.declared.walking.Met.{Met}
 use Rattle.tbtree.specs.declared.tree.TbTree.{TbTree}
-use Rattle.std.proofs.lemmas.List.{length-map}
-use Rattle.std.specs.Prelude.{IfErr}
-use Rattle.treecheck.specs.Descent.{DescentStopsAt, FitsLeaves, IsHighestWithout}
-use Rattle.tbtree.specs.Faults.{IfMalformed}
-use Rattle.treecheck.proofs.StoppingLemmas.{refused_map}
-use Rattle.treecheck.proofs.DescentLemmas.{fit_stops, unfit_stops}
 use Rattle.treecheck.proofs.LevelsLemmas.{first_leaf}
 use Rattle.boxsearch.proofs.ResultLemmas.{on_ok}
 use Rattle.treecheck.proofs.StandLemmas.{stands_over, stands_empty, height_of, levels_of}
@@ -79,35 +73,3 @@ returns-clause-only g c = λ fa met pages over.
     let h = tree.levels - 1 in
     let k = (is_high g c).has in
     c.check_levels.ensures.only fa (subst (λ n. LevelsStandAbove nodes n h tree.root c.args.leaves.now) (sym k.inner_is) (levels_of nodes tree c.args.leaves.now h k.levels_are k.some k.leaves_are met pages over))
-
-pub returns-then-leaves-from-clause-stops : goal.returns-then-leaves-from-clause-stops
-returns-then-leaves-from-clause-stops g c = λ fa met.
-    let leaves = c.args.leaves.now in
-    unfit_stops (pages_of_cache c.args.cache.now) c.args.tree.now leaves
-    (λ f. c.if-leaves-from.true (sym (f.leaves_are ∙ length-map leaves (λ (m : Met). m.page)) ∙ sym c.from.ensures))
-
-pub returns-in_default-clause-stops : goal.returns-in_default-clause-stops
-returns-in_default-clause-stops g c = λ fa met.
-    let tree = c.args.tree.now in
-    let leaves = c.args.leaves.now in
-    let inner_is : c.from-inner.result ≡ tree.shape.inner = c.from-inner.ensures ∙ c.inner.ensures.value in
-    unfit_stops (pages_of_cache c.args.cache.now) tree leaves
-    (λ f. let high = subst (λ l. IsHeight tree.shape.inner l (tree.levels - 1)) (length-map leaves (λ (m : Met). m.page)) (f.height c.if-tree-eq0.false) in
-    true≢false (sym (c.in_default.ensures.none (subst (λ n. IsHeight n (length leaves) (tree.levels - 1)) (sym inner_is) high))))
-
-pub returns-clause-stops : goal.returns-clause-stops
-returns-clause-stops g c = λ fa met.
-    let nodes = pages_of_cache c.args.cache.now in
-    let tree = c.args.tree.now in
-    let leaves = c.args.leaves.now in
-    let h = tree.levels - 1 in
-    let k = is_high g c in
-    let many = length-map leaves (λ (m : Met). m.page) in
-    let fits : FitsLeaves tree (pages_of_leaves leaves) = record {
-      leaves_are = k.has.leaves_are ∙ sym many;
-      none = λ z. absurd (c.if-tree-eq0.false z);
-      height = λ _. subst (λ l. IsHeight tree.shape.inner l h) (sym many) k.high;
-      root = λ one. k.top (omega (arith, one));
-    } in
-    refused_map (IsHighestWithout (IsInLevel nodes tree.shape.inner leaves) (named_below nodes tree.root) h) (DescentStopsAt nodes tree (pages_of_leaves leaves)) (fit_stops nodes tree leaves k.has.some met fits) c.check_levels.result
-    (subst (λ inner. IfErr c.check_levels.result (IfMalformed (IsHighestWithout (IsInLevel nodes inner leaves) (named_below nodes tree.root) h))) k.has.inner_is (c.check_levels.ensures.stops fa))

@@ -14,11 +14,8 @@ use Rattle.std.proofs.Common.{ℕ, List}
 use Rattle.legs.specs.Boxes.{BoxView}
 use Rattle.legs.specs.Legs.{LegView}
 use Rattle.tbtree.specs.Nodes.{Pages}
-use Rattle.treecheck.specs.Descent.{IsFirstWithout}
-use Rattle.tbtree.specs.Faults.{IfMalformed}
-use Rattle.tbtree.proofs.FaultLemmas.{malformed_then}
 use Rattle.treecheck.specs.declared.walking.Met.{Met}
-use Rattle.treecheck.specs.Levels.{named_by, IsInBlock, StandsAbove}
+use Rattle.treecheck.specs.Levels.{named_by, StandsAbove}
 use Rattle.treecheck.proofs.levels.level_below.Given as given
 use Rattle.treecheck.proofs.levels.level_below.Goals.{After-block-under}
 use Rattle.treecheck.proofs.levels.level_below.Goals as goal
@@ -80,17 +77,3 @@ pub returns-in_err-take_page-clause-reads : goal.returns-in_err-take_page-clause
 returns-in_err-take_page-clause-reads g c =
     let p = err_from_is_err_and c.from_residual.result c.from_residual.ensures.1 in
     rw (p.1, p.2) (reads_refused c.args.cache.now c.loop-i.cache c.take_page.new.cache c.in_err-take_page.field-0.0 c.loop-i.invariant.reads c.in_err-take_page.ensures.reads)
-
-pub returns-in_err-take_page-clause-stops : goal.returns-in_err-take_page-clause-stops
-returns-in_err-take_page-clause-stops g c = λ fa.
-    let p = err_from_is_err_and c.from_residual.result c.from_residual.ensures.1 in
-    let before = (goal.at.returns-in_err-take_page-clause-stops g c).After-block-under in
-    let nodes = pages_of_cache c.args.cache.now in
-    let inv = c.loop-i.invariant in
-    let i = c.loop-i.i in
-    let under = block c.args.span i c.args.leaves.now in
-    let fault = c.in_err-take_page.field-0.0 in
-    let stops : Pages LegView BoxView → List Met → ℕ → Type 0 = λ nodes under n. (n ≡ asked g before) × (IsOver g before nodes under → ⊥) in
-    rw (p.1, p.2) (malformed_then (stops nodes under) (IsFirstWithout (IsInBlock nodes c.args.level c.args.width c.args.span c.args.leaves.now) c.args.pages.now)
-    (λ n s. record { place = i; is = is_asked g before ∙ ap Some (sym s.0); before = inv.above fa; fails = λ k. s.1 (subst (λ q. StandsAbove nodes c.args.level c.args.width under q) s.0 k) }) fault
-    (as_before _ _ inv.reads fa _ _ c.block-under.ensures (λ nodes under. IfMalformed (stops nodes under) fault) (c.in_err-take_page.ensures.stops (inv.reads.store.faithful ∙ fa))))

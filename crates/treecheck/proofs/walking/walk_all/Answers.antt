@@ -9,10 +9,6 @@ use Rattle.treecheck.proofs.SurveyLemmas.{surveyed_on, surveyed_all, chain_of, a
 use Rattle.tbtree.specs.Stands.{no_place}
 use Rattle.std.proofs.lemmas.Option.{slice_get-get_or}
 use Rattle.treecheck.proofs.WalkedLemmas.{same_by}
-use Rattle.tbtree.specs.Faults.{IfNamed}
-use Rattle.tbtree.proofs.FaultLemmas.{named_then}
-use Rattle.treecheck.specs.Stopping.{AllStopAt, ArePaired, WalkStopsAt}
-use Rattle.treecheck.proofs.StoppingLemmas.{before_on, first_stops, none_paired}
 use Rattle.treecheck.proofs.walking.walk_all.Goals as goal
 
 pub returns-then-not-are_paired-clause-only : goal.returns-then-not-are_paired-clause-only
@@ -64,42 +60,8 @@ loop-feature-preserved g c =
           surveyed_on nodes c.args.most c.args.rows f (f + 1) c.args.places.now c.args.tracks.now.tracks place c.in-Some.track c.loop-feature.survey c.walk_chain.new.survey
           (record { ordinals = c.walk_chain.new.survey.ordinals; leaves = c.walk_chain.new.survey.leaves; firsts = c.push.new.self }) refl at (sym c.track.ensures.value ∙ c.in-Some.is) (inv.surveyed fa) (walks fa) refl refl
           (c.in_ok-push.ensures.items ∙ ap (λ n. c.walk_chain.new.survey.firsts.items ++ n ∷ []) (c.ordinal_at.ensures ∙ (λ i. unwrap_or (slice_get (c.deref.ensures.value i) ((c.len-start.ensures ∙ c.loop-feature.survey.ordinals.ok.0) i)) 0)));
-      before = λ fa.
-          let w = walks fa in
-          before_on nodes c.args.most c.args.rows c.args.places.now c.args.tracks.now.tracks f (f + 1) place c.in-Some.track w.pages refl at (sym c.track.ensures.value ∙ c.in-Some.is) w.leaves (inv.before fa);
     }
 
 pub returns-clause-surveyed : goal.returns-clause-surveyed
 returns-clause-surveyed g c = λ fa.
     surveyed_all (pages_by g.R.LeafReader.node (g.R.LeafReader.seen c.args.source.now)) c.args.most c.args.rows c.loop-feature.feature c.args.places.now c.args.tracks.now.tracks c.loop-feature.survey (omega (arith, c.loop-feature-test.false, c.if-places.false)) (c.are_paired.ensures.0 c.if-not-are_paired.false) (c.loop-feature.invariant.surveyed fa)
-
-pub returns-then-not-are_paired-clause-stops : goal.returns-then-not-are_paired-clause-stops
-returns-then-not-are_paired-clause-stops g c = λ fa.
-    none_paired (pages_by g.R.LeafReader.node (g.R.LeafReader.seen c.args.source.now)) c.args.most c.args.rows c.args.places.now c.args.tracks.now.tracks
-    (λ both. true≢false (sym (c.are_paired.ensures.1 both.many) ∙ c.if-not-are_paired.true))
-
-pub returns-then-places-clause-stops : goal.returns-then-places-clause-stops
-returns-then-places-clause-stops g c = λ fa.
-    none_paired (pages_by g.R.LeafReader.node (g.R.LeafReader.seen c.args.source.now)) c.args.most c.args.rows c.args.places.now c.args.tracks.now.tracks
-    (λ both. let few = both.few in absurd (omega (arith, few, c.if-places.true)))
-
-pub returns-in_default-clause-stops : goal.returns-in_default-clause-stops
-returns-in_default-clause-stops g c = λ fa.
-    let many = c.are_paired.ensures.0 c.if-not-are_paired.false in
-    let t = get_at c.args.tracks.now.tracks c.loop-feature.feature (omega (arith, c.loop-feature-test.true, c.if-places.false, many)) in
-    absurd (c.in_default.not-Some t.0 (c.track.ensures.value ∙ t.1))
-
-pub returns-in_err-walk_chain-clause-stops : goal.returns-in_err-walk_chain-clause-stops
-returns-in_err-walk_chain-clause-stops g c = λ fa.
-    let p = err_from_is_err_and c.from_residual.result c.from_residual.ensures.1 in
-    let inv = c.loop-feature.invariant in
-    let nodes = pages_by g.R.LeafReader.node (g.R.LeafReader.seen c.args.source.now) in
-    let f = c.loop-feature.feature in
-    let place = get_or c.args.places.now f no_place in
-    let at : slice_get c.args.places.now f ≡ Some place = slice_get-get_or c.args.places.now f no_place (omega (arith, c.loop-feature-test.true, c.if-places.false)) in
-    let same = same_by g.R.LeafReader.node (g.R.LeafReader.seen c.args.source.now) (g.R.LeafReader.seen c.loop-feature.source) inv.reads fa in
-    let both : ArePaired nodes c.args.most c.args.rows c.args.places.now c.args.tracks.now.tracks = record { many = c.are_paired.ensures.0 c.if-not-are_paired.false; few = omega (arith, c.if-places.false) } in
-    let fault = c.in_err-walk_chain.field-0.0 in
-    rw (p.1, p.2) (named_then (WalkStopsAt nodes c.args.most c.args.rows f place c.in-Some.track) (AllStopAt nodes c.args.most c.args.rows c.args.places.now c.args.tracks.now.tracks)
-    (first_stops nodes c.args.most c.args.rows c.args.places.now c.args.tracks.now.tracks f place c.in-Some.track at (sym c.track.ensures.value ∙ c.in-Some.is) both (inv.before fa)) fault
-    (subst (λ nodes. IfNamed (WalkStopsAt nodes c.args.most c.args.rows f place c.in-Some.track) fault) same (c.in_err-walk_chain.ensures.stops (inv.reads.store.faithful ∙ fa))))

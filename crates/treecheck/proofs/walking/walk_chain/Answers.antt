@@ -4,12 +4,9 @@ use Rattle.std.proofs.lemmas.Result.{err_from_is_err_and}
 use Rattle.treecheck.specs.Check.{IsLeafOf}
 use Rattle.tbtree.specs.Turn.{ComeInTurn}
 use Rattle.tbtree.specs.Descent.{legs_in}
-use Rattle.treecheck.specs.Stopping.{WalkStopsAt}
-use Rattle.treecheck.specs.Walking.{pages_by, Strays, TakesLeaf}
-use Rattle.tbtree.specs.Faults.{IfNamed}
-use Rattle.tbtree.proofs.FaultLemmas.{named_then}
+use Rattle.treecheck.specs.Walking.{pages_by, TakesLeaf}
 use Rattle.chains.proofs.ReadLemmas.{reads_refl, reads_refused, reads_trans}
-use Rattle.treecheck.proofs.WalkedLemmas.{same_by, walked_none, walked_on, walked_leaf, walked_end, walked_past, walked_stray, walked_whole, some_left, none_left, next_left}
+use Rattle.treecheck.proofs.WalkedLemmas.{same_by, walked_none, walked_on, walked_leaf, walked_end, walked_whole, some_left, none_left, next_left}
 use Rattle.treecheck.proofs.walking.walk_chain.Given as given
 use Rattle.treecheck.proofs.walking.walk_chain.Goals.{After-leaves, After-take_leaf}
 use Rattle.treecheck.proofs.walking.walk_chain.Goals as goal
@@ -70,22 +67,3 @@ returns-clause-walked g c = λ fa.
     let inv = c.leaves.invariant in
     let none = none_wait g (goal.at.returns-clause-walked g c).After-leaves in
     walked_end (pages_by g.R.LeafReader.node (g.R.LeafReader.seen c.args.source.now)) c.args.most c.args.rows c.args.feature c.args.place.now c.leaves.walk c.args.survey.now c.leaves.survey c.args.track.now (inv.walked fa) none (c.is_at_end.ensures.0 c.if-not-is_at_end.false)
-
-pub returns-in_err-take_leaf-clause-stops : goal.returns-in_err-take_leaf-clause-stops
-returns-in_err-take_leaf-clause-stops g c = λ fa.
-    let p = err_from_is_err_and c.from_residual.result c.from_residual.ensures.1 in
-    let inv = c.leaves.invariant in
-    let nodes = pages_by g.R.LeafReader.node (g.R.LeafReader.seen c.args.source.now) in
-    let some = some_wait g (goal.at.returns-in_err-take_leaf-clause-stops g c).After-take_leaf in
-    let same = same_by g.R.LeafReader.node (g.R.LeafReader.seen c.args.source.now) (g.R.LeafReader.seen c.leaves.source) inv.reads fa in
-    rw (p.1, p.2) (named_then (Strays nodes c.args.most c.args.rows c.leaves.walk) (WalkStopsAt nodes c.args.most c.args.rows c.args.feature c.args.place.now c.args.track.now)
-    (λ n s. walked_stray nodes c.args.most c.args.rows c.args.feature c.args.place.now c.leaves.walk c.args.survey.now c.leaves.survey c.args.track.now n (inv.walked fa) some s)
-    c.in_err-take_leaf.field-0.0
-    (subst (λ nodes. IfNamed (Strays nodes c.args.most c.args.rows c.leaves.walk) c.in_err-take_leaf.field-0.0) same (c.in_err-take_leaf.ensures.strays (inv.reads.store.faithful ∙ fa))))
-
-pub returns-then-not-is_at_end-clause-stops : goal.returns-then-not-is_at_end-clause-stops
-returns-then-not-is_at_end-clause-stops g c = λ fa.
-    let inv = c.leaves.invariant in
-    let none = none_wait g (goal.at.returns-then-not-is_at_end-clause-stops g c).After-leaves in
-    walked_past (pages_by g.R.LeafReader.node (g.R.LeafReader.seen c.args.source.now)) c.args.most c.args.rows c.args.feature c.args.place.now c.leaves.walk c.args.survey.now c.leaves.survey c.args.track.now (inv.walked fa) none
-    (λ end. true≢false (sym (c.is_at_end.ensures.1 end) ∙ c.if-not-is_at_end.true))

@@ -1,5 +1,4 @@
-use Rattle.std.proofs.Common.{inl, inr, ◌≡◌, ◌∙◌, ◌<◌, drop, IsTrue, List, Some, length, sym, ap, subst}
-use Rattle.header.specs.Fields.{header_payload}
+use Rattle.std.proofs.Common.{◌≡◌, ◌∙◌, ◌<◌, drop, IsTrue, List, sym, ap, subst}
 use Rattle.legs.specs.Costs.{ShapeView}
 use Rattle.legs.specs.Legs.{LegView}
 use Rattle.pagecache.specs.Cache.{stored_payload}
@@ -15,10 +14,9 @@ use Rattle.register.specs.Saving.{IsSavingStop}
 use Rattle.catalogue.proofs.OpenLemmas.{stop_of}
 use Rattle.tbtree.specs.declared.tree.Place.{Place}
 use Rattle.tbtree.specs.declared.tree.TbTree.{TbTree}
-use Rattle.version1.specs.Naming.{IsNamedOfChains}
-use Rattle.version1.proofs.NamedLemmas.{chains_of, kept_agrees, kept_few, named_as, named_of, stop_named}
+use Rattle.version1.proofs.NamedLemmas.{chains_of, kept_agrees}
 use Rattle.version1.proofs.OldBookLemmas.{old_kept_same}
-use Rattle.version1.proofs.MigrateLemmas.{allowed_stop, begun_fields, book_agrees, book_brought, book_chains, caused_beginning, chains_as, full_beginning, left_later, leg_stop, old_pages_stay, same_shape}
+use Rattle.version1.proofs.MigrateLemmas.{allowed_stop, book_agrees, book_brought, book_chains, caused_beginning, chains_as, left_later, leg_stop, old_pages_stay, same_shape}
 use Rattle.version1.proofs.migrating.migrate.Given as given
 use Rattle.version1.proofs.migrating.migrate.Goals as goal
 
@@ -85,14 +83,6 @@ returns-in-Ok-bring_legs-clause-brought g c = λ fa fb.
       places = read.places.items;
       kept = subst (λ (near : ShapeView). AnswersOld (stored_payload s) s.count read.catalogue read.leaf near read.places.items) (sym shape) (c.in-Ok.ensures.kept fa fb);
       sound = brought.0;
-      alone = record {
-        first = c.in-Ok-begin.index;
-        sound = c.in-Ok-begin.ensures.sound ft;
-        empty = c.in-Ok-begin.ensures.empty;
-        one = c.in-Ok-begin.ensures.count;
-        shape = c.in-Ok-begin.ensures.shape ∙ sym shape;
-        grown = c.in-Ok-bring_legs.ensures.grown fm (c.in-Ok-begin.ensures.sound ft) c.in-Ok-begin.ensures.empty;
-      };
       legs = subst (λ nodes. HoldChains nodes read.leaf tracks.rows tracks.legs read.places.items tracks.tracks (content index)) (old_pages_stay s mid fa stays)
           (chains_as (pages_of_old mid) read.leaf c.catalogue.inside.tracks tracks c.as_slice.result.now read.places.items (content index) (ap (λ (v : CatalogueView). v.tracks) c.catalogue.view_is) c.as_slice.ensures.value brought.1);
     }
@@ -129,10 +119,6 @@ pub returns-in-Err-clause-whole : goal.returns-in-Err-clause-whole
 returns-in-Err-clause-whole g c = λ fa fb catalogue tree places kept whole.
     allowed_stop c.in-Err.back.1 (stop_of c.in-Err.back.1 (λ no. c.in-Err.ensures.broken fa fb no catalogue tree places kept))
 
-pub returns-in-Err-clause-chains : goal.returns-in-Err-clause-chains
-returns-in-Err-clause-chains g c = λ fa fb catalogue tree places kept.
-    stop_named (IsNamedOfChains (g.S.PageStore.seen c.args.old.now) catalogue tree places) c.in-Err.back.1 (stop_of c.in-Err.back.1 (λ no. c.in-Err.ensures.broken fa fb no catalogue tree places kept))
-
 pub returns-in-Err-bring_legs-clause-whole : goal.returns-in-Err-bring_legs-clause-whole
 returns-in-Err-bring_legs-clause-whole g c = λ fa fb catalogue tree places kept whole.
     let s = g.S.PageStore.seen c.args.old.now in
@@ -142,67 +128,7 @@ returns-in-Err-bring_legs-clause-whole g c = λ fa fb catalogue tree places kept
     let agrees = kept_agrees (stored_payload s) s.count read.catalogue answers.tree read.places.items answers.kept in
     not_brought g c fa fb agrees whole.0 (chains_of (pages_of_old s) read.leaf read.catalogue catalogue tree read.places.items places whole.0 k.0.catalogue k.1 k.0.places_are whole.1)
 
-pub returns-in-Err-bring_legs-clause-chains : goal.returns-in-Err-bring_legs-clause-chains
-returns-in-Err-bring_legs-clause-chains g c = λ fa fb catalogue tree places kept.
-    let s = g.S.PageStore.seen c.args.old.now in
-    let mid = g.S.PageStore.seen c.read_beside.new.old in
-    let stays = c.in-Ok.ensures.stays in
-    let read = c.in-Ok.read.0 in
-    let ft = c.in-Ok.ensures.stored.keeps.faithful ∙ fb in
-    let answers = c.in-Ok.ensures.kept fa fb in
-    let k = kept_one g c fa fb catalogue tree places kept in
-    let few = subst (λ (l : List Place). length l < 4294967296) (sym c.as_slice.ensures.value) (kept_few (stored_payload s) s.count read.catalogue answers.tree read.places.items answers.kept) in
-    let same = ap (λ (v : CatalogueView). v.tracks) c.catalogue.view_is in
-    let e = c.in-Err-bring_legs.back.1 in
-    named_of (pages_of_old s) read.leaf read.catalogue catalogue tree read.places.items places e k.0.catalogue k.1 k.0.places_are
-    (named_as (pages_of_old s) (pages_of_old mid) read.leaf c.catalogue.inside.tracks read.catalogue.tracks c.as_slice.result.now read.places.items e (old_pages_stay s mid fa stays) same c.as_slice.ensures.value
-    (c.in-Err-bring_legs.ensures.named (stays.keeps.faithful ∙ fa) (c.in-Ok-begin.ensures.sound ft) c.in-Ok-begin.ensures.empty few))
-
 pub returns-in-Err-bring_legs-clause-named : goal.returns-in-Err-bring_legs-clause-named
 returns-in-Err-bring_legs-clause-named g c = λ fa fb none.
     let answers = c.in-Ok.ensures.kept fa fb in
     absurd (none c.in-Ok.read.0.catalogue answers.tree c.in-Ok.read.0.places.items answers.kept)
-
-pub returns-in-Ok-bring_legs-clause-fields : goal.returns-in-Ok-bring_legs-clause-fields
-returns-in-Ok-bring_legs-clause-fields g c = λ fb.
-    let ft = c.in-Ok.ensures.stored.keeps.faithful ∙ fb in
-    let read = c.in-Ok.read.0 in
-    let index = c.in-Ok-bring_legs.index in
-    let begun = c.in-Ok-begin.index in
-    let limits = c.catalogue.inside.limits in
-    let shape = same_shape index begun read.shape c.in-Ok-bring_legs.ensures.later.plan c.in-Ok-begin.ensures.shape in
-    let first = begun_fields begun (header_payload read.shape limits) (c.in-Ok-begin.ensures.sound ft).faithful c.in-Ok-begin.ensures.count (c.in-Ok-begin.ensures.header ft) in
-    c.in-Ok-bring_legs.ensures.later.fields (drop 12 (header_payload read.shape limits).bytes) first
-    ∙ ap (λ s. Some (drop 12 (header_payload s limits).bytes)) (sym shape)
-    ∙ ap (λ (v : CatalogueView). Some (drop 12 (header_payload index.tree.shape v.limits).bytes)) c.catalogue.view_is
-
-pub returns-in-Err-begin-clause-full : goal.returns-in-Err-begin-clause-full
-returns-in-Err-begin-clause-full g c = λ e fa fb.
-    let new = g.T.PageStore.seen c.args.new in
-    let mid = g.T.PageStore.seen c.in-Ok.read.1 in
-    let left = g.T.PageStore.seen c.in-Err-begin.new in
-    inl (full_beginning new mid left c.in-Err-begin.fault c.in-Ok.ensures.stored c.in-Err-begin.ensures.caused (sym c.fault_of.ensures ∙ e))
-
-pub returns-in-Err-bring_legs-clause-full : goal.returns-in-Err-bring_legs-clause-full
-returns-in-Err-bring_legs-clause-full g c = λ e fa fb.
-    let s = g.S.PageStore.seen c.args.old.now in
-    let mid = g.S.PageStore.seen c.read_beside.new.old in
-    let stays = c.in-Ok.ensures.stays in
-    let read = c.in-Ok.read.0 in
-    let sound = c.in-Ok-begin.ensures.sound (c.in-Ok.ensures.stored.keeps.faithful ∙ fb) in
-    let full = c.in-Err-bring_legs.ensures.full e (stays.keeps.faithful ∙ fa) sound c.in-Ok-begin.ensures.empty in
-    let tracks = read.catalogue.tracks in
-    inr (record {
-      catalogue = read.catalogue;
-      leaf = read.leaf;
-      places = read.places.items;
-      index = c.in-Ok-begin.index;
-      legs = full.0;
-      kept = subst (λ (near : ShapeView). AnswersOld (stored_payload s) s.count read.catalogue read.leaf near read.places.items) (sym c.in-Ok-begin.ensures.shape) (c.in-Ok.ensures.kept fa fb);
-      sound = sound;
-      empty = c.in-Ok-begin.ensures.empty;
-      one = c.in-Ok-begin.ensures.count;
-      held = subst (λ nodes. HoldChains nodes read.leaf tracks.rows tracks.legs read.places.items tracks.tracks full.0) (old_pages_stay s mid fa stays)
-          (chains_as (pages_of_old mid) read.leaf c.catalogue.inside.tracks tracks c.as_slice.result.now read.places.items full.0 (ap (λ (v : CatalogueView). v.tracks) c.catalogue.view_is) c.as_slice.ensures.value full.1);
-      lacks = full.2;
-    })

@@ -15,7 +15,7 @@ use Rattle.treecheck.specs.Walking.{pages_by}
 use Rattle.treecheck.specs.declared.walking.Met.{Met}
 use Rattle.version1.proofs.OldLemmas.{reads_stays}
 use Rattle.version1.proofs.OpenedLemmas.{allowed_leg, damaged_works, next_opened, not_none, opened_none, opened_taken, works_leg}
-use Rattle.version1.proofs.TakingLemmas.{same_err, on_err, on_ok, all_taken, brought_none, brought_on, last_lacks, next_lacks, next_waits, later_refl, later_trans, risen_after, stays_refl, stays_trans, stand_taken, store_failed, Brought, StandsNext}
+use Rattle.version1.proofs.TakingLemmas.{same_err, on_err, on_ok, all_taken, brought_none, brought_on, next_waits, later_refl, later_trans, risen_after, stays_refl, stays_trans, stand_taken, store_failed, Brought, StandsNext}
 use Rattle.treecheck.proofs.WalkedLemmas.{same_by}
 use Rattle.version1.proofs.old_legs.bring.Given as given
 use Rattle.version1.proofs.old_legs.bring.Goals as goal
@@ -75,7 +75,7 @@ legs-preserved g c =
       brought = λ fa sound empty list have numbered.
           let k = stands_next first now inv.stays fa g.I.Listed c.args.leaves.now (inv.brought fa sound empty list have numbered) have numbered c.in-Ok.ensures.opened (sym c.remove.ensures.value ∙ c.in-Some.is) in
           brought_on g.I.Listed k c.put_behind.new.index c.remove.new.self.entries c.put_behind.new.waiting.items (n + 1) refl
-          (stand_taken list c.open_next.new.opened.entries c.remove.new.self.entries (nat_eq n) k.stand c.remove.ensures.updates.0) c.in_ok-put_behind.ensures.holds c.in_ok-put_behind.ensures.marked inv.later c.in_ok-put_behind.ensures.grown;
+          (stand_taken list c.open_next.new.opened.entries c.remove.new.self.entries (nat_eq n) k.stand c.remove.ensures.updates.0) c.in_ok-put_behind.ensures.holds c.in_ok-put_behind.ensures.marked;
       opened = λ fa rises.
           opened_taken (pages_by old_node_of (fresh first 1)) c.args.leaves.now c.in-Ok.next n c.open_next.new.opened.entries c.remove.new.self.entries
           (opened_on first now inv.stays fa (inv.opened fa rises) (λ f. c.in-Ok.ensures.on f rises)) c.remove.ensures.updates.0;
@@ -86,11 +86,6 @@ returns-clause-brought g c = on_ok c.put_waiting.result (λ holds fa sound empty
     let b = c.legs.invariant.brought fa sound empty list have numbered in
     let h = holds b.may in
     (h.may.0, sym (append-nil (g.I.Listed.content c.put_waiting.new.index)) ∙ h.content ∙ b.content ∙ all_taken c.args.legs c.legs.ordinal-counter list numbered c.legs-test.false)) c.put_waiting.ensures.holds
-
-pub returns-clause-grown : goal.returns-clause-grown
-returns-clause-grown g c = on_ok c.put_waiting.result (λ on fa sound empty list have numbered.
-    let b = c.legs.invariant.brought fa sound empty list have numbered in
-    on b.may c.args.index.now c.legs.invariant.later b.grown) c.put_waiting.ensures.grown
 
 pub returns-clause-only : goal.returns-clause-only
 returns-clause-only g c = on_err c.put_waiting.result (λ fault may fa sound empty list have each numbered.
@@ -187,14 +182,3 @@ returns-in_err-put_behind-clause-works g c =
     let p = err_from_is_err_and c.from_residual.result c.from_residual.ensures.1 in
     rw (p.1, p.2) (λ fa sound empty list have numbered e.
     subst MayRefuseLeg e (c.in_err-put_behind.ensures.only (next_waits g.I.Listed (next_refused g c fa sound empty list have numbered))))
-
-pub returns-clause-lacks : goal.returns-clause-lacks
-returns-clause-lacks g c = λ e fa sound empty list have numbered.
-    let inv = c.legs.invariant in
-    last_lacks g.I.Listed c.args.index.now c.legs.index c.put_waiting.new.index c.legs.opened.entries c.legs.waiting.items c.legs.ordinal-counter list (inv.brought fa sound empty list have numbered) inv.later (c.put_waiting.ensures.lacks e)
-
-pub returns-in_err-put_behind-clause-lacks : goal.returns-in_err-put_behind-clause-lacks
-returns-in_err-put_behind-clause-lacks g c = λ e fa sound empty list have numbered.
-    let p = err_from_is_err_and c.from_residual.result c.from_residual.ensures.1 in
-    next_lacks g.I.Listed (next_refused g c fa sound empty list have numbered) c.put_behind.new.index c.legs.invariant.later
-    (c.put_behind.ensures.lacks (subst (λ r. IsErrOf r index.StoreFull) (p.1 ∙ ap (λ x. Err x) p.2 ∙ sym c.in_err-put_behind.was) e))

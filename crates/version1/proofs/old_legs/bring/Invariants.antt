@@ -3,12 +3,12 @@ use Rattle.legs.specs.Asking.{IsLater}
 use Rattle.legs.specs.Legs.{LegView}
 use Rattle.pages.specs.Store.{Stays}
 use Rattle.pagecache.specs.Cache.{fresh}
+use Rattle.version1.proofs.TakingLemmas.{Brought}
 use Rattle.version1.specs.OldForm.{old_node_of}
 use Rattle.tbtree.specs.Turn.{IsRising}
 use Rattle.version1.specs.OldLegs.{AreOpened, HaveLegsOf, IsNumbered}
 use Rattle.treecheck.specs.Walking.{pages_by}
 use Rattle.treecheck.specs.declared.walking.Met.{Met}
-use Rattle.version1.proofs.TakingLemmas.{Brought}
 use Rattle.version1.proofs.old_legs.bring.Given as goal
 
 abbrev pub invariant-legs : goal.invariant-legs

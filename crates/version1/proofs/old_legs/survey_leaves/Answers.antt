@@ -8,7 +8,6 @@ use Rattle.treecheck.specs.Checking.{Agree}
 use Rattle.treecheck.specs.Ordering.{IsSurveyWhole}
 use Rattle.treecheck.specs.Walking.{pages_by}
 use Rattle.treecheck.proofs.SurveyLemmas.{as_many}
-use Rattle.version1.proofs.NamedLemmas.{walk_named, zero_named}
 use Rattle.version1.proofs.SurveyedLemmas.{held_whole}
 use Rattle.version1.proofs.TakingLemmas.{surveyed}
 use Rattle.version1.proofs.old_legs.survey_leaves.Goals as goal
@@ -41,18 +40,3 @@ returns-then-not-is_whole-clause-only g c = λ fa agrees legs held.
 pub returns-then-not-agree-clause-only : goal.returns-then-not-agree-clause-only
 returns-then-not-agree-clause-only g c = λ fa agrees legs held.
     true≢false (sym (c.agree.ensures.1 (subst (Agree c.args.tracks.now c.args.rows) (sym c.leg_count-legs.ensures) agrees)) ∙ c.if-not-agree.true)
-
-pub returns-in_err-survey-clause-named : goal.returns-in_err-survey-clause-named
-returns-in_err-survey-clause-named g c =
-    let p = err_from_is_err_and c.from_residual.result c.from_residual.ensures.1 in
-    let err = c.in_err-survey.ensures in
-    rw (p.1, p.2) (λ fa few.
-    walk_named (pages_by old_node_of (fresh (g.S.PageStore.seen c.args.store.now) 1)) c.args.most c.args.rows c.args.places.now c.args.tracks.now.tracks c.in_err-survey.field-0.0 (err.stops fa) (λ h. err.only fa few h.0 h.1))
-
-pub returns-then-not-is_whole-clause-named : goal.returns-then-not-is_whole-clause-named
-returns-then-not-is_whole-clause-named g c = λ fa few.
-    zero_named (pages_by old_node_of (fresh (g.S.PageStore.seen c.args.store.now) 1)) c.args.most c.args.rows c.args.places.now c.args.tracks.now.tracks c.in_ok-survey.survey (c.in_ok-survey.ensures.surveyed fa)
-
-pub returns-then-not-agree-clause-named : goal.returns-then-not-agree-clause-named
-returns-then-not-agree-clause-named g c = λ fa few.
-    zero_named (pages_by old_node_of (fresh (g.S.PageStore.seen c.args.store.now) 1)) c.args.most c.args.rows c.args.places.now c.args.tracks.now.tracks c.in_ok-survey.survey (c.in_ok-survey.ensures.surveyed fa)

@@ -8,14 +8,11 @@ use Rattle.legs.specs.Index.{MayRefuseLeg}
 use Rattle.legs.specs.Boxes.{BoxView}
 use Rattle.legs.specs.Legs.{LegView}
 use Rattle.legs.specs.declared.tracks.Track.{Track}
-use Rattle.tbtree.specs.Faults.{IfNamed}
 use Rattle.tbtree.specs.Nodes.{Pages}
 use Rattle.tbtree.specs.declared.tree.Place.{Place}
 use Rattle.version1.specs.OldLegs.{pages_of_old, HaveEachOf, HaveLegsOf, IsNumbered}
-use Rattle.version1.specs.Naming.{IfDamagedInIndex, IsNamedOfLeaves}
 use Rattle.treecheck.specs.Walking.{pages_by}
 use Rattle.treecheck.specs.declared.walking.Met.{Met}
-use Rattle.version1.proofs.NamedLemmas.{named_leg, none_named}
 use Rattle.version1.proofs.OldLemmas.{same_old, stays_read}
 use Rattle.version1.proofs.OpenedLemmas.{allowed_leg, works_leg}
 use Rattle.version1.proofs.SurveyedLemmas.{have_each}
@@ -78,18 +75,8 @@ returns-clause-brought g c = on_ok c.bring.result (λ h fa sound empty.
     let r = h (still g c fa) sound empty l.list l.have l.numbered in
     (r.0, subst (HoldChains (pages_of_old (g.S.PageStore.seen c.args.old.now)) c.args.most c.args.rows c.args.tracks.now.legs c.args.places.now c.args.tracks.now.tracks) (sym r.1) l.held)) c.bring.ensures.brought
 
-pub returns-clause-grown : goal.returns-clause-grown
-returns-clause-grown g c = on_ok c.bring.result (λ h fa sound empty.
-    let l = listed g c fa in
-    h (still g c fa) sound empty l.list l.have l.numbered) c.bring.ensures.grown
-
 pub returns-clause-marked : goal.returns-clause-marked
 returns-clause-marked g c = λ fa sound empty marked. (let l = listed g c fa in c.bring.ensures.marked (still g c fa) sound empty marked l.list l.have l.numbered)
-
-pub returns-clause-lacks : goal.returns-clause-lacks
-returns-clause-lacks g c = λ e fa sound empty.
-    let l = listed g c fa in
-    (l.list, l.held, c.bring.ensures.lacks e (still g c fa) sound empty l.list l.have l.numbered)
 
 pub returns-in-Err-clause-only : goal.returns-in-Err-clause-only
 returns-in-Err-clause-only g c = λ fa sound empty agrees legs held.
@@ -109,18 +96,3 @@ pub returns-clause-works : goal.returns-clause-works
 returns-clause-works g c = on_err c.bring.result (λ fault h fa sound empty.
     let l = listed g c fa in
     h (still g c fa) sound empty l.list l.have l.numbered) c.bring.ensures.works
-
-pub returns-clause-named : goal.returns-clause-named
-returns-clause-named g c = on_err c.bring.result (λ fault h fa sound empty few.
-    let l = listed g c fa in
-    none_named (IsNamedOfLeaves (pages_of_old (g.S.PageStore.seen c.args.old.now)) c.args.most c.args.rows c.args.places.now c.args.tracks.now.tracks) fault
-    (h (still g c fa) sound empty l.list l.have l.each l.numbered)) c.bring.ensures.only
-
-pub returns-in-Err-clause-named : goal.returns-in-Err-clause-named
-returns-in-Err-clause-named g c = λ fa sound empty few.
-    let first = g.S.PageStore.seen c.args.old.now in
-    let err = c.in-Err.ensures in
-    let names = λ (nodes : Pages LegView BoxView). IsNamedOfLeaves nodes c.args.most c.args.rows c.args.places.now c.args.tracks.now.tracks in
-    let there = subst (λ nodes. IfNamed (names nodes) c.in-Err.fault) (same_old first (g.met.S.PageStore.lawful c.args.old.now) fa) (err.named fa few) in
-    subst (IfDamagedInIndex (names (pages_of_old first))) (sym c.of_tree.ensures)
-    (named_leg (names (pages_of_old first)) (fresh first 1) (fresh (g.S.PageStore.seen c.survey_leaves.new.store) 1) c.in-Err.fault err.reads.caused there)

@@ -1,17 +1,16 @@
-use Rattle.std.proofs.Common.{ℕ, ◌≡◌, ◌<◌, ◌-◌, ◌^◌, min, inr, false, arith, refl, ap, subst, sym, ◌∙◌, ◌∷◌, ◌++◌, [], length, Some}
-use Rattle.std.specs.Prelude.{IsTrue, OnOk}
+use Rattle.std.proofs.Common.{◌≡◌, ◌<◌, ◌-◌, ◌^◌, min, false, arith, refl, ap, subst, sym, ◌∙◌, ◌∷◌, ◌++◌, [], length, Some}
+use Rattle.std.specs.Prelude.{OnOk}
 use Rattle.std.proofs.lemmas.Bool.{true≢false}
-use Rattle.legs.specs.Asking.{Ends, HasAdded, LegRefusals}
+use Rattle.legs.specs.Asking.{Ends, LegRefusals}
 use Rattle.legs.specs.Costs.{RisesAtMost, add_bound}
 use Rattle.legs.specs.Index.{CanFollowInTurn}
 use Rattle.legs.specs.Legs.{LegView}
-use Rattle.boxsearch.specs.Index.{IndexView, words, content, is_unfit, with_place, IsSound}
+use Rattle.boxsearch.specs.Index.{IndexView, words, content, with_place, IsSound}
 use Rattle.boxsearch.specs.Putting.{Puts}
-use Rattle.boxsearch.proofs.AddLemmas.{Laws, made, added, all_fit, asked, refusals, marked_after}
-use Rattle.boxsearch.proofs.EndLemmas.{lacks_put, leg_takes}
+use Rattle.boxsearch.proofs.AddLemmas.{Laws, made, added, asked, marked_after, refusals}
 use Rattle.boxsearch.proofs.OtherLemmas.{later_put}
-use Rattle.boxsearch.proofs.PlaceLemmas.{made_within, past_made}
-use Rattle.boxsearch.proofs.ResultLemmas.{from_ok, on_any}
+use Rattle.boxsearch.proofs.PlaceLemmas.{past_made}
+use Rattle.boxsearch.proofs.ResultLemmas.{from_ok}
 use Rattle.boxsearch.proofs.listed.TreeIndexLegIndex.add.Given as given
 use Rattle.boxsearch.proofs.listed.TreeIndexLegIndex.add.Goals as goal
 
@@ -42,7 +41,7 @@ returns-clause-refusals g c =
     let p = has_put g c in
     let works = sym (ap (λ (i : IndexView). i.tree.spent) c.self.view_is) ∙ c.if-self.false in
     subst (λ r. LegRefusals words c.args.self.now c.put.new.self (c.args.leg ∷ []) r) (sym c.answer.ensures)
-    (refusals (the_laws g c) c.args.self.now c.put.new.self c.args.leg c.put.result works p (lacks_put c.args.self.now c.put.new.self c.args.leg.feature (c.args.leg ∷ []) p.was p.found c.put.result p.lacks))
+    (refusals (the_laws g c) c.args.self.now c.put.new.self c.args.leg c.put.result works p)
 
 pub returns-clause-marked : goal.returns-clause-marked
 returns-clause-marked g c = marked_after c.args.self.now.cache c.put.new.self.cache (has_put g c).passes
@@ -50,11 +49,7 @@ returns-clause-marked g c = marked_after c.args.self.now.cache c.put.new.self.ca
 pub returns-clause-later : goal.returns-clause-later
 returns-clause-later g c =
     let p = has_put g c in
-    later_put c.args.self.now c.put.new.self p.shape p.passes p.others
-
-pub returns-clause-takes : goal.returns-clause-takes
-returns-clause-takes g c =
-    subst (λ r. OnOk r (HasAdded words c.args.self.now c.put.new.self (c.args.leg ∷ []))) (sym c.answer.ensures) (leg_takes c.args.self.now c.put.new.self c.args.leg c.put.result (has_put g c))
+    later_put c.args.self.now c.put.new.self p.shape p.passes
 
 pub returns-then-feature-len-clause-refusals : goal.returns-then-feature-len-clause-refusals
 returns-then-feature-len-clause-refusals g c =
@@ -72,24 +67,4 @@ returns-then-feature-len-clause-refusals g c =
       sound = λ s w. (let low = w.0.feature in let n = s.features in omega (arith, low, above, n));
       store = λ e. absurd cc;
       full = λ e. absurd cc;
-      lacks = λ e. absurd cc;
-      skips = λ e. inr (λ none. (let low = none.0 in omega (arith, low, above)));
-      blames = λ page e. absurd cc;
     }
-
-pub returns-clause-skips_none : goal.returns-clause-skips_none
-returns-clause-skips_none g c =
-    let old = c.args.self.now in
-    let own : c.leg.inside.feature ≡ c.args.leg.feature = ap (λ (l : LegView). l.feature) c.leg.view_is in
-    let mid : c.make_place.new.self ≡ made old c.leg.inside.feature = from_ok c.make_place.result (sym c.is_err.ensures.value ∙ c.if-is_err.false) c.make_place.ensures.ok in
-    let many : length c.self-2.inside.places.items ≡ length (with_place old.places c.leg.inside.feature) = ap (λ (i : IndexView). length i.places) (c.self-2.view_is ∙ mid) in
-    let len = c.len.ensures in
-    let within = c.if-feature-len.false in
-    let low = made_within old.places c.leg.inside.feature (omega (arith, many, len, within)) in
-    on_any c.answer.result (omega (arith, own, low), tt)
-
-pub returns-clause-fits : goal.returns-clause-fits
-returns-clause-fits g c =
-    let now = c.args.self.now in
-    subst (λ r. OnOk r (IsTrue now.cache.store.is_faithful → (page : ℕ) → is_unfit now (c.args.leg ∷ []) page → ⊥)) (sym c.answer.ensures)
-    (all_fit (the_laws g c) now c.put.new.self c.args.leg c.put.result (has_put g c))

@@ -1,21 +1,16 @@
-use Rattle.std.proofs.Common.{ℕ, ◌≡◌, ◌<◌, ◌∙◌, inr, OnOk, Err, true, false, List, length, All, ap, subst, sym, arith, refl}
-use Rattle.std.specs.Prelude.{IsTrue}
-use Rattle.std.specs.List.{Contains}
+use Rattle.std.proofs.Common.{◌≡◌, ◌<◌, ◌∙◌, Err, true, false, List, length, All, ap, subst, sym, arith, refl}
 use Rattle.std.proofs.lemmas.Bool.{true≢false}
-use Rattle.legs.specs.Asking.{FitsLeg, HasAdded, LegRefusals}
-use Rattle.legs.specs.Index.{legs_of, MayRefuseLeg, SkipNone}
+use Rattle.legs.specs.Asking.{LegRefusals}
+use Rattle.legs.specs.Index.{MayRefuseLeg, SkipNone}
 use Rattle.legs.specs.Legs.{LegView}
 use Rattle.legs.specs.declared.index.IndexFault.{IndexFault}
 use Rattle.legs.specs.declared.index.IndexFault.TheVariants as index
-use Rattle.legs.proofs.LastLemmas.{fits_alike, takes_alike}
 use Rattle.boxsearch.specs.Index.{IndexView, content, words}
-use Rattle.boxsearch.specs.Taking.{taken, AreTurns}
+use Rattle.boxsearch.specs.Taking.{AreTurns}
 use Rattle.boxsearch.specs.Turns.{IsTurnFault}
 use Rattle.boxsearch.specs.declared.turns.Turn.{Turn}
 use Rattle.boxsearch.proofs.AddLemmas.{Laws}
-use Rattle.boxsearch.proofs.AllLemmas.{AllLaws, all_added, all_asked, all_refusals}
-use Rattle.boxsearch.proofs.ResultLemmas.{on_any, on_ok}
-use Rattle.boxsearch.proofs.TurnLasts.{as_many_taken, same_legs}
+use Rattle.boxsearch.proofs.AllLemmas.{AllLaws, all_added, all_refusals}
 use Rattle.boxsearch.proofs.TurnSteps.{none_skipped}
 use Rattle.boxsearch.proofs.TurnOrder.{AreNumbered, are_numbered, are_turns, turns_within}
 use Rattle.boxsearch.proofs.listed.TreeIndexLegIndex.add_all.Given as given
@@ -29,9 +24,6 @@ no_turns old new legs fault works spent kind only = record {
   sound = λ s w. subst (λ f. MayRefuseLeg f) (sym (only (none_skipped (content old) legs (length old.places) s.features w))) tt;
   store = λ e. absurd (subst (λ f. IsTurnFault f) (let same : fault ≡ index.Store = cc in same) kind);
   full = λ e. absurd (subst (λ f. IsTurnFault f) (let same : fault ≡ index.StoreFull = cc in same) kind);
-  lacks = λ e. absurd (subst (λ f. IsTurnFault f) (let same : fault ≡ index.StoreFull = cc in same) kind);
-  skips = λ e. inr (λ none. (let same : fault ≡ index.Spent = cc in memory_not_spent (sym (only none) ∙ same)));
-  blames = λ page e. absurd (subst (λ f. IsTurnFault f) (let same : fault ≡ index.Damaged page = cc in same) kind);
 }
   where
     memory_not_spent : index.Memory ≡ index.Spent → ⊥
@@ -73,41 +65,11 @@ the_numbers g c =
 the_turns : (g : given.Over) (c : goal.After-drop-turns g) → AreTurns c.args.self.now.places c.args.self.now.tree.shape.leaf c.args.legs.now c.as_slice-2.result.now
 the_turns g c = are_turns c.args.self.now.places c.args.self.now.tree.shape.leaf c.args.legs.now c.as_slice-2.result.now (the_numbers g c)
 
--- they take the legs of each feature in their order
-same_taken : (g : given.Over) (c : goal.After-drop-turns g) (f : ℕ) → legs_of f (taken c.args.legs.now c.in-Ok.turns.items) ≡ legs_of f c.args.legs.now
-same_taken g c = same_legs c.laws.ensures.in_order c.as_slice.result.now c.from-most.result c.args.legs.now c.in-Ok.turns.items c.in-Ok.ensures.few c.in-Ok.ensures.permutation c.in-Ok.ensures.rises
-
 pub returns-clause-added : goal.returns-clause-added
 returns-clause-added g c =
     all_added (the_laws g c) (the_orders g c) c.args.self.now c.join_all.new.index c.args.legs.now c.as_slice-2.result.now (the_turns g c) c.join_all.result c.join_all.ensures.taking
 
-pub returns-clause-asks : goal.returns-clause-asks
-returns-clause-asks g c =
-    all_asked (the_laws g c) (the_orders g c) c.args.self.now c.join_all.new.index c.args.legs.now c.as_slice-2.result.now (the_turns g c) c.join_all.result (the_numbers g c) c.join_all.ensures.taking c.join_all.ensures.asks
-
 pub returns-clause-refusals : goal.returns-clause-refusals
 returns-clause-refusals g c =
     let works = sym (ap (λ (i : IndexView). i.tree.spent) c.self.view_is) ∙ c.if-self.false in
-    let same = subst (λ ts. (f : ℕ) → legs_of f (taken c.args.legs.now ts) ≡ legs_of f c.args.legs.now) (sym c.as_slice-2.ensures.value) (same_taken g c) in
-    all_refusals (the_laws g c) (the_orders g c) c.args.self.now c.join_all.new.index c.args.legs.now c.as_slice-2.result.now (the_turns g c) c.join_all.result same works c.join_all.ensures.taking
-
-pub returns-clause-takes : goal.returns-clause-takes
-returns-clause-takes g c =
-    let legs = c.args.legs.now in
-    let turns = c.in-Ok.turns.items in
-    let many = as_many_taken c.from-most.result legs turns _ _ c.in-Ok.ensures.permutation in
-    let takes = subst (λ ts. OnOk c.join_all.result (HasAdded words c.args.self.now c.join_all.new.index (taken legs ts))) c.as_slice-2.ensures.value c.join_all.ensures.takes in
-    on_ok c.join_all.result (takes_alike words c.args.self.now c.join_all.new.index (taken legs turns) legs (same_taken g c) many) takes
-
-pub returns-clause-skips_none : goal.returns-clause-skips_none
-returns-clause-skips_none g c =
-    let places = c.as_slice.ensures.value ∙ ap (λ (v : IndexView). v.places) c.self.view_is in
-    on_any c.join_all.result (subst (λ ps. SkipNone (length ps) c.args.legs.now) places c.in-Ok.ensures.skips_none)
-
-pub returns-clause-fits : goal.returns-clause-fits
-returns-clause-fits g c =
-    let old = c.args.self.now in
-    let legs = c.args.legs.now in
-    let turns = c.in-Ok.turns.items in
-    let fits = subst (λ ts. OnOk c.join_all.result (IsTrue old.cache.store.is_faithful → (leg : LegView) → Contains (taken legs ts) leg → FitsLeg words old (taken legs ts) leg)) c.as_slice-2.ensures.value c.join_all.ensures.fits in
-    on_ok c.join_all.result (λ h fa. fits_alike words old (taken legs turns) legs (same_taken g c) (h fa)) fits
+    all_refusals (the_laws g c) (the_orders g c) c.args.self.now c.join_all.new.index c.args.legs.now c.as_slice-2.result.now (the_turns g c) c.join_all.result works c.join_all.ensures.taking

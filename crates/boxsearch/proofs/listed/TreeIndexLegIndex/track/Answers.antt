@@ -5,8 +5,8 @@ use Rattle.legs.specs.Asking.{Denies}
 use Rattle.legs.specs.Questions.{OfFeature}
 use Rattle.legs.specs.Index.{legs_of}
 use Rattle.boxsearch.specs.Index.{words, tells}
-use Rattle.boxsearch.proofs.AskedLemmas.{asked_found, asked_known, asked_knows, asked_leaves, asked_most, asked_place, asked_refusals, asked_rises, room_recalls, walk_learns, walk_recalls}
-use Rattle.boxsearch.proofs.ResultLemmas.{from_ok, of_same, on_ok, seen_of}
+use Rattle.boxsearch.proofs.AskedLemmas.{asked_found, asked_known, asked_knows, asked_leaves, asked_place, asked_refusals, asked_rises}
+use Rattle.boxsearch.proofs.ResultLemmas.{from_ok, of_same, seen_of}
 use Rattle.boxsearch.proofs.TellLemmas.{none_told, track_told}
 use Rattle.boxsearch.proofs.TrackLemmas.{absent, absent_cost, rises_capped}
 use Rattle.boxsearch.proofs.listed.TreeIndexLegIndex.track.Goals as goal
@@ -50,21 +50,3 @@ trajectory-requires g c =
 pub invariant_of-self-2 : goal.invariant_of-self-2
 invariant_of-self-2 g c =
     asked_known c.self.view_is c.args.feature c.place.ensures c.in-Some.is (λ v. v.items) c.make_room.new.known.items c.self.invariant c.make_room.ensures.widens c.trajectory.new.cache c.trajectory.new.spans c.trajectory.ensures.reads.only c.laws.ensures.lasts c.trajectory.ensures.learns
-
-pub returns-then-is_err-clause-recalls : goal.returns-then-is_err-clause-recalls
-returns-then-is_err-clause-recalls g c = room_recalls c.self.view_is (map (λ spans. spans.items) c.make_room.new.known.items) c.make_room.ensures.holds
-
-pub returns-clause-recalls : goal.returns-clause-recalls
-returns-clause-recalls g c =
-    let room = from_ok c.make_room.result (sym c.is_err.ensures.value ∙ c.if-is_err.false) c.make_room.ensures.room in
-    walk_recalls (λ v. v.items) c.self.view_is c.args.feature c.trajectory.new.cache c.make_room.new.known.items c.trajectory.ensures.reads.only c.make_room.ensures.holds room c.trajectory.new.spans c.index_mut-spans.ensures.value c.trajectory.ensures.keeps
-
-pub returns-clause-learns : goal.returns-clause-learns
-returns-clause-learns g c =
-    let room = from_ok c.make_room.result (sym c.is_err.ensures.value ∙ c.if-is_err.false) c.make_room.ensures.room in
-    let at = asked_place c.self.view_is c.args.feature c.place.ensures c.in-Some.is in
-    on_ok c.answer.result (λ learns start. learns start tt)
-    (walk_learns (λ v. v.items) c.self.view_is c.args.feature c.trajectory.new.cache c.make_room.new.known.items c.trajectory.ensures.reads.only c.make_room.ensures.holds room c.trajectory.new.spans c.index_mut-spans.ensures.value at c.trajectory.result c.answer.ensures (λ _. Unit {0}) (λ fa start _ period _. c.trajectory.ensures.recalls fa (Some period)))
-
-pub returns-clause-most : goal.returns-clause-most
-returns-clause-most g c = asked_most c.self.view_is c.args.feature c.place.ensures c.in-Some.is c.trajectory.new.cache.asked c.trajectory.ensures.most

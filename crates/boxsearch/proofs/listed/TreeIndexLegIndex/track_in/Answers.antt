@@ -1,4 +1,4 @@
-use Rattle.std.proofs.Common.{set, sym, ap, ◌∙◌, ◌≤ℤ◌, Some, map}
+use Rattle.std.proofs.Common.{set, sym, ap, ◌∙◌, Some, map}
 use Rattle.std.specs.Prelude.{MatchResult, filter}
 use Rattle.legs.specs.Asking.{Denies, TellsSieved}
 use Rattle.legs.specs.Sieves.{IsSieved, sieved_same}
@@ -7,8 +7,7 @@ use Rattle.legs.specs.Costs.{RisesAtMost, track_in_bound}
 use Rattle.legs.specs.Index.{live_legs_of}
 use Rattle.legs.specs.Legs.{is_live}
 use Rattle.boxsearch.specs.Index.{words, content}
-use Rattle.boxsearch.proofs.AskedLemmas.{asked_found, asked_known, asked_knows, asked_known_rises, asked_leaves, asked_most, asked_place, asked_refusals, asked_rises, room_recalls, walk_knew, walk_learns, walk_recalls}
-use Rattle.boxsearch.proofs.KnowsLemmas.{le_then}
+use Rattle.boxsearch.proofs.AskedLemmas.{asked_found, asked_known, asked_knows, asked_leaves, asked_place, asked_refusals, asked_rises}
 use Rattle.boxsearch.proofs.ResultLemmas.{from_ok, of_same, seen_of}
 use Rattle.boxsearch.proofs.TellLemmas.{none_sieved, track_sieved}
 use Rattle.boxsearch.proofs.TrackLemmas.{absent, rises_capped_most}
@@ -47,9 +46,6 @@ pub returns-clause-refusals : goal.returns-clause-refusals
 returns-clause-refusals g c =
     asked_refusals c.self.view_is c.args.feature c.place.ensures c.in-Some.is c.trajectory_in.result c.answer.ensures c.trajectory_in.new.cache (map (λ spans. spans.items) (set c.make_room.new.known.items c.args.feature c.trajectory_in.new.spans)) (λ legs feature v. IsSieved c.args.sieve.now c.args.period.now (live_legs_of feature c.args.period.now legs) v.items) c.if-self.false c.trajectory_in.ensures.found c.trajectory_in.ensures.reads.caused
 
-pub returns-then-is_err-clause-recalls : goal.returns-then-is_err-clause-recalls
-returns-then-is_err-clause-recalls g c = room_recalls c.self.view_is (map (λ spans. spans.items) c.make_room.new.known.items) c.make_room.ensures.holds
-
 pub returns-clause-told : goal.returns-clause-told
 returns-clause-told g c =
     let f = c.args.feature in
@@ -57,26 +53,3 @@ returns-clause-told g c =
     let sieve = c.args.sieve.now in
     of_same (λ i r. MatchResult r (λ legs. TellsSieved words i f period sieve legs.items) (λ fault. Denies words i (OfFeature f (Some period)) fault)) c.self.view_is c.answer.ensures
     (track_sieved (seen_of c.self.view_is) c.trajectory_in.new.cache f period sieve c.in-Some.place (asked_place c.self.view_is f c.place.ensures c.in-Some.is) (λ legs. legs.items) c.trajectory_in.result c.trajectory_in.ensures.chain c.trajectory_in.ensures.legs c.trajectory_in.ensures.named c.trajectory_in.ensures.reads.caused)
-
-pub returns-clause-learns : goal.returns-clause-learns
-returns-clause-learns g c =
-    let room = from_ok c.make_room.result (sym c.is_err.ensures.value ∙ c.if-is_err.false) c.make_room.ensures.room in
-    let at = asked_place c.self.view_is c.args.feature c.place.ensures c.in-Some.is in
-    let from = c.args.period.now.start in
-    walk_learns (λ v. v.items) c.self.view_is c.args.feature c.trajectory_in.new.cache c.make_room.new.known.items c.trajectory_in.ensures.reads.only c.make_room.ensures.holds room c.trajectory_in.new.spans c.index_mut-spans.ensures.value at c.trajectory_in.result c.answer.ensures (λ start. from ≤ℤ start) (λ fa start low period starts. c.trajectory_in.ensures.recalls fa period (le_then from start period.start low starts))
-
-pub returns-clause-asks_known : goal.returns-clause-asks_known
-returns-clause-asks_known g c =
-    let room = from_ok c.make_room.result (sym c.is_err.ensures.value ∙ c.if-is_err.false) c.make_room.ensures.room in
-    let at = asked_place c.self.view_is c.args.feature c.place.ensures c.in-Some.is in
-    asked_known_rises c.self.view_is c.args.feature c.place.ensures c.in-Some.is c.trajectory_in.result c.answer.ensures c.args.period.now c.trajectory_in.new.cache.asked c.index_mut-spans.result.now.items
-    (walk_knew (λ v. v.items) c.self.view_is c.args.feature c.trajectory_in.new.cache c.make_room.new.known.items c.trajectory_in.ensures.reads.only c.make_room.ensures.holds room c.trajectory_in.new.spans c.index_mut-spans.ensures.value at c.args.period.now)
-    c.trajectory_in.ensures.met
-
-pub returns-clause-recalls : goal.returns-clause-recalls
-returns-clause-recalls g c =
-    let room = from_ok c.make_room.result (sym c.is_err.ensures.value ∙ c.if-is_err.false) c.make_room.ensures.room in
-    walk_recalls (λ v. v.items) c.self.view_is c.args.feature c.trajectory_in.new.cache c.make_room.new.known.items c.trajectory_in.ensures.reads.only c.make_room.ensures.holds room c.trajectory_in.new.spans c.index_mut-spans.ensures.value c.trajectory_in.ensures.keeps
-
-pub returns-clause-most : goal.returns-clause-most
-returns-clause-most g c = asked_most c.self.view_is c.args.feature c.place.ensures c.in-Some.is c.trajectory_in.new.cache.asked c.trajectory_in.ensures.most

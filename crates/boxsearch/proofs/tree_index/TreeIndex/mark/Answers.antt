@@ -1,8 +1,8 @@
-use Rattle.std.proofs.Common.{ℕ, ◌≡◌, ◌<◌, subst, IsTrue, OnOk, map}
+use Rattle.std.proofs.Common.{IsTrue, OnOk, map}
 use Rattle.legs.specs.Asking.{Refusals, Starts}
-use Rattle.boxsearch.specs.Index.{IndexView, words, IsMarked, MarksFirst, SyncsMark}
+use Rattle.boxsearch.specs.Index.{IndexView, words, IsMarked}
 use Rattle.boxsearch.specs.Beside.{with_cache}
-use Rattle.pagecache.specs.Cache.{Cache, payload_of}
+use Rattle.pagecache.specs.Cache.{Cache}
 use Rattle.boxsearch.specs.Answers.{of_cache}
 use Rattle.boxsearch.proofs.AnswerLemmas.{each_value}
 use Rattle.boxsearch.proofs.ResultLemmas.{of_same, seen_of}
@@ -16,7 +16,7 @@ returns-clause-starts g c =
     let known = map (λ spans. spans.items) c.new.result.items in
     let laws : FirstLaws = record { found = c.laws.ensures.same; stands = c.laws.ensures.same_stands } in
     of_same (λ i r. Starts words i (with_cache seen c.mark_page.new.cache known) r) c.self.view_is c.of_pages.ensures
-    (starts laws seen c.mark_page.new.cache known c.mark_page.ensures.marks c.mark_page.result c.mark_page.ensures.marked c.mark_page.ensures.others c.mark_page.ensures.first c.mark_page.ensures.unmarked c.mark_page.ensures.there c.mark_page.ensures.caused c.mark_page.ensures.asks)
+    (starts laws seen c.mark_page.new.cache known c.mark_page.ensures.marks c.mark_page.result c.mark_page.ensures.marked c.mark_page.ensures.others c.mark_page.ensures.first c.mark_page.ensures.unmarked c.mark_page.ensures.caused)
 
 pub returns-clause-refusals : goal.returns-clause-refusals
 returns-clause-refusals g c =
@@ -27,17 +27,6 @@ returns-clause-refusals g c =
 -- what is said of the cache that is marked is said of the index's
 mark_says : (g : given.Over) (c : goal.After-of_pages g) (P : Cache → Type 0) → OnOk c.mark_page.result (P c.self.inside.cache) → OnOk c.of_pages.result (P c.args.self.now.cache)
 mark_says g c P h = of_same (λ (i : IndexView) r. OnOk r (P i.cache)) c.self.view_is c.of_pages.ensures (each_value (λ fault. of_cache fault) (λ _. P c.self.inside.cache) c.mark_page.result h)
-
-pub returns-clause-header : goal.returns-clause-header
-returns-clause-header g c = mark_says g c (λ old. MarksFirst old c.mark_page.new.cache) c.mark_page.ensures.header
-
-pub returns-clause-synced : goal.returns-clause-synced
-returns-clause-synced g c = mark_says g c (λ old. SyncsMark old c.mark_page.new.cache) c.mark_page.ensures.synced
-
-pub returns-clause-others : goal.returns-clause-others
-returns-clause-others g c =
-    let new = c.mark_page.new.cache in
-    subst (λ i. IsTrue i.cache.store.is_faithful → (n : ℕ) → 0 < n → payload_of new n ≡ payload_of i.cache n) c.self.view_is c.mark_page.ensures.marks.rest
 
 pub returns-clause-marked : goal.returns-clause-marked
 returns-clause-marked g c = mark_says g c (λ old. IsTrue old.store.is_faithful → IsMarked c.mark_page.new.cache) c.mark_page.ensures.marked

@@ -1,12 +1,9 @@
-use Rattle.std.proofs.Common.{ℕ, OnOk, ◌≡◌, ◌+◌, ◌-◌, ◌^◌, ◌<◌, ◌∙◌, min, ap, subst, sym, arith, length, [], ◌∷◌, Some, slice_get, set, map}
+use Rattle.std.proofs.Common.{ℕ, OnOk, ◌≡◌, ◌+◌, ◌-◌, ◌^◌, ◌<◌, ◌∙◌, min, ap, subst, sym, arith, length, Some, slice_get, set, map}
 use Rattle.std.proofs.lemmas.Option.{slice_get-get_or}
 use Rattle.legs.specs.Legs.{LegView}
-use Rattle.tbtree.specs.Filling.{page_made}
-use Rattle.tbtree.specs.declared.tree.Place.{Place}
-use Rattle.tbtree.proofs.LeafLemmas.{placed_legs}
 use Rattle.boxsearch.specs.Index.{IndexView}
 use Rattle.boxsearch.specs.Putting.{Puts}
-use Rattle.boxsearch.proofs.ResultLemmas.{on_any, on_none, on_ok}
+use Rattle.boxsearch.proofs.ResultLemmas.{on_any, on_none}
 use Rattle.boxsearch.proofs.tree_index.TreeIndex.put.Given as given
 use Rattle.boxsearch.proofs.tree_index.TreeIndex.put.Goals.{After-is_ok}
 use Rattle.boxsearch.proofs.tree_index.TreeIndex.put.Goals as goal
@@ -29,21 +26,11 @@ put_makes g c legs counts =
       places = ap (λ i. set places i c.insert-result.new.place) feature;
       inserts = c.insert-result.ensures.inserts works;
       joins = c.insert-result.ensures.joins works;
-      fills = λ fa. on_ok c.insert-result.result (λ f. (page_made c.self.inside.tree.shape.leaf c.self.inside.cache.count c.index.result.now, f)) (c.insert-result.ensures.fills fa);
-      met = c.insert-result.ensures.met;
-      grown = c.insert-result.ensures.grown;
-      placed = on_ok c.insert-result.result (λ e. ap (λ (p : Place). p.legs) e ∙ placed_legs _ c.index.result.now (c.args.leg ∷ []) _) c.insert-result.ensures.place;
-      unmoved = c.insert-result.ensures.unmoved;
       shape = c.insert-result.ensures.shape;
-      room = let l = c.leaf.ensures.range.least_leaf in let v = c.leaf.ensures.value in omega (arith, l, v);
       passes = c.insert-result.ensures.passes;
-      others = c.insert-result.ensures.others;
       count = c.insert-result.ensures.length;
       few = let a = c.if-prove.false in let b = c.count.ensures.value in omega (arith, a, b);
       caused = c.insert-result.ensures.caused works;
-      blames = c.insert-result.ensures.blames works;
-      fits = c.insert-result.ensures.fits;
-      lacks = c.insert-result.ensures.lacks works;
       asked = c.insert-result.ensures.asked;
       works = c.insert-result.ensures.works;
       spent = c.insert-result.ensures.spent;

@@ -22,25 +22,13 @@ put_all_makes g c legs counts =
       is = c.insert_all-result.new.place;
       found = slice_get-get_or places c.args.feature c.index.result.now within ∙ ap Some (sym c.index.ensures);
       places = refl;
-      room = let l = c.leaf.ensures.range.least_leaf in let v = c.leaf.ensures.value in omega (arith, l, v);
       few = let a = c.if-prove.false in let b = c.count.ensures.value in omega (arith, a, b);
-      fills = c.insert_all-result.ensures.fills;
-      met = c.insert_all-result.ensures.met;
-      grown = c.insert_all-result.ensures.grown;
-      placed = c.insert_all-result.ensures.counted;
       shape = c.insert_all-result.ensures.shape;
       passes = c.insert_all-result.ensures.passes;
-      others = c.insert_all-result.ensures.others;
       count = c.insert_all-result.ensures.length;
       joins = c.insert_all-result.ensures.joins works;
       caused = c.insert_all-result.ensures.caused works;
-      blames = c.insert_all-result.ensures.blames works;
-      fits = c.insert_all-result.ensures.fits;
-      lacks = c.insert_all-result.ensures.lacks works;
       counted = counts;
-      asked = c.insert_all-result.ensures.asked;
-      more = c.insert_all-result.ensures.more;
-      higher = c.insert_all-result.ensures.higher;
       works = c.insert_all-result.ensures.works;
       spent = c.insert_all-result.ensures.spent;
     })

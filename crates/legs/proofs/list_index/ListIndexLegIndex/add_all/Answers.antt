@@ -1,11 +1,9 @@
-use Rattle.std.proofs.Common.{◌≡◌, ◌∙◌, ◌∷◌, [], ◌++◌, ◌+◌, drop, take, take-append-drop, ap, sym, subst}
+use Rattle.std.proofs.Common.{◌≡◌, ◌∙◌, ◌∷◌, [], ◌++◌, ◌+◌, drop, ap, sym, subst}
 use Rattle.std.proofs.lemmas.Bool.{true≢false}
 use Rattle.std.proofs.lemmas.List.{drop_more}
 use Rattle.std.proofs.lemmas.Result.{err_from_is_err_and}
-use Rattle.legs.specs.Index.{feature_count, SkipNone}
 use Rattle.legs.specs.Legs.{LegView}
-use Rattle.legs.proofs.GrowLemmas.{IsGrowing, growing-more, growing-refused, later-trans, list_words, skip_more}
-use Rattle.legs.proofs.LastLemmas.{takes_more}
+use Rattle.legs.proofs.GrowLemmas.{growing-refused, IsGrowing, growing-more, later-trans, list_words}
 use Rattle.legs.proofs.list_index.ListIndexLegIndex.add_all.Goals as goal
 
 pub returns-in_err-add-clause-refusals : goal.returns-in_err-add-clause-refusals
@@ -18,8 +16,7 @@ returns-in_err-add-clause-refusals c =
     let next = drop_more legs k leg c.loop-leg-test.true ∙ ap (λ (l : LegView). l ∷ drop (k + 1) legs) (sym c.leg-item.is) in
     let so_far : IsGrowing list_words old now legs (leg ∷ drop (k + 1) legs) = subst (λ left. IsGrowing list_words old now legs left) next c.loop-leg.invariant.growing in
     let p = err_from_is_err_and c.from_residual.result c.from_residual.ensures.1 in
-    let are : take k legs ++ leg ∷ drop (k + 1) legs ≡ legs = ap (λ l. take k legs ++ l) (sym next) ∙ take-append-drop k legs in
-    rw (p.1, p.2) (growing-refused list_words old now c.add.new.self legs (take k legs) (drop (k + 1) legs) leg c.in_err-add.field-0.0 (λ e. true≢false (sym e ∙ sym c.spent.ensures ∙ c.if-spent.false)) (λ e. true≢false (sym e ∙ c.loop-leg.invariant.takes.works)) c.loop-leg.invariant.takes.features are c.loop-leg.invariant.later.faults so_far (λ page e. absurd (c.in_err-add.ensures.refusals.blames page e).unfit) (λ e f. absurd f) c.in_err-add.ensures.refusals)
+    rw (p.1, p.2) (growing-refused list_words old now c.add.new.self legs (drop (k + 1) legs) leg c.in_err-add.field-0.0 (λ e. true≢false (sym e ∙ sym c.spent.ensures ∙ c.if-spent.false)) c.loop-leg.invariant.later.faults so_far c.in_err-add.ensures.refusals)
 
 pub loop-leg-preserved : goal.loop-leg-preserved
 loop-leg-preserved c =
@@ -34,6 +31,4 @@ loop-leg-preserved c =
     record {
       growing = growing-more list_words old now c.add.new.self legs (drop (k + 1) legs) leg so_far more.added;
       later = later-trans list_words old now c.add.new.self c.loop-leg.invariant.later more.later;
-      takes = takes_more list_words old now c.add.new.self legs k leg c.loop-leg-test.true c.leg-item.is c.loop-leg.invariant.takes more.takes;
-      skips = skip_more (feature_count old.legs) legs k leg c.loop-leg-test.true c.leg-item.is c.loop-leg.invariant.skips (subst (λ n. SkipNone n (leg ∷ [])) c.loop-leg.invariant.takes.features more.skips_none);
     }

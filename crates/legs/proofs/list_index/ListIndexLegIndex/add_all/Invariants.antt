@@ -1,6 +1,5 @@
-use Rattle.std.proofs.Common.{drop, take}
-use Rattle.legs.specs.Asking.{IsLater, HasAdded}
-use Rattle.legs.specs.Index.{feature_count, SkipNone}
+use Rattle.std.proofs.Common.{drop}
+use Rattle.legs.specs.Asking.{IsLater}
 use Rattle.legs.proofs.GrowLemmas.{IsGrowing, list_words}
 use Rattle.legs.proofs.list_index.ListIndexLegIndex.add_all.Given as goal
 
@@ -9,6 +8,4 @@ abbrev pub invariant-loop-leg : goal.invariant-loop-leg
 invariant-loop-leg l = record {
   growing : IsGrowing list_words l.fn.self l.self l.legs (drop l.leg-index l.legs);
   later : IsLater list_words l.fn.self l.self;
-  takes : HasAdded list_words l.fn.self l.self (take l.leg-index l.legs);
-  skips : SkipNone (feature_count l.fn.self.legs) (take l.leg-index l.legs);
 }

@@ -12,15 +12,3 @@ returns-in-Ok-clause-book g c = λ fa fb shape limits book h.
 pub returns-in-Ok-clause-pages : goal.returns-in-Ok-clause-pages
 returns-in-Ok-clause-pages g c = λ fa fb.
     subst HasPages (sym c.from_parts.ensures.parts) (record { begun = λ _. c.in-Ok.ensures.marked fa fb; idle = λ rests. absurd (true≢false rests) })
-
-pub returns-in-Err-clause-refuses : goal.returns-in-Err-clause-refuses
-returns-in-Err-clause-refuses g c = λ fa fb.
-    let e = c.in-Err.ensures in
-    record {
-      kept = λ catalogue tree places kept. record {
-        only = e.kept fa fb catalogue tree places kept;
-        whole = e.whole fa fb catalogue tree places kept;
-        chains = e.chains fa fb catalogue tree places kept;
-      };
-      unkept = λ none. record { damaged = e.damaged fa fb none; named = e.named fa fb none };
-    }

@@ -5,10 +5,8 @@ use Rattle.pagecache.specs.Cache.{IsSettled}
 use Rattle.boxsearch.specs.Index.{words}
 use Rattle.trajdb.specs.Db.{DbView}
 use Rattle.trajdb.specs.Faults.{run_fault_of}
-use Rattle.trajdb.specs.declared.RunFault.TheVariants.{Damaged, Failed}
+use Rattle.trajdb.specs.declared.RunFault.TheVariants.{Failed}
 use Rattle.trajdb.proofs.FaultLemmas.{leaves-trans}
-use Rattle.trajdb.specs.Checking.{IsFirstFault}
-use Rattle.trajdb.proofs.NamedLemmas.{damaged_of, named_before, none_flushed, passed_named}
 use Rattle.trajdb.proofs.SoundLemmas.{failed_spent, has_pages_of, law_of, question_fault, says_of, says_still, sound_of, tracks_of}
 use Rattle.trajdb.proofs.checking.Core+TreeIndex+S.check.Goals as goal
 
@@ -80,33 +78,3 @@ returns-clause-report g c = λ fa.
       legs = c.leg_count.ensures ∙ ap (λ (d : DbView). d.tracks.legs) is ∙ tracks.legs_are ∙ ap length e.legs;
       features = c.feature_count.ensures ∙ ap (λ (d : DbView). length d.tracks.names) is ∙ ap length e.names;
     }
-
-pub returns-in_err-flush-clause-named : goal.returns-in_err-flush-clause-named
-returns-in_err-flush-clause-named g c =
-    let p = err_from_is_err_and c.from_residual.result c.from_residual.ensures.1 in
-    rw (p.1, p.2) (λ fa n e.
-    let same : run_fault_of c.in_err-flush.field-0.0 ≡ Damaged n = cc in
-    absurd (none_flushed c.args.self.now.index.tree.spent c.in_err-flush.field-0.0 c.in_err-flush.ensures.works (λ spent. (c.in_err-flush.ensures.refusals.was_spent spent).0) n same))
-
-pub returns-in_err-check_index-clause-named : goal.returns-in_err-check_index-clause-named
-returns-in_err-check_index-clause-named g c =
-    let p = err_from_is_err_and c.from_residual-in_err-check_index.result c.from_residual-in_err-check_index.ensures.1 in
-    let old = c.args.self.now in
-    let mid = c.flush.new.self in
-    let reads = c.flush.ensures.reads in
-    rw (p.1, p.2) (λ fa n e.
-    let same : run_fault_of c.in_err-check_index.field-0.0 ≡ Damaged n = cc in
-    let is = damaged_of c.in_err-check_index.field-0.0 n same in
-    named_before old mid c.flush.ensures.leaves c.flush.ensures.same reads fa n
-    (c.in_err-check_index.ensures.named (reads.store.faithful ∙ fa) n (ap Err is)))
-
-pub returns-then-not-keeps_law-clause-named : goal.returns-then-not-keeps_law-clause-named
-returns-then-not-keeps_law-clause-named g c = λ fa n e.
-    let old = c.args.self.now in
-    let mid = c.flush.new.self in
-    let new = c.check_index.new.self in
-    let reads = c.flush.ensures.reads in
-    let faithful = reads.store.faithful ∙ fa in
-    let passed = passed_named mid new c.check_index.ensures.reads c.check_index.ensures.leaves.begun faithful (c.in_ok-check_index.ensures.whole faithful) (c.in_ok-check_index.ensures.sound faithful) (c.in_ok-check_index.ensures.says faithful) in
-    let zero : 0 ≡ n = cc in
-    named_before old mid c.flush.ensures.leaves c.flush.ensures.same reads fa n (subst (λ n. IsFirstFault mid n) zero passed)

@@ -1,4 +1,4 @@
-use Rattle.std.proofs.Common.{◌∙◌, All, subst, sym}
+use Rattle.std.proofs.Common.{◌∙◌, All}
 use Rattle.std.proofs.lemmas.Result.{IfErr-weaker, IfOk-weaker, err_from_is_err_and}
 use Rattle.legs.specs.Questions.{InBox}
 use Rattle.legs.specs.Boxes.{box_of, box_over, boxes_meet}
@@ -17,8 +17,7 @@ returns-clause-refused g c =
 pub returns-clause-named : goal.returns-clause-named
 returns-clause-named g c =
     IfErr-weaker c.legs_text.result _ _ (λ fault text.
-    legs_names g.I.Listed c.args.self.now c.legs_in.new.self.book (InBox (box_over c.args.rect.now c.args.period.now)) c.in_ok-legs.legs.items c.as_slice.result.now fault c.in_ok-legs.ensures.leaves.book c.in_ok-legs.ensures.says
-    (λ all. subst (All (IsThere c.args.self.now.book)) (sym c.as_slice.ensures.value) all) text) c.legs_text.ensures.fault
+    legs_names g.I.Listed c.args.self.now (All (IsThere c.legs_in.new.self.book) c.as_slice.result.now) (InBox (box_over c.args.rect.now c.args.period.now)) fault text) c.legs_text.ensures.fault
 
 pub returns-clause-says : goal.returns-clause-says
 returns-clause-says g c =

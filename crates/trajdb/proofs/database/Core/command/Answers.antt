@@ -1,5 +1,4 @@
-use Rattle.std.proofs.Common.{rules, Result, Ok, Err}
-use Rattle.std.specs.Prelude.{OnOk}
+use Rattle.std.proofs.Common.{rules}
 use Rattle.trajdb.proofs.database.Core.command.Goals as goal
 
 pub returns-in-Some : goal.returns-in-Some
@@ -10,10 +9,6 @@ returns-in-Some g c = record {
   says = search rules;
   named = search rules;
   asks = search rules;
-  asks_known = search rules;
-  most = search rules;
-  learns = search rules;
-  recalls = search rules;
   later = search rules;
   question = search rules;
   refused = search rules;
@@ -22,10 +17,6 @@ returns-in-Some g c = record {
   stopped = search rules;
   begins = search rules;
   only = search rules;
-  told_load = search rules;
-  unwritten = search rules;
-  whole = search rules;
-  told = search rules;
   pages = search rules;
   was_failed = search rules;
 }
@@ -38,10 +29,6 @@ returns-in-Features g c = rw (c.in-Features.is) (record {
   says = c.features_text.ensures.says;
   named = c.features_text.ensures.named;
   asks = c.features_text.ensures.asks;
-  asks_known = c.features_text.ensures.asks_known;
-  most = c.features_text.ensures.most;
-  learns = c.features_text.ensures.learns;
-  recalls = λ _. c.features_text.ensures.recalls;
   later = search rules;
   question = λ _. c.features_text.ensures.leaves;
   refused = search rules;
@@ -50,10 +37,6 @@ returns-in-Features g c = rw (c.in-Features.is) (record {
   stopped = search rules;
   begins = search rules;
   only = search rules;
-  told_load = search rules;
-  unwritten = search rules;
-  whole = search rules;
-  told = search rules;
   pages = search rules;
   was_failed = search rules;
 })
@@ -66,10 +49,6 @@ returns-in-Trajectory g c = rw (c.in-Trajectory.is, ← c.as_str-in-Trajectory.e
   says = c.track_text.ensures.says;
   named = c.track_text.ensures.named;
   asks = c.track_text.ensures.asks;
-  asks_known = search rules;
-  most = c.track_text.ensures.most;
-  learns = on_ok c.track_text.result (λ learns sound. learns sound.tracks.lawful.few_names) c.track_text.ensures.learns;
-  recalls = λ _. c.track_text.ensures.recalls;
   later = search rules;
   question = λ _. c.track_text.ensures.leaves;
   refused = search rules;
@@ -78,13 +57,6 @@ returns-in-Trajectory g c = rw (c.in-Trajectory.is, ← c.as_str-in-Trajectory.e
   stopped = search rules;
   begins = search rules;
   only = search rules;
-  told_load = search rules;
-  unwritten = search rules;
-  whole = search rules;
-  told = search rules;
   pages = search rules;
   was_failed = search rules;
-}) where
-  on_ok : {T E : Type 0} {P Q : Type 0} (r : Result T E) → (P → Q) → OnOk r P → OnOk r Q
-  on_ok (Ok x) f p = f p
-  on_ok (Err e) f p = tt
+})

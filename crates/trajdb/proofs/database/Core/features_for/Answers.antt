@@ -1,16 +1,13 @@
-use Rattle.std.proofs.Common.{ℕ, ⊎_elim, ◌≡◌, ◌∙◌, ◌+◌, ◌-◌, ◌<◌, ◌≤◌, List, sym, subst, ap, length, arith, refl, false, IsTrue}
+use Rattle.std.proofs.Common.{ℕ, ◌≡◌, ◌∙◌, ◌+◌, ◌-◌, ◌<◌, ◌≤◌, List, sym, subst, ap, length, arith, refl, false, IsTrue, Some}
 use Rattle.std.specs.List.{range_with_len}
 use Rattle.legs.specs.Legs.{LegView}
 use Rattle.legs.specs.Book.{Book}
 use Rattle.trajdb.specs.Answers.{HoldsOfFeature}
-use Rattle.legs.specs.Costs.{known_bound}
-use Rattle.trajdb.proofs.FaultLemmas.{leaves-refl, leaves-trans, bound_more, chains_all, chains_more, chains_next, knows_kept, known_more}
-use Rattle.trajdb.specs.Calls.{KnowsOf, feature_bound}
-use Rattle.trajdb.specs.Telling.{IsLiveTold}
-use Rattle.std.proofs.lemmas.Bool.{cases_lt}
+use Rattle.trajdb.proofs.FaultLemmas.{leaves-refl, leaves-trans, bound_more}
+use Rattle.trajdb.specs.Calls.{feature_bound}
 use Rattle.trajdb.proofs.PickLemmas.{IsPicking, picking-start, picking-yes, picking-no, picking-end, range_more, range_none, range_all}
 use Rattle.std.proofs.lemmas.Result.{err_from_is_err_and}
-use Rattle.trajdb.proofs.TellingLemmas.{IsPickingLive, live_before, live_end, live_no, live_yes, some_names}
+use Rattle.trajdb.proofs.TellingLemmas.{IsPickingLive, live_before, live_end, live_no, live_yes, names_before}
 use Rattle.trajdb.proofs.database.Core.features_for.Goals as goal
 use Rattle.trajdb.proofs.database.Core.features_for.Goals.{then-branch+in_ok-push, else-branch}
 
@@ -18,10 +15,6 @@ pub loop-feature-init : goal.loop-feature-init
 loop-feature-init g c = record {
   leaves = leaves-refl g.I.Listed c.args.self.now;
   asks = λ s. omega arith;
-  asks_known = λ s k. omega arith;
-  recalls = λ f start h. h;
-  told = λ f below. absurd (omega (arith, below));
-  learned = λ f below. absurd (omega (arith, below));
   picked = λ s.
       let book = c.args.self.now.book in
       let P : ℕ → Type 0 = HoldsOfFeature c.args.predicate c.args.rect.now c.args.period.now book.legs in
@@ -32,7 +25,6 @@ loop-feature-init g c = record {
       let L = IsPickingLive g.I.Listed c.args.self.now c.args.predicate c.args.rect.now c.args.period.now (range_with_len 0 (length book.names)) in
       subst (λ (l : List ℕ). L l c.new-features.result.items) (sym (range_all (length book.names)))
       (subst (λ (l : List ℕ). L (range_with_len 0 (length book.names)) l) (sym c.new-features.ensures.items) (λ rest h. h));
-  most = λ shape plan. omega arith;
 }
 
 pub loop-feature-preserved : goal.loop-feature-preserved
@@ -51,39 +43,6 @@ loop-feature-preserved g c = record {
       let same : cost (g.I.Listed.plan c.loop-feature.self.index) c.loop-feature.self.book.legs ≡ cost (g.I.Listed.plan c.args.self.now.index) c.args.self.now.book.legs = rw (c.loop-feature.invariant.leaves.index.later.plan, c.loop-feature.invariant.leaves.book) refl in
       let more = bound_more c.loop-feature.feature c.args.period.now (g.I.Listed.plan c.args.self.now.index) c.args.self.now.book.legs in
       omega (arith, so_far, now, same, more);
-  asks_known = λ s knows.
-      let inv = c.loop-feature.invariant in
-      let feature = c.loop-feature.feature in
-      let so_far = inv.asks_known s knows in
-      let few : length c.args.self.now.book.names ≤ 2147483648 = s.tracks.lawful.few_names in
-      let count = c.feature_count-feature-end.ensures few in
-      let test = c.loop-feature-test.true in
-      let less : feature < length c.args.self.now.book.names = omega (arith, count, test) in
-      let here = knows_kept g.I.Listed c.args.self.now c.loop-feature.self inv.leaves inv.recalls c.args.period.now feature (knows feature less) in
-      let now = c.in_ok-holds_for.ensures.asks_known here (inv.leaves.sound s) in
-      let cost = known_bound feature c.args.period.now in
-      let same : cost (g.I.Listed.plan c.loop-feature.self.index) c.loop-feature.self.book.legs ≡ cost (g.I.Listed.plan c.args.self.now.index) c.args.self.now.book.legs = rw (inv.leaves.index.later.plan, inv.leaves.book) refl in
-      let more = known_more feature c.args.period.now (g.I.Listed.plan c.args.self.now.index) c.args.self.now.book.legs in
-      omega (arith, so_far, now, same, more);
-  recalls = λ f start h. c.in_ok-holds_for.ensures.recalls f start (c.loop-feature.invariant.recalls f start h);
-  told = λ f below.
-      let feature = c.loop-feature.feature in
-      ⊎_elim
-      (λ (lt : f < feature). c.loop-feature.invariant.told f lt)
-      (λ (ge : feature ≤ f).
-      let is : feature ≡ f = omega (arith, ge, below) in
-      let now = c.in_ok-holds_for.ensures.says in
-      subst (λ (k : ℕ). IsLiveTold g.I.Listed c.args.self.now c.args.period.now k) is
-      (now.0, live_before g.I.Listed c.args.self.now c.loop-feature.self c.loop-feature.invariant.leaves c.args.period.now feature now.0 now.1))
-      (cases_lt f feature);
-  learned = λ f below.
-      let feature = c.loop-feature.feature in
-      ⊎_elim
-      (λ (lt : f < feature). knows_kept g.I.Listed c.loop-feature.self c.holds_for.new.self c.in_ok-holds_for.ensures.leaves c.in_ok-holds_for.ensures.recalls c.args.period.now f (c.loop-feature.invariant.learned f lt))
-      (λ (ge : feature ≤ f).
-      let is : feature ≡ f = omega (arith, ge, below) in
-      subst (λ (k : ℕ). KnowsOf g.I.Listed c.holds_for.new.self c.args.period.now k) is c.in_ok-holds_for.ensures.learns)
-      (cases_lt f feature);
   picked = λ s.
       let book = c.args.self.now.book in
       let n : ℕ = length book.names in
@@ -127,7 +86,6 @@ loop-feature-preserved g c = record {
             (live_no g.I.Listed old c.args.predicate c.args.rect.now c.args.period.now all others c.loop-feature.features.items c.loop-feature.feature told.0 so_far live
             (λ h. absurd (let t : IsTrue false = sym w.if-branch.false ∙ told.2.1 h in cc)))
       ];
-  most = chains_more g.I.Listed c.args.self.now.index c.loop-feature.self.index c.holds_for.new.self.index c.loop-feature.feature c.loop-feature.invariant.leaves.index c.loop-feature.invariant.most c.in_ok-holds_for.ensures.most;
 }
 
 pub returns-clause-found : goal.returns-clause-found
@@ -152,33 +110,4 @@ returns-clause-says g c = λ few.
 pub returns-in_err-holds_for-clause-named : goal.returns-in_err-holds_for-clause-named
 returns-in_err-holds_for-clause-named g c =
     let p = err_from_is_err_and c.from_residual.result c.from_residual.ensures.1 in
-    let test = c.loop-feature-test.true in
-    rw (p.1, p.2)
-    (some_names g.I.Listed c.args.self.now c.loop-feature.self c.loop-feature.invariant.leaves c.args.period.now c.loop-feature.feature _
-    (λ few. let count = c.feature_count-feature-end.ensures few in omega (arith, count, test)) c.loop-feature.invariant.told c.in_err-holds_for.ensures.named)
-
-pub returns-clause-learns : goal.returns-clause-learns
-returns-clause-learns g c = λ s f less.
-    let few : length c.args.self.now.book.names ≤ 2147483648 = s.tracks.lawful.few_names in
-    let count = c.feature_count-feature-end.ensures few in
-    let over = c.loop-feature-test.false in
-    let same : length c.loop-feature.self.book.names ≡ length c.args.self.now.book.names = ap (λ (b : Book). length b.names) c.loop-feature.invariant.leaves.book in
-    c.loop-feature.invariant.learned f (omega (arith, less, count, over, same))
-
-pub returns-clause-most : goal.returns-clause-most
-returns-clause-most g c = λ few.
-    let names = c.args.self.now.book.names in
-    let count = c.feature_count-feature-end.ensures few in
-    let end = c.loop-feature.auto.feature-end in
-    let within : c.loop-feature.feature ≤ length names = omega (arith, count, end) in
-    chains_all g.I.Listed c.args.self.now.index c.loop-feature.self.index c.loop-feature.feature (length names) within c.loop-feature.invariant.most
-
-pub returns-in_err-holds_for-clause-most : goal.returns-in_err-holds_for-clause-most
-returns-in_err-holds_for-clause-most g c = λ few.
-    chains_next g.I.Listed c.args.self.now.index c.loop-feature.self.index c.holds_for.new.self.index c.loop-feature.feature (length c.args.self.now.book.names)
-    (omega (arith, c.feature_count-feature-end.ensures few, c.loop-feature-test.true)) c.loop-feature.invariant.leaves.index c.loop-feature.invariant.most c.in_err-holds_for.ensures.most
-
-pub returns-in_err-push-clause-most : goal.returns-in_err-push-clause-most
-returns-in_err-push-clause-most g c = λ few.
-    chains_next g.I.Listed c.args.self.now.index c.loop-feature.self.index c.holds_for.new.self.index c.loop-feature.feature (length c.args.self.now.book.names)
-    (omega (arith, c.feature_count-feature-end.ensures few, c.loop-feature-test.true)) c.loop-feature.invariant.leaves.index c.loop-feature.invariant.most c.in_ok-holds_for.ensures.most
+    rw (p.1, p.2) (names_before g.I.Listed c.args.self.now c.loop-feature.self c.loop-feature.invariant.leaves (Some c.args.period.now) _ c.in_err-holds_for.ensures.named)

@@ -1,8 +1,6 @@
-use Rattle.std.proofs.Common.{ℕ, ◌<◌, ◌∙◌, List, All, length, subst, sym}
-use Rattle.std.specs.List.{range_with_len}
-use Rattle.trajdb.specs.Telling.{PicksLive}
+use Rattle.std.proofs.Common.{◌<◌, ◌∙◌, All, length, Some}
 use Rattle.std.proofs.lemmas.Result.{IfErr-weaker, IfOk-weaker}
-use Rattle.trajdb.proofs.TellingLemmas.{features_names, shown_names}
+use Rattle.trajdb.proofs.TellingLemmas.{shown_names, track_names}
 use Rattle.trajdb.specs.Answers.{HoldsOfFeature}
 use Rattle.trajdb.proofs.FaultLemmas.{text_refused, features_there}
 use Rattle.trajdb.proofs.database.Core.features_text.Goals as goal
@@ -21,5 +19,4 @@ returns-clause-says g c =
 pub returns-clause-named : goal.returns-clause-named
 returns-clause-named g c =
     IfErr-weaker c.names_text.result _ _ (λ fault text.
-    features_names g.I.Listed c.args.self.now c.features_for.new.self.book c.args.predicate c.args.rect.now c.args.period.now c.as_slice.result.now fault c.in_ok-features.ensures.leaves.book
-    (λ few. subst (λ (l : List ℕ). PicksLive g.I.Listed c.args.self.now c.args.predicate c.args.rect.now c.args.period.now (range_with_len 0 (length c.args.self.now.book.names)) l) (sym c.as_slice.ensures.value) (c.in_ok-features.ensures.says few)) text) c.names_text.ensures.fault
+    track_names g.I.Listed c.args.self.now (All (λ feature. feature < length c.features_for.new.self.book.names) c.as_slice.result.now) (Some c.args.period.now) fault text) c.names_text.ensures.fault

@@ -4,7 +4,6 @@ use Rattle.legs.specs.Asking.{Denies}
 use Rattle.legs.specs.Book.{feature_of}
 use Rattle.legs.specs.Limits.{most}
 use Rattle.legs.specs.Questions.{OfFeature}
-use Rattle.trajdb.proofs.FaultLemmas.{none_asked, track_asked}
 use Rattle.trajdb.proofs.TellingLemmas.{denied_of, told_none, told_of}
 use Rattle.trajdb.proofs.database.Core.legs_of.Goals as goal
 
@@ -18,12 +17,9 @@ returns-in_ok-track-in-Some-clause-says g c =
 
 pub returns-in_err-track-in-Some-clause-named : goal.returns-in_err-track-in-Some-clause-named
 returns-in_err-track-in-Some-clause-named g c =
-    let names = c.args.self.now.book.names in
-    let there : length c.args.self.now.book.names ≤ most → feature_of c.args.self.now.book.names c.args.name.now ≡ Some c.in-Some.feature =
-    rw (← c.self.view_is) (λ few. sym (c.feature.ensures (omega (arith, few))) ∙ c.in-Some.is) in
     let denied : Denies g.I.Listed c.args.self.now.index (OfFeature c.in-Some.feature None) c.in_err-track-in-Some.field-0.0 = rw (← c.self.view_is) c.in_err-track-in-Some.ensures.told in
     let p = err_from_is_err_and c.from_residual.result c.from_residual.ensures.1 in
-    rw (p.1, p.2) (denied_of g.I.Listed c.args.self.now (length names ≤ most) (feature_of names c.args.name.now) c.in-Some.feature there c.in_err-track-in-Some.field-0.0 denied)
+    rw (p.1, p.2) (denied_of g.I.Listed c.args.self.now None c.in-Some.feature c.in_err-track-in-Some.field-0.0 denied)
 
 pub returns-in-None-clause-says : goal.returns-in-None-clause-says
 returns-in-None-clause-says g c =
@@ -31,18 +27,3 @@ returns-in-None-clause-says g c =
     let there : length c.args.self.now.book.names ≤ most → feature_of c.args.self.now.book.names c.args.name.now ≡ None =
     rw (← c.self.view_is) (λ few. sym (c.feature.ensures (omega (arith, few))) ∙ c.in-None.is) in
     λ few. told_none g.I.Listed c.args.self.now (feature_of names c.args.name.now) c.new.result.items (there few) c.new.ensures.items
-
-pub returns-in_ok-track-in-Some-clause-most : goal.returns-in_ok-track-in-Some-clause-most
-returns-in_ok-track-in-Some-clause-most g c =
-    rw (← c.self.view_is) (λ few.
-    track_asked g.I.Listed c.self.inside.index _ (feature_of c.self.inside.tracks.names c.args.name.now) c.in-Some.feature (sym (c.feature.ensures (omega (arith, few))) ∙ c.in-Some.is) c.in_ok-track-in-Some.ensures.most)
-
-pub returns-in_err-track-in-Some-clause-most : goal.returns-in_err-track-in-Some-clause-most
-returns-in_err-track-in-Some-clause-most g c =
-    rw (← c.self.view_is) (λ few.
-    track_asked g.I.Listed c.self.inside.index _ (feature_of c.self.inside.tracks.names c.args.name.now) c.in-Some.feature (sym (c.feature.ensures (omega (arith, few))) ∙ c.in-Some.is) c.in_err-track-in-Some.ensures.most)
-
-pub returns-in-None-clause-most : goal.returns-in-None-clause-most
-returns-in-None-clause-most g c =
-    rw (← c.self.view_is) (λ few.
-    none_asked g.I.Listed c.self.inside.index (feature_of c.self.inside.tracks.names c.args.name.now) (sym (c.feature.ensures (omega (arith, few))) ∙ c.in-None.is))

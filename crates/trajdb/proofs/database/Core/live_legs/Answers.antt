@@ -1,11 +1,10 @@
-use Rattle.std.proofs.Common.{◌∙◌, IsTrue, Some, false, sym}
+use Rattle.std.proofs.Common.{◌∙◌, Some, sym}
 use Rattle.std.proofs.lemmas.Result.{err_from_is_err_and}
 use Rattle.legs.specs.Asking.{Denies}
 use Rattle.legs.specs.Book.{Book}
 use Rattle.legs.specs.Questions.{OfFeature}
 use Rattle.legs.specs.Sieves.{sieved_same}
-use Rattle.legs.specs.Tracks.{IsOver}
-use Rattle.trajdb.proofs.TellingLemmas.{live_denied}
+use Rattle.trajdb.proofs.TellingLemmas.{denied_of}
 use Rattle.trajdb.proofs.database.Core.live_legs.Goals as goal
 
 pub returns-then-is_over-clause-found : goal.returns-then-is_over-clause-found
@@ -17,8 +16,6 @@ returns-then-is_over-clause-found g c =
 
 pub returns-in_err-track_in-clause-named : goal.returns-in_err-track_in-clause-named
 returns-in_err-track_in-clause-named g c =
-    let still : IsOver c.args.self.now.tracks c.args.feature c.args.period.now → ⊥ =
-    rw (← c.self.view_is) (λ over. absurd (let t : IsTrue false = sym c.if-is_over.false ∙ c.is_over.ensures.exact.1 over in cc)) in
     let denied : Denies g.I.Listed c.args.self.now.index (OfFeature c.args.feature (Some c.args.period.now)) c.in_err-track_in.field-0.0 = rw (← c.self.view_is) c.in_err-track_in.ensures.told in
     let p = err_from_is_err_and c.from_residual.result c.from_residual.ensures.1 in
-    rw (p.1, p.2) (live_denied g.I.Listed c.args.self.now c.args.period.now c.args.feature c.in_err-track_in.field-0.0 still denied)
+    rw (p.1, p.2) (denied_of g.I.Listed c.args.self.now (Some c.args.period.now) c.args.feature c.in_err-track_in.field-0.0 denied)

@@ -1,6 +1,8 @@
 use Rattle.std.proofs.Common.{All}
 use Rattle.std.proofs.lemmas.Result.{IfErr-weaker, IfOk-weaker, err_from_is_err_and}
-use Rattle.trajdb.proofs.TellingLemmas.{picked_denied, picked_names, shown_before}
+use Rattle.legs.specs.Questions.{InBox}
+use Rattle.predicates.specs.Near.{box_near}
+use Rattle.trajdb.proofs.TellingLemmas.{denied_names, legs_names, shown_before}
 use Rattle.trajdb.specs.Answers.{HoldsOfLeg}
 use Rattle.legs.specs.Law.{IsThere}
 use Rattle.trajdb.proofs.FaultLemmas.{text_refused, there_picked}
@@ -22,10 +24,9 @@ returns-clause-says g c =
 pub returns-clause-named : goal.returns-clause-named
 returns-clause-named g c =
     IfErr-weaker c.legs_text.result _ _ (λ fault text.
-    picked_names g.I.Listed c.args.self.now c.args.predicate c.args.rect.now c.args.period.now c.legs_for.new.self.book c.in_ok-legs.legs.items c.as_slice.result.now fault c.in_ok-legs.ensures.leaves.book c.in_ok-legs.ensures.says
-    c.as_slice.ensures.value text) c.legs_text.ensures.fault
+    legs_names g.I.Listed c.args.self.now (All (IsThere c.legs_for.new.self.book) c.as_slice.result.now) (InBox (box_near c.args.predicate c.args.rect.now c.args.period.now)) fault text) c.legs_text.ensures.fault
 
 pub returns-in_err-legs-clause-named : goal.returns-in_err-legs-clause-named
 returns-in_err-legs-clause-named g c =
     let p = err_from_is_err_and c.from_residual.result c.from_residual.ensures.1 in
-    rw (p.1, p.2) (picked_denied g.I.Listed c.args.self.now c.args.predicate c.args.rect.now c.args.period.now _ c.in_err-legs.ensures.named)
+    rw (p.1, p.2) (denied_names g.I.Listed c.args.self.now (InBox (box_near c.args.predicate c.args.rect.now c.args.period.now)) _ c.in_err-legs.ensures.named)

@@ -1,5 +1,5 @@
 use Rattle.std.proofs.Common.{◌≡◌, ℕ, length, false}
-use Rattle.trajdb.specs.Calls.{BeginsBy, IsLater, KeepsPages, LoadsWholeSome}
+use Rattle.trajdb.specs.Calls.{IsLater, KeepsPages}
 use Rattle.trajdb.specs.Script.{lines_of}
 use Rattle.trajdb.specs.Database.{IsSound}
 use Rattle.trajdb.proofs.RunLemmas.{HasBegun, IsAt, IsLeft}
@@ -13,7 +13,6 @@ invariant-loop-rest g l = record {
   lives : l.self.failed ≡ false;
   later : IsLater g.I.Listed l.initial.self l.self;
   pages : KeepsPages g.I.Listed l.initial.self l.self;
-  whole : BeginsBy l.initial.self l.self (LoadsWholeSome l.files (lines_of l.script));
   refuses_none : (g.O.Output.seen l.out).refusals ≡ (g.O.Output.seen l.initial.out).refusals;
   left : (k : ℕ) × IsLeft (lines_of l.script) l.rest k;
   traced : (k : ℕ) × IsTracedAt g.I.Listed l.files (g.O.Output.seen l.initial.out).contents (g.O.Output.seen l.out).contents l.initial.self l.self (lines_of l.script) l.rest k;

@@ -1,5 +1,4 @@
-use Rattle.std.proofs.Common.{◌≤◌, ◌∙◌, All, length}
-use Rattle.legs.specs.Limits.{most}
+use Rattle.std.proofs.Common.{◌∙◌, All, None}
 use Rattle.std.proofs.lemmas.Result.{IfErr-weaker, IfOk-weaker}
 use Rattle.trajdb.proofs.TellingLemmas.{shown_before, track_names}
 use Rattle.legs.specs.Book.{feature_of}
@@ -23,5 +22,4 @@ returns-clause-says g c =
 pub returns-clause-named : goal.returns-clause-named
 returns-clause-named g c =
     IfErr-weaker c.legs_text.result _ _ (λ fault text.
-    track_names g.I.Listed c.args.self.now (length c.args.self.now.book.names ≤ most) (feature_of c.args.self.now.book.names c.args.name.now) c.legs_of.new.self.book c.in_ok-legs.legs.items c.as_slice.result.now fault c.in_ok-legs.ensures.leaves.book c.in_ok-legs.ensures.says
-    c.as_slice.ensures.value text) c.legs_text.ensures.fault
+    track_names g.I.Listed c.args.self.now (All (IsThere c.legs_of.new.self.book) c.as_slice.result.now) None fault text) c.legs_text.ensures.fault

@@ -5,9 +5,6 @@ use Rattle.trajdb.proofs.db.Db.legs.Goals as goal
 pub returns-clause-found : goal.returns-clause-found
 returns-clause-found g c = rw (← c.self.view_is) c.legs_for.ensures.found
 
-pub returns-clause-recalls : goal.returns-clause-recalls
-returns-clause-recalls g c = rw (← c.self.view_is) c.legs_for.ensures.recalls
-
 pub returns-clause-keeps : goal.returns-clause-keeps
 returns-clause-keeps g c =
     let lives : c.self.inside.core.failed ≡ false = sym (λ i. (c.self-inside.view_is i).core.failed) ∙ c.if-self.false in

@@ -1,8 +1,5 @@
-use Rattle.std.proofs.Common.{rules, length, sym, subst, false}
-use Rattle.legs.specs.Book.{Book}
+use Rattle.std.proofs.Common.{rules, sym, subst, false}
 use Rattle.pages.specs.Store.{Stays}
-use Rattle.boxsearch.specs.Index.{written}
-use Rattle.trajdb.specs.Calls.{IsBookOf}
 use Rattle.trajdb.specs.Db.{DbView}
 use Rattle.trajdb.proofs.LastingLemmas.{opened_book}
 use Rattle.trajdb.proofs.SafeLemmas.{opened_safe}
@@ -13,11 +10,6 @@ returns-in-Ok g c = record {
   book = λ fa shape limits book h.
       opened_book shape limits book c.in-Ok.catalogue c.in-Ok.index false c.restored.result c.restored.ensures.core c.restored.ensures.limits (c.in-Ok.ensures.book fa shape limits book h);
   holds = search rules;
-  kept = search rules;
-  stands = λ fa.
-      let kept = (c.in-Ok.ensures.rest fa).kept in
-      let b = c.laws-2.ensures.books (length (written c.in-Ok.index)) c.in-Ok.catalogue c.in-Ok.index.places kept.lawful kept.says.limits in
-      subst (λ (d : DbView). (book : Book) × IsBookOf d book) (sym c.restored.ensures.core) (b.0, record { limits = kept.says.limits; tracks = b.1; head = b.2; rows = b.4 });
   idle = search rules;
   begun = search rules;
   lives = search rules;
@@ -32,6 +24,4 @@ returns-in-Ok g c = record {
       let stays = subst (λ (d : DbView). Stays s d.index.cache.store) (sym c.restored.ensures.core) c.in-Ok.ensures.stored in
       opened_safe s c.restored.result (g.met.S.PageStore.lawful c.args.store) fa stays sound;
   caused = search rules;
-  damaged = search rules;
-  named = search rules;
 }

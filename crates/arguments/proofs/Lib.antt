@@ -1,4 +1,0 @@
-pub mod OrderLemmas
-pub mod ProgramLemmas
-pub mod RefusalLemmas
-pub mod TakenLemmas

@@ -1,0 +1,4 @@
+pub mod PartLemmas
+pub mod SignLemmas
+pub mod ShareLemmas
+pub mod TermLemmas

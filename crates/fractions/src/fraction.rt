@@ -1,0 +1,51 @@
+//! Fractions with a denominator above 0.
+ghost use Rattle.std.specs.Prelude.{◌≡◌, ◌<◌, ◌^◌, ℤ, pos, ◌+ℤ◌, ◌*ℤ◌, ◌<ℤ◌, unsigned_abs};
+ghost use Rattle.std.specs.Ordering.{int_cmp};
+
+use crate::parts::compare_parts;
+use std::cmp::Ordering;
+
+/// A fraction of two whole numbers, in any terms.
+#[derive(Clone, Copy, Debug)]
+pub struct Fraction {
+    pub num: i128,
+    pub den: i128,
+    ghost positive: { pos 0 <ℤ den },
+}
+
+/// One fraction against another.
+pub fn compare(a: Fraction, b: Fraction) -> Ordering
+    ensures { result ≡ int_cmp (a.num *ℤ b.den) (b.num *ℤ a.den) }
+{
+    let (a_size, a_den) = (a.num.unsigned_abs(), a.den.unsigned_abs());
+    let (b_size, b_den) = (b.num.unsigned_abs(), b.den.unsigned_abs());
+    if a.num < 0 {
+        if b.num < 0 {
+            compare_parts(b_size, b_den, a_size, a_den)
+        } else {
+            Ordering::Less
+        }
+    } else if b.num < 0 {
+        Ordering::Greater
+    } else {
+        compare_parts(a_size, a_den, b_size, b_den)
+    }
+}
+
+/// The sign of c0 + c1 * s at a fraction s: of c0 * den + c1 * num, against 0.
+pub fn sign_at(c0: i128, c1: i128, at: Fraction) -> Ordering
+    // c0 is below 2^127 in size.
+    requires small { unsigned_abs c0 < 2 ^ 127 }
+    // So is c1.
+    requires small_slope { unsigned_abs c1 < 2 ^ 127 }
+    // The order of c0 * den + c1 * num and 0, as whole numbers without bound.
+    ensures { result ≡ int_cmp (c0 *ℤ at.den +ℤ c1 *ℤ at.num) (pos 0) }
+{
+    if c1 > 0 {
+        compare(at, Fraction { num: -c0, den: c1 })
+    } else if c1 < 0 {
+        compare(Fraction { num: c0, den: -c1 }, at)
+    } else {
+        c0.cmp(&0)
+    }
+}

@@ -1,0 +1,24 @@
+use Rattle.std.proofs.Common.{refl, arith, ◌∙◌}
+use Rattle.pagecache.proofs.BringLemmas.{all_read_after, stopped_after}
+use Rattle.pagecache.proofs.CacheLemmas.{rests, steps-trans}
+use Rattle.pagecache.proofs.slots.Slots.take_eight.Goals as goal
+
+pub places-init : goal.places-init
+places-init g c = record { steps = rests _ c.requires.sound; length = refl }
+
+pub take_in-requires-clause-read : goal.take_in-requires-clause-read
+take_in-requires-clause-read g c = (all_read_after _ _ _ _ _ 8 c.places.invariant.steps c.requires.read).each c.places.place (omega arith)
+
+pub take_in-requires-clause-digest : goal.take_in-requires-clause-digest
+take_in-requires-clause-digest g c = c.digests_of-all.ensures c.places.place (omega arith)
+
+pub places-preserved : goal.places-preserved
+places-preserved g c =
+    let i = c.places.invariant in
+    let e = c.take_in.ensures in record { steps = steps-trans _ _ _ i.steps e.steps; length = e.length ∙ i.length }
+
+pub returns-in-Err-clause-steps : goal.returns-in-Err-clause-steps
+returns-in-Err-clause-steps g c = steps-trans _ _ _ c.places.invariant.steps c.take_in.ensures.steps
+
+pub returns-in-Err-clause-cause : goal.returns-in-Err-clause-cause
+returns-in-Err-clause-cause g c = stopped_after _ _ _ c.in-Err.fault c.places.invariant.steps c.in-Err.ensures.cause

@@ -1,0 +1,227 @@
+//! Several pages are brought into memory at once: eight digests cost less than four one by one.
+ghost use Rattle.std.specs.Prelude.{ℕ, ◌≡◌, ◌<◌, ◌^◌, [], None, IsTrue, IfOk, IfErr, slice_index_or};
+ghost use Rattle.digests.specs.Pages.{digest_of};
+ghost use Rattle.pagecache.specs.Cache.{SameLength, IsStopped, in_memory};
+ghost use Rattle.pagecache.specs.Slots.{AreRead, HasFailed, IsRead, IsSound, Steps, seen_of};
+
+use crate::fault::CacheFault;
+use crate::slots::{Slots, blank};
+use digests::digests;
+use pages::{PageStore, unseal_with};
+
+/// From how many pages on eight are read at once. Fewer cost less one by one.
+const FEW: usize = 4;
+
+/// Eight pages of zero bytes.
+fn blanks() -> [[u8; 4096]; 8] {
+    [[0; 4096]; 8]
+}
+
+/// A number; where there is none, one that no page has.
+fn number_at(numbers: &[u32], place: usize) -> u32 {
+    if place < numbers.len() {
+        numbers[place]
+    } else {
+        u32::MAX
+    }
+}
+
+/// The eight numbers from a place on. Behind the last number stands one that no page has.
+fn eight_at(numbers: &[u32], group: usize) -> [u32; 8]
+    requires { group < 2 ^ 32 }
+{
+    let at = 8 * group;
+    [
+        number_at(numbers, at),
+        number_at(numbers, at + 1),
+        number_at(numbers, at + 2),
+        number_at(numbers, at + 3),
+        number_at(numbers, at + 4),
+        number_at(numbers, at + 5),
+        number_at(numbers, at + 6),
+        number_at(numbers, at + 7),
+    ]
+}
+
+/// The digests of eight pages.
+fn digests_of(pages: &[[u8; 4096]; 8]) -> [[u8; 32]; 8]
+    ensures { (j : ℕ) → j < 8
+        → slice_index_or result j [] ≡ digest_of (slice_index_or pages.now j []) }
+{
+    digests(&[
+        &pages[0], &pages[1], &pages[2], &pages[3], &pages[4], &pages[5], &pages[6], &pages[7],
+    ])
+}
+
+impl<S: PageStore> Slots<S> {
+    /// Whether a page is there and not in memory.
+    fn is_absent(&self, number: u32) -> bool
+        ensures below { IsTrue result → number < self.now.count }
+        ensures absent { IsTrue result → in_memory (seen_of S.seen self.now) number ≡ None }
+    {
+        if number >= self.count {
+            return false;
+        }
+        match self.held.peek(&number) {
+            Some(_) => false,
+            None => true,
+        }
+    }
+
+    /// How many of eight pages are there and not in memory.
+    fn absent(&self, numbers: &[u32; 8]) -> usize {
+        let mut count = 0usize;
+        for number in numbers {
+            if self.is_absent(*number) {
+                count = count.saturating_add(1);
+            }
+        }
+        count
+    }
+
+    /// Reads a page that is there and not in memory, and says whether it is such a page.
+    fn read_absent(&mut self, number: u32, page: &mut [u8; 4096]) -> Result<bool, CacheFault>
+        requires { IsSound (seen_of S.seen self.old) }
+        ensures steps { Steps (seen_of S.seen self.old) (seen_of S.seen self.new) }
+        ensures length { SameLength (seen_of S.seen self.old) (seen_of S.seen self.new) }
+        ensures read { IfOk result
+            (λ is_read. IsTrue is_read → IsRead (seen_of S.seen self.new) number page.new) }
+        ensures cause { IfErr result
+            (λ fault. HasFailed fault (seen_of S.seen self.old) (seen_of S.seen self.new)) }
+    {
+        if !self.is_absent(number) {
+            return Ok(false);
+        }
+        self.store.read(number, page)?;
+        Ok(true)
+    }
+
+    /// Reads those of eight pages that are there and not in memory, and says which those are.
+    fn read_eight(
+        &mut self,
+        numbers: &[u32; 8],
+        pages: &mut [[u8; 4096]; 8],
+    ) -> Result<[bool; 8], CacheFault>
+        requires { IsSound (seen_of S.seen self.old) }
+        ensures steps { Steps (seen_of S.seen self.old) (seen_of S.seen self.new) }
+        ensures length { SameLength (seen_of S.seen self.old) (seen_of S.seen self.new) }
+        ensures read { IfOk result
+            (λ found. AreRead (seen_of S.seen self.new) numbers.now found pages.new 8) }
+        ensures cause { IfErr result
+            (λ fault. HasFailed fault (seen_of S.seen self.old) (seen_of S.seen self.new)) }
+    {
+        let mut found = [false; 8];
+        'places: for place in 0..8 {
+            match self.read_absent(numbers[place], &mut pages[place]) {
+                Ok(is_read) => found[place] = is_read,
+                Err(fault) => return Err(fault),
+            }
+        }
+        Ok(found)
+    }
+
+    /// Takes a page into memory that was found and read, where it is sealed. Its digest is given.
+    fn take_in(
+        &mut self,
+        found: bool,
+        number: u32,
+        page: &[u8; 4096],
+        digest: &[u8; 32],
+    ) -> Result<(), CacheFault>
+        requires sound { IsSound (seen_of S.seen self.old) }
+        requires read { IsTrue found → IsRead (seen_of S.seen self.old) number page.now }
+        requires digest { digest.now ≡ digest_of page.now }
+        ensures steps { Steps (seen_of S.seen self.old) (seen_of S.seen self.new) }
+        ensures length { SameLength (seen_of S.seen self.old) (seen_of S.seen self.new) }
+        ensures cause { IfErr result
+            (λ fault. IsStopped fault (seen_of S.seen self.old) (seen_of S.seen self.new)) }
+    {
+        if !found {
+            return Ok(());
+        }
+        // A number may stand twice.
+        if !self.is_absent(number) {
+            return Ok(());
+        }
+        let payload = match unseal_with(number, page, digest) {
+            Ok(payload) => payload,
+            // It is for `page` to name it.
+            Err(_) => return Ok(()),
+        };
+        match self.make_room() {
+            Ok(()) => {}
+            Err(fault) => return Err(fault),
+        }
+        match self.keep(number, payload) {
+            Ok(()) => Ok(()),
+            Err(fault) => Err(fault),
+        }
+    }
+
+    /// Takes those of eight pages into memory that were read and are sealed.
+    fn take_eight(
+        &mut self,
+        numbers: &[u32; 8],
+        found: [bool; 8],
+        pages: &[[u8; 4096]; 8],
+    ) -> Result<(), CacheFault>
+        requires sound { IsSound (seen_of S.seen self.old) }
+        requires read { AreRead (seen_of S.seen self.old) numbers.now found pages.now 8 }
+        ensures steps { Steps (seen_of S.seen self.old) (seen_of S.seen self.new) }
+        ensures length { SameLength (seen_of S.seen self.old) (seen_of S.seen self.new) }
+        ensures cause { IfErr result
+            (λ fault. IsStopped fault (seen_of S.seen self.old) (seen_of S.seen self.new)) }
+    {
+        let all = digests_of(pages);
+        'places: for place in 0..8 {
+            match self.take_in(found[place], numbers[place], &pages[place], &all[place]) {
+                Ok(()) => {}
+                Err(fault) => return Err(fault),
+            }
+        }
+        Ok(())
+    }
+
+    /// Brings those of eight pages into memory that are there and not in memory, where they are
+    /// not few.
+    fn bring_eight(&mut self, numbers: &[u32; 8]) -> Result<(), CacheFault>
+        requires { IsSound (seen_of S.seen self.old) }
+        ensures steps { Steps (seen_of S.seen self.old) (seen_of S.seen self.new) }
+        ensures length { SameLength (seen_of S.seen self.old) (seen_of S.seen self.new) }
+        ensures cause { IfErr result
+            (λ fault. IsStopped fault (seen_of S.seen self.old) (seen_of S.seen self.new)) }
+    {
+        if self.absent(numbers) < FEW {
+            return Ok(());
+        }
+        let mut pages = blanks();
+        let found = match self.read_eight(numbers, &mut pages) {
+            Ok(found) => found,
+            Err(fault) => return Err(fault),
+        };
+        match self.take_eight(numbers, found, &pages) {
+            Ok(()) => Ok(()),
+            Err(fault) => Err(fault),
+        }
+    }
+
+    /// Brings those of some pages into memory that are there and not in memory, eight at a time,
+    /// as far as they fill half of it at most.
+    pub(crate) fn bring(&mut self, numbers: &[u32]) -> Result<(), CacheFault>
+        requires { IsSound (seen_of S.seen self.old) }
+        ensures steps { Steps (seen_of S.seen self.old) (seen_of S.seen self.new) }
+        ensures length { SameLength (seen_of S.seen self.old) (seen_of S.seen self.new) }
+        ensures cause { IfErr result
+            (λ fault. IsStopped fault (seen_of S.seen self.old) (seen_of S.seen self.new)) }
+    {
+        let most = self.held.cap().get() / 16;
+        let groups = most.min(numbers.len().div_ceil(8)).min(1 << 16);
+        'groups: for group in 0..groups {
+            match self.bring_eight(&eight_at(numbers, group)) {
+                Ok(()) => {}
+                Err(fault) => return Err(fault),
+            }
+        }
+        Ok(())
+    }
+}

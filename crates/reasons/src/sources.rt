@@ -1,0 +1,27 @@
+//! Files of other forms, by their first line, and what makes a file of ours of them.
+use crate::fields::field_at;
+use crate::finding::Found;
+
+/// Whether a record has a field of that text, in upper or lower case.
+fn has_field(found: &Found, name: &str) -> bool {
+    (0..found.row.len()).any(|place| field_at(&found.row, place).eq_ignore_ascii_case(name))
+}
+
+/// Whether a record begins by one of these texts.
+fn begins_by(found: &Found, texts: [&str; 2]) -> bool {
+    let first = field_at(&found.row, 0);
+    texts.into_iter().any(|text| first.starts_with(text))
+}
+
+/// What makes a file of ours of one that begins by such a record; blank where that is not known.
+pub(crate) fn source_hint(found: &Found) -> &'static str {
+    if has_field(found, "mmsi") {
+        "; it looks like AIS reports, of which tools/from_ais makes a file to load"
+    } else if has_field(found, "location-long") || has_field(found, "location_long") {
+        "; it looks like a Movebank download, of which tools/from_movebank makes a file to load"
+    } else if begins_by(found, ["<?xml", "<gpx"]) {
+        "; it looks like GPX, of which tools/from_gpx makes a file to load"
+    } else {
+        ""
+    }
+}

@@ -1,0 +1,91 @@
+//! The cases that the lines give.
+use crate::numbers::Numbers;
+use std::alloc::{AllocError, Global};
+use zones::{Course, Place, Position, Ring};
+
+/// A course, the part of it that is asked for, and a zone.
+#[derive(Drop)]
+pub struct Case {
+    pub course: Course,
+    pub first: Place,
+    pub last: Place,
+    pub rings: Vec<Ring>,
+}
+
+fn position(numbers: &mut Numbers) -> Option<Position> {
+    let x = numbers.take()?;
+    let y = numbers.take()?;
+    Position::new(x, y)
+}
+
+fn place(numbers: &mut Numbers) -> Option<Place> {
+    let num = numbers.take()?;
+    let den = numbers.take()?;
+    Place::new(num as i128, den as i128)
+}
+
+fn ring(alloc: Global, numbers: &mut Numbers) -> Result<Option<Ring>, AllocError> {
+    let mut corners = Vec::new(alloc);
+    let Some(count) = numbers.take() else {
+        return Ok(None);
+    };
+    for _ in 0..count {
+        match position(numbers) {
+            Some(corner) => corners.push(corner)?,
+            None => return Ok(None),
+        }
+    }
+    Ok(Some(Ring::new(corners)))
+}
+
+fn rings(alloc: Global, numbers: &mut Numbers) -> Result<Option<Vec<Ring>>, AllocError> {
+    let mut rings = Vec::new(alloc);
+    for _ in 0..1000 {
+        if numbers.is_done() {
+            return Ok(Some(rings));
+        }
+        match ring(alloc, numbers)? {
+            Some(ring) => rings.push(ring)?,
+            None => return Ok(None),
+        }
+    }
+    Ok(None)
+}
+
+#[derive(Drop)]
+struct Asked {
+    course: Course,
+    first: Place,
+    last: Place,
+}
+
+fn asked_of(numbers: &mut Numbers) -> Option<Asked> {
+    let from = position(numbers)?;
+    let to = position(numbers)?;
+    let first = place(numbers)?;
+    let last = place(numbers)?;
+    Some(Asked {
+        course: Course::new(from, to),
+        first,
+        last,
+    })
+}
+
+/// The case of a line; `None` where it gives none.
+pub fn read_case(alloc: Global, line: &str) -> Result<Option<Case>, AllocError> {
+    let Some(mut numbers) = Numbers::of_line(alloc, line)? else {
+        return Ok(None);
+    };
+    let Some(asked) = asked_of(&mut numbers) else {
+        return Ok(None);
+    };
+    let Some(rings) = rings(alloc, &mut numbers)? else {
+        return Ok(None);
+    };
+    Ok(Some(Case {
+        course: asked.course,
+        first: asked.first,
+        last: asked.last,
+        rings,
+    }))
+}

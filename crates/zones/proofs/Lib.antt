@@ -1,0 +1,17 @@
+pub mod Products
+pub mod EdgeLemmas
+pub mod ZoneLemmas
+pub mod Examples
+pub mod Orders
+pub mod Closed
+pub mod Signs
+pub mod Kept
+pub mod Pieces
+pub mod TurnLemmas
+pub mod Shrinking
+pub mod PieceLemmas
+pub mod CompareLemmas
+pub mod Outside
+pub mod Falling
+pub mod CutLemmas
+pub mod OffBox

@@ -1,0 +1,8 @@
+pub mod Places
+pub mod Boxes
+pub mod Edges
+pub mod Zones
+pub mod Turns
+pub mod Stays
+pub mod Cuts
+pub mod Entries

@@ -1,0 +1,17 @@
+//! Polygons, exactly: where on a straight course it is in a zone.
+#![tactic(auto)]
+
+mod cuts;
+mod edges;
+mod entries;
+mod inside;
+mod leaving;
+mod places;
+mod staying;
+mod tests;
+mod turns;
+
+pub use cuts::{Cut, Place};
+pub use inside::is_inside;
+pub use places::{Course, Position, Ring};
+pub use staying::stays;

@@ -1,0 +1,72 @@
+"""Works with stores of mftb, a trajectory database whose answers are proved; this package itself is not.
+
+store = mftb.Store("port.mftb")
+store.load("monday.csv")
+for leg in store.legs("crosses", (0, 0, 10, 10), ("2024-06-03T09:00:00Z", "2024-06-03T10:00:00Z")):
+    print(leg.feature, leg.begin)
+"""
+
+from mftb.errors import (
+    FileRefused,
+    FileUnreadable,
+    MemoryExhausted,
+    MftbError,
+    OutputFailed,
+    ProgramFailed,
+    ProgramMissing,
+    QuestionRefused,
+    Refused,
+    StoreDamaged,
+    StoreError,
+    StoreFull,
+    StoreInUse,
+    StoreMalformed,
+    StoreMissing,
+    StoreUnfinished,
+    StoreVersion,
+    WrongWords,
+    ZonesRefused,
+)
+from mftb.fleet.book import Fleet
+from mftb.records import Counts, Dwell, Feature, Gap, Info, Leg, Loaded, Report, Stay, Visit
+from mftb.results import Answer
+from mftb.runs import MftbWarning
+from mftb.store import Batch, Store
+
+__version__ = "0.1.0"
+__all__ = [
+    "Answer",
+    "Batch",
+    "Counts",
+    "Dwell",
+    "Feature",
+    "FileRefused",
+    "FileUnreadable",
+    "Fleet",
+    "Gap",
+    "Info",
+    "Leg",
+    "Loaded",
+    "MemoryExhausted",
+    "MftbError",
+    "MftbWarning",
+    "OutputFailed",
+    "ProgramFailed",
+    "ProgramMissing",
+    "QuestionRefused",
+    "Refused",
+    "Report",
+    "Stay",
+    "Store",
+    "StoreDamaged",
+    "StoreError",
+    "StoreFull",
+    "StoreInUse",
+    "StoreMalformed",
+    "StoreMissing",
+    "StoreUnfinished",
+    "StoreVersion",
+    "Visit",
+    "WrongWords",
+    "ZonesRefused",
+]

@@ -1,0 +1,568 @@
+"""What the readers of feeds share: positions in, a file of legs out (docs/user/FILES.md).
+
+The files are read once, and nothing is written before each line was judged: until then positions
+wait in a temporary file on disk. What is held in memory is one position of each feature. Only
+where a feature goes back in time are positions put into order, in a temporary database on disk.
+
+Coordinates and attribute values are texts from end to end: no number is computed from them but the
+corners of the header line, which pick the least and the greatest text, and with --unwrap a
+longitude beyond the date line.
+"""
+
+from __future__ import annotations
+
+import contextlib
+import copy
+import gc
+import io
+import marshal
+import math
+import os
+import re
+import signal
+import sqlite3
+import sys
+import tempfile
+from argparse import Namespace
+from collections import Counter
+from collections.abc import Callable, Iterable, Iterator, Mapping, Sequence
+from decimal import Decimal
+from functools import lru_cache, partial
+from itertools import islice
+from typing import NamedTuple, TextIO, TypeAlias
+
+from mftb.commands import ended, say
+from mftb.feeds import seams
+from mftb.feeds.fixes import Speed, Unwrapped, meets, over_date_line
+from mftb.legfiles import beside
+from mftb.sources import BATCH, Columns
+from mftb.texts import BadLine, LeftOut, Refused, feature_name, instant, several
+
+NEEDS_QUOTES = re.compile('[",\r\n]')
+# Positions between two words of progress, and lines that cannot be read of which each is named.
+STRIDE, NAMED = 50_000, 20
+# The form of marshal that looks for no value that stands twice.
+PLAIN = 2
+
+
+class IsThere(Refused):
+    """That all positions of the files were converted before."""
+
+
+class Position(NamedTuple):
+    """Where a feature was at a moment (in milliseconds since 1970), with its attribute values."""
+
+    feature: str
+    moment: int
+    place: tuple
+    values: tuple = ()
+    segment: int = 0
+
+
+position_of = partial(tuple.__new__, Position)
+
+
+# What is read of a line: a position, or why there is none.
+Item: TypeAlias = Position | Exception
+FileReader: TypeAlias = Callable[[str], Iterator[tuple[int, Item]]]
+Reader: TypeAlias = Callable[[Namespace], FileReader]
+
+# Reading
+
+
+class Spool:
+    """Positions in a temporary file, in the order in which they came, and their bounds."""
+
+    def __init__(self) -> None:
+        self.file, self.sizes, self.bounds = tempfile.TemporaryFile(), [], Bounds()
+
+    def add(self, positions: list[Position]) -> None:
+        """Keeps a batch of positions."""
+        if positions:
+            self.bounds.cover(positions)
+            self.sizes.append(self.file.write(marshal.dumps(list(map(tuple, positions)), PLAIN)))
+
+    def __iter__(self) -> Iterator[Position]:
+        self.file.seek(0)
+        for size in self.sizes:
+            yield from map(position_of, marshal.loads(self.file.read(size)))
+
+
+class Sorted:
+    """Positions by their moments, those of one moment as they came; memory does not grow."""
+
+    def __init__(self, positions: Iterable[Position]) -> None:
+        # An empty name is a temporary file, which is removed when it is closed.
+        self.store = sqlite3.connect("")
+        self.store.execute("pragma temp_store = file")
+        self.store.execute("create table position (moment integer, number integer primary key, rest blob)")
+        rest = ((it.moment, marshal.dumps(tuple(it))) for it in positions)
+        self.store.executemany("insert into position (moment, rest) values (?, ?)", rest)
+
+    def __iter__(self) -> Iterator[Position]:
+        for (rest,) in self.store.execute("select rest from position order by moment, number"):
+            yield Position(*marshal.loads(rest))
+
+
+class Bounds:
+    """The first and the last moment of positions, and the corners of their places."""
+
+    def __init__(self) -> None:
+        self.first = self.last = None
+        self.low, self.high = [], []
+
+    def cover(self, positions: Sequence[tuple]) -> None:
+        """Takes positions in, which are tuples; there is at least one."""
+        moments = [it[1] for it in positions]
+        moments += [] if self.first is None else [self.first, self.last]
+        self.first, self.last = min(moments), max(moments)
+        axes = [(texts, list(map(float, texts))) for texts in zip(*[it[2] for it in positions])]
+        lows, highs = (self.low, self.high) if self.low else ([None] * len(axes),) * 2
+        self.low = [corner(*axis, min, end) for axis, end in zip(axes, lows)]
+        self.high = [corner(*axis, max, end) for axis, end in zip(axes, highs)]
+
+
+def corner(texts, numbers, most, end):
+    """The first of the least texts of numbers, or of the greatest, where `end` was that so far."""
+    # As floats keep the order, they only spare most comparisons of the decimals.
+    found = most(numbers)
+    if end is not None and most(found, float(end)) != found:
+        return end
+    ties = dict.fromkeys(text for text, number in zip(texts, numbers) if number == found)
+    if end is not None and float(end) == found:
+        ties = {end: None, **ties}
+    return most(ties, key=Decimal) if len(ties) > 1 else next(iter(ties))
+
+
+class Sieve:
+    """What the words of the command line leave out, line by line, or add to a position."""
+
+    def __init__(self, options: Namespace, begins: Mapping[str, Position]) -> None:
+        self.options, self.begins = options, begins
+        # The first feature that is not later than where it ended, and its moments.
+        self.early = []
+
+    def __bool__(self) -> bool:
+        options = self.options
+        wanted = options.start, options.end, options.source, options.prefix
+        return any(it is not None for it in wanted) or bool(self.begins)
+
+    def take(self, path: str, line: int, item: Item) -> Item:
+        """The position that is left of an item, or why none is."""
+        options = self.options
+        if isinstance(item, Exception):
+            return item
+        if options.prefix is not None:
+            try:
+                item = item._replace(feature=feature_name(options.prefix + item.feature, "the name with --prefix"))
+            except BadLine as why:
+                return why
+        if options.start is not None and item.moment < options.start:
+            return LeftOut("before --from")
+        if options.end is not None and item.moment > options.end:
+            return LeftOut("after --to")
+        if options.source is not None:
+            item = item._replace(values=(*item.values, f"{path}:{line}"))
+        begin = self.begins.get(item.feature)
+        if begin is None or item.moment > begin.moment:
+            return item
+        if not self.early:
+            self.early = [item, item]
+        if item.feature == self.early[0].feature:
+            self.early = [min(self.early[0], item, key=when), max(self.early[1], item, key=when)]
+        return LeftOut(f"not later than {options.before}")
+
+    def question(self) -> str:
+        """Whether these files were loaded before, in words."""
+        first, last = self.early
+        end = instant(self.begins[first.feature].moment)
+        times = f"is here from {instant(first.moment)} to {instant(last.moment)}"
+        return f"already loaded? {first.feature!r} {times}, and ended at {end}"
+
+
+def when(position: Position) -> int:
+    return position.moment
+
+
+class Feed:
+    """The positions of the files, and what was seen of them.
+
+    `reader` makes what gives the line numbers of a file, each with its position, or with why it
+    has none. `begins` is where each feature ended before.
+    """
+
+    def __init__(
+        self, tool: str, reader: Reader, options: Namespace, begins: Mapping[str, Position], quiet: bool = False
+    ) -> None:
+        self.tool, self.reader, self.options, self.quiet = tool, reader, options, quiet
+        self.begins, self.sieve = begins, Sieve(options, begins)
+        self.counts, self.spool = Counter(), Spool()
+        self.bounds = self.spool.bounds
+        self.lines, self.features, self.bad = 0, 0, 0
+        # The last moment so far, and the first feature that goes back in time.
+        self.latest, self.disorder = -math.inf, None
+        self.ordered, self.written = self.spool, 0
+        self.legs = Legs(options, self.counts, begins)
+
+    def survey(self) -> None:
+        """Judges every line, and sees what the header needs and whether there is an order."""
+        ends = {}
+        for path, lines, items in self.batches():
+            self.lines += len(items)
+            kept = [item for item in items if item.__class__ is Position]
+            if len(kept) < len(items):
+                for line, item in zip(lines, items):
+                    if item.__class__ is not Position:
+                        self.leave_out(path, line, item)
+                lines = [line for line, item in zip(lines, items) if item.__class__ is Position]
+            self.spool.add(kept)
+            self.follow(path, lines, kept, ends)
+        self.features = len(ends)
+        self.judge(ends)
+        self.order()
+
+    def follow(self, path, lines, positions, ends):
+        """Notes where each feature is now, and the first that goes back in time."""
+        moments = [it[1] for it in positions]
+        if not self.disorder and [self.latest, *moments] != sorted([self.latest, *moments]):
+            for line, (feature, moment, _, _, _) in zip(lines, positions):
+                if moment < ends.get(feature, moment):
+                    self.disorder = f"{path} line {line}: {feature!r} goes back in time"
+                    break
+                ends[feature] = moment
+        self.latest = max([self.latest, *moments])
+        ends.update(zip([it[0] for it in positions], moments))
+
+    def leave_out(self, path: str, line: int, why: Exception) -> None:
+        """Counts a line without a position; one that cannot be read ends all, or is named."""
+        if isinstance(why, LeftOut):
+            self.counts[str(why)] += 1
+            return
+        if not self.options.skip_bad:
+            raise Refused(f"{path} line {line}: {why}; nothing is written (see --skip-bad)")
+        self.bad += 1
+        if self.bad <= NAMED:
+            self.say(f"{path} line {line}: {why}")
+        elif self.bad == NAMED + 1:
+            self.say("further lines that cannot be read are only counted")
+        self.counts["that cannot be read"] += 1
+
+    def say(self, what: object) -> None:
+        if not self.quiet:
+            say(self.tool, what)
+
+    def batches(self):
+        """What the files have, with a word of progress on a terminal."""
+        terminal, read = sys.stderr.isatty(), self.reader(self.options)
+        take = self.sieve.take if self.sieve else None
+        for path in self.options.files:
+            number = 0
+            for lines, items in read(path):
+                if terminal and number // STRIDE < (number + len(items)) // STRIDE:
+                    say(self.tool, f"{path} line {lines[-1]}", end="")
+                number += len(items)
+                if take:
+                    items = [take(path, line, item) for line, item in zip(lines, items)]
+                yield path, lines, items
+            if not number:
+                self.say(f"{path} has nothing to convert; it is passed over")
+
+    def judge(self, ends: Mapping[str, int]) -> None:
+        """Refuses files without a position and columns that no file has."""
+        files, kept = self.options.files, self.options.kept
+        if not ends and self.sieve.early:
+            raise IsThere(
+                f"nothing here is later than {self.options.before}; {self.sieve.question()}; nothing is written"
+            )
+        if not ends:
+            raise Refused("there is no position in these files; nothing is written")
+        if kept.first_missing():
+            raise Refused(f"no file has a column {kept.first_missing()!r}; nothing is written")
+        for name, count in kept.lacking.items():
+            self.say(f"{count} of {len(files)} files have no column {name!r}: it is blank there")
+        early = sum(count for why, count in self.counts.items() if why.startswith("not later"))
+        if 2 * early >= self.lines and self.sieve.early:
+            self.say(self.sieve.question())
+
+    def order(self) -> None:
+        """Sorts the positions where a feature goes back in time, and covers where legs begin."""
+        if self.disorder:
+            self.say(f"{self.disorder}; sorting by time, in a temporary file on disk")
+            self.ordered = Sorted(self.spool)
+        if self.options.unwrap:
+            self.ordered, self.bounds = Unwrapped(self.ordered, self.begins), Bounds()
+            for position in self.ordered:
+                self.bounds.cover([position])
+        earliest = self.bounds.first - self.options.gap
+        for begin in self.begins.values():
+            if begin.moment >= earliest:
+                self.bounds.cover([begin])
+
+
+# Legs
+
+
+class Legs:
+    """Makes the legs of positions, where each feature's come in time order: pairs of positions.
+
+    Of a repeated instant the first position is kept. No leg spans a gap, joins two segments, or
+    goes over the date line, which in a plane would be a leg around the whole world. What is too
+    fast is left out, or only counted.
+    """
+
+    def __init__(self, options: Namespace, counts: Counter, begins: Mapping[str, Position]) -> None:
+        self.gap, self.counts = options.gap, counts
+        self.leaves_out = options.most is not None
+        self.speed = Speed(options.most or options.usual, options.in_degrees)
+        self.is_over = over_date_line if options.in_degrees else lambda one, two: False
+        # Of each feature the last position that was kept, and whether that is in a leg.
+        self.last = {name: (begin, True) for name, begin in begins.items()}
+        # Of a feature whose first position is in no leg, one that was too fast from there.
+        self.doubts = {}
+
+    def of(self, positions: Iterable[Position]) -> Iterator[tuple[Position, Position]]:
+        last, gap, nothing = self.last, self.gap, (None, True)
+        is_over, exceeded, glance = self.is_over, self.speed.exceeded, self.speed.glance
+        for here in positions:
+            feature, moment, place, _, segment = here
+            before, in_leg = last.get(feature, nothing)
+            if before is not None:
+                _, earlier, start, _, part = before
+                span = moment - earlier
+                if 0 < span <= gap and segment == part and not is_over(start[0], place[0]):
+                    # What is slow enough at a glance needs no second one.
+                    apart = abs(float(place[0]) - float(start[0])) + abs(float(place[1]) - float(start[1]))
+                    if apart > glance * span and exceeded(before, here):
+                        before = self.too_fast(before, in_leg, here)
+                    if before is not None:
+                        yield before, here
+                        last[feature] = here, True
+                    continue
+                if self.is_repeated(before, here):
+                    continue
+            if not in_leg:
+                self.counts["alone"] += 1
+            last[feature] = here, False
+        self.counts["alone"] += sum(not in_leg for _, in_leg in last.values())
+
+    def is_repeated(self, before: Position, here: Position) -> bool:
+        """Counts why there is no leg between two positions; whether it is a repeated instant."""
+        if before.segment != here.segment:
+            self.counts["between segments"] += 1
+        elif before.moment == here.moment:
+            self.counts["with a repeated instant"] += 1
+            return True
+        elif here.moment - before.moment > self.gap:
+            self.counts["gaps"] += 1
+        else:
+            self.counts["over the date line"] += 1
+        return False
+
+    def too_fast(self, before: Position, in_leg: bool, here: Position) -> Position | None:
+        """The position from which a leg leads here all the same, if there is one.
+
+        Of two positions of which one is wrong, the later one is left out; but where the earlier
+        one is in no leg, and two later ones agree, that is the wrong one.
+        """
+        if not self.leaves_out:
+            self.counts["fast"] += 1
+            return before
+        other = None if in_leg else self.doubts.get(here.feature)
+        if other and self.agree(other, here):
+            return self.doubts.pop(here.feature)
+        self.counts["too fast"] += 1
+        if not in_leg:
+            self.doubts[here.feature] = here
+        return None
+
+    def agree(self, one: Position, two: Position) -> bool:
+        near = 0 < two.moment - one.moment <= self.gap and one.segment == two.segment
+        apart = self.is_over(one.place[0], two.place[0]) or self.speed.exceeded(one, two)
+        return near and not apart
+
+
+# The output
+
+
+@lru_cache(maxsize=10_000)
+def field(text: str) -> str:
+    """A field of CSV, in quotes where it needs them."""
+    if NEEDS_QUOTES.search(text):
+        return '"' + text.replace('"', '""') + '"'
+    return text
+
+
+@lru_cache(maxsize=2000)
+def seconds(milliseconds: int) -> str:
+    """A span in seconds, as the shortest decimal."""
+    whole, part = divmod(milliseconds, 1000)
+    return f"{whole}.{part:03}".rstrip("0") if part else str(whole)
+
+
+def write(out: TextIO, feed: Feed) -> None:
+    """Writes the two header lines and a record for each leg."""
+    bounds, options = feed.bounds, feed.options
+    start = bounds.first - bounds.first % 1000
+    low, high = " ".join(bounds.low), " ".join(bounds.high)
+    ends = instant(start), instant(bounds.last)
+    head = ["@stboundedby", options.crs, options.dimension, low, high, *ends, "sec"]
+    names = [text for pair in options.written for text in pair]
+    for line in head, ["@columns", "mfidref", "trajectory", *names]:
+        out.write(",".join(map(field, line)) + "\n")
+    legs = kept_legs(feed)
+    while found := list(islice(legs, BATCH)):
+        feed.written += len(found)
+        out.write("".join([record(one, two, start) for one, two in found]))
+
+
+def record(one, two, start):
+    """The line of a leg between two positions, whose times count from `start`."""
+    feature, begin, place, values, _ = one
+    times = f"{field(feature)},{seconds(begin - start)},{seconds(two[1] - start)}"
+    more = "," + ",".join(map(field, values)) if values else ""
+    return f"{times},{' '.join(place + two[2])}{more}\n"
+
+
+def kept_legs(feed: Feed) -> Iterator[tuple[Position, Position]]:
+    """The legs that are written, with a word of progress on a terminal."""
+    box, terminal = feed.options.bbox, sys.stderr.isatty()
+    legs = feed.legs.of(feed.ordered)
+    if box is None and not terminal:
+        yield from legs
+    for number, (one, two) in enumerate(legs):
+        if number % STRIDE == 0 and terminal:
+            say(feed.tool, f"leg {number}", end="")
+        if box is None or meets(box, one.place, two.place):
+            yield one, two
+        else:
+            feed.counts["outside"] += 1
+
+
+def save(feed: Feed) -> None:
+    """Writes to the file of -o, or to standard output, and to that of --state."""
+    options = feed.options
+    with contextlib.ExitStack() as files:
+        # What is entered last gets its name first: a state never stands for legs that do not.
+        state = files.enter_context(beside(options.state)) if options.state else None
+        if options.output in (None, "-"):
+            out = io.TextIOWrapper(sys.stdout.buffer, encoding="utf-8", newline="\n")
+        else:
+            out = files.enter_context(beside(options.output))
+        write(out, feed)
+        out.flush()
+        if state:
+            ends = {name: end for name, (end, _) in feed.legs.last.items()}
+            seams.write_state(state, options, ends)
+
+
+def begins_of(tool: str, reader: Reader, options: Namespace) -> dict[str, Position]:
+    """Where each feature ended in PREVIOUS: a state, a file of legs, or a feed."""
+    path = options.after
+    if path is None:
+        return {}
+    if path == options.state and not os.path.exists(path):
+        say(tool, f"{path} is not there yet: nothing came before")
+        return {}
+    kind = seams.kind(path)
+    if kind == "feed":
+        return ends_of_feed(tool, reader, options)
+    read = {"state": seams.read_state, "store": seams.read_store, "legs": seams.read_legs}[kind]
+    return {end[0]: Position(*end) for end in read(path, options)}
+
+
+def ends_of_feed(tool: str, reader: Reader, options: Namespace) -> dict[str, Position]:
+    """Where each feature ends in the feed PREVIOUS, as its conversion would find."""
+    earlier = copy.copy(options)
+    earlier.files, earlier.after, earlier.start, earlier.end = [options.after], None, None, None
+    earlier.kept = Columns(earlier)
+    feed = Feed(tool, reader, earlier, {}, quiet=True)
+    feed.survey()
+    for _ in feed.legs.of(feed.ordered):
+        pass
+    # A later file's segments are its own.
+    return {name: end._replace(segment=0) for name, (end, _) in feed.legs.last.items()}
+
+
+def why_no_leg(feed):
+    """Why there is no leg, in words."""
+    counts = feed.counts
+    if counts["outside"]:
+        return "all are outside --bbox"
+    if counts["gaps"]:
+        return f"{several(counts['gaps'], 'time')} the next position comes later than --gap allows"
+    if counts["too fast"]:
+        return f"what follows a position is too fast for {feed.options.max_speed} (see --max-speed)"
+    return "no feature has two positions"
+
+
+def summary(feed: Feed) -> str:
+    """What was read, made and left out, in one line."""
+    counts, options = dict(feed.counts), feed.options
+    gaps, segments = counts.pop("gaps", 0), counts.pop("between segments", 0)
+    over, alone = counts.pop("over the date line", 0), counts.pop("alone", 0)
+    outside, _ = counts.pop("outside", 0), counts.pop("fast", 0)
+    if "too fast" in counts:
+        counts[f"too fast for {options.max_speed}"] = counts.pop("too fast")
+    words = [f"{count} {why}" for why, count in counts.items() if count]
+    said = f"{several(feed.features, 'feature')}, {several(feed.written, 'leg')}"
+    said += f" from {several(feed.lines, options.unit)}"
+    said += f"; left out: {', '.join(words)}" if words else ""
+    said += f"; {several(outside, 'leg')} outside --bbox" if outside else ""
+    said += f"; no leg across {several(gaps, 'gap')}" if gaps else ""
+    said += f"; no leg between segments, {several(segments, 'time')}" if segments else ""
+    said += f"; no leg over the date line, {several(over, 'time')}" if over else ""
+    return said + (f"; {several(alone, 'position')} in no leg" if alone else "")
+
+
+# The tool's work
+
+
+def run(tool: str, options: Namespace, reader: Reader, unit: str = "line") -> int:
+    """Does the tool's work; the status is 0, 1 where there is no output, and 2 for wrong words."""
+    options.unit = unit
+    signal.signal(signal.SIGTERM, signal.default_int_handler)
+    wrong = wrong_words(options)
+    if wrong:
+        say(tool, wrong)
+        return 2
+    return ended(tool, lambda: convert(tool, options, reader) and 0, "stopped; no file is written")
+
+
+def convert(tool: str, options: Namespace, reader: Reader) -> None:
+    """Reads the files, writes the legs, and says what was made; gives what was seen."""
+    # Batches are many objects and few cycles.
+    gc.set_threshold(100_000, 50, 100)
+    options.kept = Columns(options)
+    feed = Feed(tool, reader, options, begins_of(tool, reader, options))
+    feed.survey()
+    save(feed)
+    for said in filter(None, (remark() for remark in options.remarks)):
+        say(tool, said)
+    if not feed.written:
+        say(tool, f"no leg is made: {why_no_leg(feed)}")
+    fast = feed.counts["fast"]
+    if fast:
+        legs = f"{several(fast, 'leg')} {'need' if fast > 1 else 'needs'}"
+        say(tool, f"{legs} more than {options.usual_speed} (see --max-speed)")
+    say(tool, summary(feed))
+    return feed
+
+
+def wrong_words(options: Namespace) -> str | None:
+    """What is wrong with the files that are named, if something is."""
+    read = [*options.files, *([options.after] if options.after else [])]
+    for out in options.output, options.state:
+        others = read if out == options.output else options.files
+        if out and any(is_same_file(out, path) for path in others):
+            return f"{out} is both read and written"
+    if options.output and options.state and same_name(options.output, options.state):
+        return f"{options.state} is written twice"
+    return None
+
+
+def same_name(one: str, two: str) -> bool:
+    return os.path.realpath(one) == os.path.realpath(two)
+
+
+def is_same_file(one: str, two: str) -> bool:
+    return os.path.exists(one) and os.path.exists(two) and os.path.samefile(one, two)

@@ -1,0 +1,3 @@
+from mftb.fleet.command import main
+
+main()

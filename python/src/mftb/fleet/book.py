@@ -1,0 +1,138 @@
+"""A fleet as a book of the library: it is asked and loaded as a store is."""
+
+from __future__ import annotations
+
+import csv
+import io
+import os
+import re
+import subprocess
+import sys
+from collections.abc import Callable, Iterable, Sequence
+from concurrent.futures import ThreadPoolExecutor
+from pathlib import Path as FilePath
+from typing import TypeVar
+
+from mftb import errors, lines, runs
+from mftb.fleet import manifest
+from mftb.forms import LoadForm, exact
+from mftb.lines import Path
+from mftb.records import Info, Loaded, Report
+from mftb.store import Book, Store
+
+Value = TypeVar("Value")
+SOURCE = str(FilePath(__file__).resolve().parents[2])
+SAID = re.compile(r"(?:fleet: )?(?:part [0-9]+: )?(?=mftb: )")
+
+
+class Fleet(Book):
+    """A book in parts, each of which is a store: a folder that `mftb-fleet new` made, or `Fleet.new`.
+
+    `scheduler` is the address of a Dask cluster, and `workers` how many parts are at work at once here.
+    """
+
+    def __init__(
+        self, path: Path, *, program: Path | None = None, scheduler: str | None = None, workers: int | None = None
+    ) -> None:
+        self.path, self.program = os.fspath(path), runs.found(program)
+        self._where = ["--scheduler", scheduler] if scheduler else []
+        self._where += ["--workers", str(workers)] if workers else []
+
+    @classmethod
+    def new(cls, path: Path, parts: int, *, program: Path | None = None) -> Fleet:
+        """Makes a fleet of parts without a leg."""
+        fleet = cls(path, program=program)
+        fleet._printed("new", "--parts", str(parts))
+        return fleet
+
+    def __repr__(self) -> str:
+        return f"Fleet({self.path!r})"
+
+    def parts(self) -> list[Store]:
+        """The stores of the parts."""
+        held = manifest.read(self.path).parts
+        return [Store(FilePath(self.path, one.store), program=self.program) for one in held]
+
+    def load(self, *files: Path) -> list[Loaded]:
+        """Loads files: all of them, or nothing."""
+        names = [os.fspath(file) for file in files]
+        answers = self._printed("load", *names, *self._where).splitlines()
+        return [LoadForm(file=name).record(counts.split(",")) for name, counts in zip(names, answers[1::2])]
+
+    def info(self) -> Info:
+        """What the fleet holds: of sizes the sums, and of corners and moments those of all parts."""
+        said = self._each(Store.info)
+        some = next((one for one in said if one.legs), said[0])
+        sums = {name: sum(getattr(one, name) for one in said) for name in SUMMED}
+        loaded = [one for one in said if one.legs]
+        corners = list(zip(*(one.extent for one in loaded if one.extent)))
+        extent = corners and (min(corners[0]), min(corners[1]), max(corners[2]), max(corners[3]))
+        first = min((one.first for one in loaded if one.first), default=None)
+        last = max((one.last for one in loaded if one.last), default=None)
+        same = {name: getattr(some, name) for name in SAME}
+        return Info(first=first, last=last, extent=extent or None, **sums, **same)
+
+    def check(self) -> Report:
+        """Checks each store, and that it holds as much as the manifest says."""
+        pages, legs, features = map(int, self._printed("check", *self._where).splitlines()[1].split(","))
+        return Report(legs, features, pages)
+
+    def _each(self, work: Callable[[Store], Value]) -> list[Value]:
+        """What is made of each part, some at once."""
+        with ThreadPoolExecutor() as pool:
+            return list(pool.map(work, self.parts()))
+
+    def _command(self, word: str, *rest: str) -> tuple[list[str], dict[str, str]]:
+        words = [sys.executable, "-m", "mftb.fleet", word, self.path, "--program", self.program, *rest]
+        paths = [SOURCE, *filter(None, [os.environ.get("PYTHONPATH")])]
+        return words, os.environ | {"PYTHONPATH": os.pathsep.join(paths)}
+
+    def _printed(self, word: str, *rest: str) -> str:
+        """What a command prints, if it ends well."""
+        command, environment = self._command(word, *rest)
+        ended = subprocess.run(command, capture_output=True, text=True, env=environment, check=False)
+        if ended.returncode:
+            raise error_of(ended.returncode, ended.stdout, ended.stderr)
+        return ended.stdout
+
+    def _run(self, script: Sequence[str], files: Sequence[str], spool: runs.Spool) -> str:
+        if any(lines.command_of(line) == "load" for line in script):
+            raise ValueError("a fleet is loaded by .load, and not by a line of a script")
+        with runs.script_file(script) as name:
+            command, environment = self._command("ask", name, *self._where)
+            said = runs.spooled(command, spool, environment)
+        if said.status:
+            raise error_of(said.status, "", said.text)
+        return said.text
+
+    def _moment_records(self, flags: list[str], words: list[str]) -> tuple[list[str], runs.Printed]:
+        """The records of all parts, by their first moment and then by feature."""
+        found = self._each(lambda part: part._moment_records(flags, words))
+        names = found[0][0]
+        rows = [row for _, printed in found for row in rows_of(printed)]
+        if "enters" in names:
+            place = names.index("enters"), names.index("feature")
+            rows.sort(key=lambda row: (exact(row[place[0]], 0), row[place[1]]))
+        else:
+            rows.sort()
+        spool = runs.Spool()
+        with open(spool.path, "w", encoding="utf-8", newline="") as out:
+            csv.writer(out, lineterminator="\n").writerows(rows)
+        return names, runs.Printed(spool, 0, len(rows))
+
+
+SUMMED = ("legs", "features", "most_legs", "most_features", "pages", "bytes")
+SAME = ("crs", "dimension", "start", "columns", "version", "state")
+
+
+def rows_of(printed: runs.Printed) -> Iterable[list[str]]:
+    with printed.opened() as file:
+        yield from csv.reader(io.TextIOWrapper(file, encoding="utf-8", newline=""))
+
+
+def error_of(status: int, printed: str, said: str) -> errors.MftbError:
+    """The error of a command of a fleet, which says what a part's program said."""
+    refusal = printed.strip()
+    if refusal.startswith("refused "):
+        return errors.of_refusal(refusal, f"{said.strip()} ({refusal})", 0)
+    return errors.of_status(status, SAID.sub("", said))

@@ -1,0 +1,128 @@
+"""What the library answers with: one frozen class for each kind of record."""
+
+from __future__ import annotations
+
+from collections.abc import Mapping
+from dataclasses import dataclass
+from datetime import datetime
+from fractions import Fraction
+
+
+@dataclass(frozen=True, slots=True)
+class Leg:
+    """A straight way of a feature between two positions that follow one another.
+
+    `begin` and `end` are exact, to the millisecond. `attributes` are texts, as they stood in the file.
+    """
+
+    feature: str
+    begin: datetime
+    end: datetime
+    start: tuple[float, ...]
+    finish: tuple[float, ...]
+    attributes: Mapping[str, str]
+
+
+@dataclass(frozen=True, slots=True)
+class Feature:
+    """A feature that a question names."""
+
+    feature: str
+
+
+@dataclass(frozen=True, slots=True)
+class Inside:
+    """A time inside a rectangle or a zone.
+
+    `enters` and `leaves` are exact: seconds since 1970-01-01T00:00:00Z. `enters_at` is rounded down
+    to the microsecond and `leaves_at` up, so that the true moments lie between. `enters_by` and
+    `leaves_by` are `edge`, `leg` or `period`, or empty if the program does not say them.
+    """
+
+    feature: str
+    enters: Fraction
+    leaves: Fraction
+    enters_at: datetime
+    leaves_at: datetime
+    place_in: tuple[float, ...]
+    place_out: tuple[float, ...]
+    enters_by: str
+    leaves_by: str
+
+
+@dataclass(frozen=True, slots=True)
+class Stay(Inside):
+    """A leg's time inside."""
+
+
+@dataclass(frozen=True, slots=True)
+class Visit(Inside):
+    """A feature's time inside, over legs without a gap in time; `zone` is empty for a rectangle."""
+
+    legs: int
+    zone: str = ""
+
+
+@dataclass(frozen=True, slots=True)
+class Dwell:
+    """How long a feature was inside in all, in seconds: at least `least` and at most `most`."""
+
+    feature: str
+    visits: int
+    least: Fraction
+    most: Fraction
+
+
+@dataclass(frozen=True, slots=True)
+class Gap:
+    """A time without a position of a feature, between two of its legs; both ends are exact."""
+
+    feature: str
+    begin: datetime
+    end: datetime
+    start: tuple[float, ...]
+    finish: tuple[float, ...]
+
+
+@dataclass(frozen=True, slots=True)
+class Counts:
+    """How many legs and features there are."""
+
+    legs: int
+    features: int
+
+
+@dataclass(frozen=True, slots=True)
+class Loaded(Counts):
+    """What a load put into a store: the legs and features of the file, and its data records."""
+
+    records: int
+    file: str
+
+
+@dataclass(frozen=True, slots=True)
+class Report(Counts):
+    """What a check found: the legs and features of a sound store, and its pages."""
+
+    pages: int
+
+
+@dataclass(frozen=True, slots=True)
+class Info:
+    """What a store holds; what only a loaded file says is `None` before the first load."""
+
+    legs: int
+    features: int
+    crs: str | None
+    dimension: int | None
+    start: datetime | None
+    columns: tuple[tuple[str, str], ...]
+    first: datetime | None
+    last: datetime | None
+    extent: tuple[float, float, float, float] | None
+    most_legs: int
+    most_features: int
+    pages: int
+    bytes: int
+    version: int
+    state: str

@@ -1,0 +1,232 @@
+"""The files of a feed as they come: plain, packed (.gz, or .zip with one), or standard input."""
+
+from __future__ import annotations
+
+import csv
+import gzip
+import io
+import re
+import shutil
+import tempfile
+import zipfile
+import zlib
+from argparse import Namespace
+from collections import Counter
+from collections.abc import Callable, Iterable, Iterator
+from contextlib import contextmanager
+from itertools import chain, islice
+from operator import itemgetter
+from typing import IO, Any, BinaryIO, TextIO, TypeAlias
+
+from mftb.texts import BadLine, LeftOut, Refused, several, utf8
+
+# A field has fewer characters.
+LONGEST = 1 << 20
+csv.field_size_limit(LONGEST)
+UNPACKING = EOFError, zlib.error, gzip.BadGzipFile, zipfile.BadZipFile, NotImplementedError
+# UTF-8, with or without a mark at the start.
+UTF_8 = "utf-8-sig"
+# Rows that are read at once.
+BATCH = 1000
+# What reads a row: its position, where there is one.
+RowReader: TypeAlias = Callable[[list[str]], Any]
+NOT_A_LETTER = re.compile("[^0-9a-z]")
+
+
+@contextmanager
+def opened(path: str) -> Iterator[BinaryIO]:
+    """The bytes of a file, unpacked where it is packed; `-` is standard input."""
+    with open(0 if path == "-" else path, "rb", closefd=path != "-") as raw:
+        try:
+            yield unpacked(path, raw)
+        except UNPACKING as why:
+            raise Refused(f"{path} cannot be unpacked: {why}") from None
+        except UnicodeError as why:
+            raise Refused(f"{path} is in another encoding (see --encoding): {why}") from None
+
+
+def unpacked(path: str, raw: BinaryIO) -> BinaryIO:
+    """What is read of a file, by its first bytes."""
+    start = raw.peek(4)[:4]
+    if start[:2] == b"\x1f\x8b":
+        return gzip.open(raw)
+    return only_file(path, raw) if start == b"PK\x03\x04" else raw
+
+
+def only_file(path: str, raw: BinaryIO) -> IO[bytes]:
+    """The bytes of the one file of a .zip."""
+    if not raw.seekable():
+        whole = tempfile.TemporaryFile()
+        shutil.copyfileobj(raw, whole)
+        raw = whole
+    archive = zipfile.ZipFile(raw)
+    found = [it for it in archive.infolist() if not it.is_dir() and "__MACOSX/" not in it.filename]
+    if len(found) != 1:
+        raise Refused(f"{path} has {several(len(found), 'file')}; a .zip with one is read")
+    if found[0].flag_bits & 1:
+        raise Refused(f"{path} is locked by a password")
+    return archive.open(found[0])
+
+
+def as_text(raw: IO[bytes], encoding: str = UTF_8) -> TextIO:
+    """Bytes as text; those that are none are kept until a field with them is used."""
+    return io.TextIOWrapper(raw, encoding=encoding, errors="surrogateescape", newline="")
+
+
+# Tables
+
+
+def read_table(path: str, layout: Callable[[list[str]], RowReader], encoding: str = UTF_8) -> Iterator[tuple[int, Any]]:
+    """Batches of a CSV file: line numbers, and of each line its position, or why it has none.
+
+    `layout` makes what reads a row from the header line. A file of blank lines has none.
+    """
+    with opened(path) as raw:
+        text = as_text(raw, encoding)
+        table = csv.reader(text)
+        try:
+            header = first_row(table)
+            read_row = layout(header) if header else None
+        except (csv.Error, BadLine) as why:
+            raise Refused(f"{path} line {max(table.line_num, 1)}: {why}") from None
+        if header:
+            yield from rows(text, table.line_num, len(header), read_row)
+
+
+def first_row(table: Iterable[list[str]]) -> list[str]:
+    """The first row that is not blank, without blanks around its names."""
+    for row in table:
+        names = [name.strip(" \t") for name in row]
+        if any(names):
+            return names
+    return []
+
+
+def rows(
+    text: Iterator[str], line: int, wide: int, read_row: RowReader, delimiter: str = ","
+) -> Iterator[tuple[Any, Any]]:
+    """Batches of the rows behind a line: their line numbers, and what is read of each, or why nothing is."""
+    while lines := list(islice(text, BATCH)):
+        if any('"' in it for it in lines) or max(map(len, lines)) >= LONGEST:
+            numbers, found, count = quoted(lines, text, line, delimiter)
+        else:
+            # A row without a quote is its line, cut at the delimiters.
+            found, count = [it.rstrip("\r\n").split(delimiter) for it in lines], len(lines)
+            numbers = range(line + 1, line + 1 + count)
+        if [""] in found:
+            numbers = [number for number, row in zip(numbers, found) if row != [""]]
+            found = [row for row in found if row != [""]]
+        if found:
+            yield numbers, items_of(found, wide, read_row)
+        line += count
+
+
+def quoted(
+    lines: list[str], text: Iterator[str], line: int, delimiter: str
+) -> tuple[list[int], list[Any], int]:
+    """The line numbers and the rows of lines of which one has a quote: such a row may go on behind them.
+
+    The third value says how many lines that was. A row that cannot be read is why it cannot.
+    """
+    source, numbers, found, count = iter(lines), [], [], 0
+    for start in source:
+        numbers.append(line + count + 1)
+        if '"' not in start and len(start) < LONGEST:
+            found.append(start.rstrip("\r\n").split(delimiter))
+            count += 1
+            continue
+        table = csv.reader(chain([start], source, text), delimiter=delimiter)
+        try:
+            found.append(next(table))
+        except csv.Error as why:
+            found.append(BadLine(why))
+        count += table.line_num
+    return numbers, found, count
+
+
+def items_of(rows, wide, read_row):
+    """What is read of each row, or why nothing is."""
+    items = []
+    add = items.append
+    for row in rows:
+        try:
+            if row.__class__ is BadLine:
+                add(row)
+            elif len(row) == wide:
+                add(read_row(row))
+            else:
+                add(BadLine(f"{several(len(row), 'field')}, where the header line has {wide}"))
+        except (BadLine, LeftOut) as why:
+            add(why)
+    return items
+
+
+def batches(pairs):
+    """Line numbers, each with an item, as batches of both."""
+    while found := list(islice(pairs, BATCH)):
+        yield [line for line, _ in found], [item for _, item in found]
+
+
+def plain_name(name: str) -> str:
+    """A column's name without what differs between layouts: case, blanks and signs."""
+    return NOT_A_LETTER.sub("", name.lower())
+
+
+def place_of(header: list[str], *names: str) -> int | None:
+    """The place of the first of these columns that is there, or nothing.
+
+    `vessel_name` is `VesselName`, where no column has just that name.
+    """
+    for name in names:
+        if name in header:
+            return header.index(name)
+    plain = [plain_name(name) for name in header]
+    for name in map(plain_name, names):
+        if name and name in plain:
+            return plain.index(name)
+    return None
+
+
+def column(header: list[str], *names: str) -> int:
+    """The place of a column that must be there."""
+    place = place_of(header, *names)
+    if place is None:
+        raise BadLine(f"there is no column {names[0]!r}")
+    return place
+
+
+class Columns:
+    """The columns that are kept as attributes, and which of them were found."""
+
+    def __init__(self, options: Namespace) -> None:
+        self.pairs, self.files = options.columns, options.files
+        self.names = [[name, *(old for old, new in options.rename if new == name)] for name, _ in self.pairs]
+        self.missing = {names[0] for names in self.names}
+        # In how many files a column is not, where there are several.
+        self.lacking = Counter()
+
+    def reader(self, header: list[str]) -> Callable[[list[str]], tuple[str, ...]]:
+        """What takes the attribute values from a row below this header line."""
+        places = [place_of(header, *names) for names in self.names]
+        self.missing -= {names[0] for names, at in zip(self.names, places) if at is not None}
+        if self.missing and len(self.files) == 1:
+            raise BadLine(f"there is no column {self.first_missing()!r}")
+        self.lacking.update(names[0] for names, at in zip(self.names, places) if at is None)
+
+        # A place behind the row's end stands for a column that is not there.
+        take = [len(header) if place is None else place for place in places]
+        blank = [""] if None in places else []
+        values_of = itemgetter(*take) if len(take) > 1 else lambda row: tuple([row[place] for place in take])
+
+        def read(row: list[str]) -> tuple[str, ...]:
+            values = values_of(row + blank if blank else row)
+            if not "".join(values).isascii():
+                for value, (name, _) in zip(values, self.pairs):
+                    utf8(value, name)
+            return values
+
+        return read if places else lambda row: ()
+
+    def first_missing(self) -> str | None:
+        """The first column that no file had, if there is one."""
+        return next((name for name, _ in self.pairs if name in self.missing), None)

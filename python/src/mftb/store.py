@@ -1,0 +1,249 @@
+"""A store: what it is asked, and what is loaded into it. The answers are those of the program."""
+
+from __future__ import annotations
+
+import os
+from collections.abc import Iterable, Sequence
+from fractions import Fraction
+from pathlib import Path as FilePath
+from types import TracebackType
+from typing import TYPE_CHECKING, Any, TypeVar
+
+from mftb import errors, forms, gaps, lines, runs
+from mftb.lines import Path, Period, Predicate, Rectangle
+from mftb.records import Counts, Dwell, Feature, Gap, Info, Leg, Loaded, Report, Stay, Visit
+from mftb.results import Answer
+
+if TYPE_CHECKING:
+    import pandas
+
+Record = TypeVar("Record")
+
+
+class Questions:
+    """The questions of a script; what answers them is said by whom is asked."""
+
+    def _ask(self, line: str) -> Answer:
+        raise NotImplementedError
+
+    def count(self) -> Answer[Counts]:
+        """How many legs and features there are: `.count().one()`."""
+        return self._ask("count")
+
+    def legs(self, predicate: Predicate, rectangle: Rectangle, period: Period) -> Answer[Leg]:
+        """The legs of which a predicate holds, each leg alone."""
+        return self._ask(lines.line("legs", predicate, *lines.words(rectangle, period)))
+
+    def features(self, predicate: Predicate, rectangle: Rectangle, period: Period) -> Answer[Feature]:
+        """The features of whose whole list of legs a predicate holds."""
+        return self._ask(lines.line("features", predicate, *lines.words(rectangle, period)))
+
+    def box(self, rectangle: Rectangle, period: Period) -> Answer[Leg]:
+        """The legs whose least box meets this one, in x, in y and in time."""
+        return self._ask(lines.line("box", *lines.words(rectangle, period)))
+
+    def trajectory(self, name: str) -> Answer[Leg]:
+        """The legs of a feature; none for an unknown name."""
+        return self._ask(lines.line("trajectory", str(name)))
+
+
+class Book(Questions):
+    """What a store and a fleet have in common."""
+
+    path: str
+
+    def _run(self, script: Sequence[str], files: Sequence[str], spool: runs.Spool) -> str:
+        """Runs the lines of a script, whose answers go to a spool, and returns what was said."""
+        raise NotImplementedError
+
+    def info(self) -> Info:
+        """What the store holds."""
+        raise NotImplementedError
+
+    def _ask(self, line: str) -> Answer:
+        return self.run([line])[0]
+
+    def run(self, script: str | Iterable[str], files: Iterable[Path] = (), strict: bool = True) -> list[Answer]:
+        """Runs a script in one process, and returns the answer to each of its commands.
+
+        The script is a text, or lines. A line that is refused raises its error when all ran; with
+        `strict=False` its answer has the error instead, and raises it when it is read.
+        """
+        script = lines.script_lines(script)
+        asked = [(place, line) for place, line in enumerate(script, 1) if lines.command_of(line)]
+        answers = [Answer(line.strip()) for _, line in asked]
+        self._fill(script, [place for place, _ in asked], answers, [os.fspath(file) for file in files])
+        for answer in answers if strict else ():
+            if answer.error:
+                raise answer.error
+        return answers
+
+    def _fill(self, script: Sequence[str], places: Sequence[int], answers: Sequence[Answer], files: list[str]) -> None:
+        """Runs a script, and gives answers their records or their errors."""
+        spool = runs.Spool()
+        told = Told(self._run(script, files, spool))
+        info = self.info()
+        for place, answer, printed in zip(places, answers, runs.answers(spool, len(answers)), strict=True):
+            command, _, rest = answer.question.partition(" ")
+            answer.crs = info.crs
+            if isinstance(printed, str):
+                answer.error = errors.of_refusal(printed, told.of(place, command, rest.strip(), printed), place)
+            else:
+                answer.fill(printed, forms.form_of(command, rest.strip(), info))
+        runs.hint(told.rest)
+
+    def batch(self, strict: bool = True) -> Batch:
+        """Questions that are asked in one process, when the `with` block of the batch ends."""
+        return Batch(self, strict)
+
+    def load(self, *files: Path) -> list[Loaded]:
+        """Loads files, in order. If one is refused its error is raised; those before it stay loaded."""
+        names = [os.fspath(file) for file in files]
+        return [answer.one() for answer in self.run([lines.line("load", name) for name in names], names)]
+
+    def load_frame(self, frame: pandas.DataFrame, **columns: Any) -> Loaded:
+        """Loads the positions of a frame; `mftb.positions.write` says what its columns are."""
+        from mftb import positions
+
+        with positions.legs_file(frame, **columns) as file:
+            return self.load(file)[0]
+
+    def gaps(self, period: Period) -> Answer[Gap]:
+        """The times without a position, between two legs of a feature, that have a part in the period.
+
+        They are found by this library, from all legs.
+        """
+        info = self.info()
+        if info.first is None or info.last is None:
+            raise errors.StoreError("the store has no legs")
+        found = self.box(gaps.EVERYWHERE, (info.first, info.last))
+        return gaps.between(found, forms.leg_form(info), period)
+
+    def write(self, file: Path) -> None:
+        """Writes all that the store holds as a file that can be loaded again."""
+        printed, _ = self._ask("write").records()
+        FilePath(file).write_bytes(printed.read())
+
+    def moments(self, rectangle: Rectangle, period: Period) -> Answer[Stay]:
+        """When each leg is inside a rectangle."""
+        return self._moments(forms.StayForm, [], rectangle, period)
+
+    def visits(self, rectangle: Rectangle, period: Period) -> Answer[Visit]:
+        """When each feature is inside a rectangle: stays joined over legs without a gap in time."""
+        return self._moments(forms.VisitForm, ["--visits"], rectangle, period)
+
+    def dwell(self, rectangle: Rectangle, period: Period) -> Answer[Dwell]:
+        """How long each feature is inside a rectangle in all."""
+        return self._moments(forms.DwellForm, ["--dwell"], rectangle, period)
+
+    def _moments(self, form: type[forms.MomentForm], flags: list[str], rectangle: Rectangle, period: Period) -> Answer:
+        words = lines.words(rectangle, period)
+        info = self.info()
+        answer: Answer = Answer(" ".join(["moments", *flags, *words]), info.crs)
+        names, printed = self._moment_records(flags, words)
+        start = ((info.start or forms.EPOCH) - forms.EPOCH) // forms.MILLISECOND
+        return answer.fill(printed, form(names=names, start=Fraction(start, 1000)))
+
+    def _moment_records(self, flags: list[str], words: list[str]) -> tuple[list[str], runs.Printed]:
+        raise NotImplementedError
+
+
+class Store(Book):
+    """A store of mftb: a file.
+
+    It is made by the first load. `program` names the program; without it that of `MFTB_PROGRAM` is
+    taken, else `mftb` on the path, else the one that the repository built. `cache_pages` is how many
+    pages of 4096 bytes the program keeps in memory.
+    """
+
+    def __init__(
+        self, path: Path, *, program: Path | None = None, cache_pages: int | None = None, in_place: bool = False
+    ) -> None:
+        self.path, self.program = os.fspath(path), runs.found(program)
+        self._cache = ["--cache-pages", str(cache_pages)] if cache_pages else []
+        self._in_place = ["--in-place"] if in_place else []
+
+    def __repr__(self) -> str:
+        return f"Store({self.path!r})"
+
+    def info(self) -> Info:
+        """What the store holds."""
+        return forms.info_of(self._printed("info", "--json", self.path))
+
+    def check(self) -> Report:
+        """Tests that all pages of the store hold one database, and returns how much."""
+        if not os.path.exists(self.path):
+            # The program makes the file that it is to check.
+            raise errors.StoreMissing(f"there is no store {self.path}")
+        text = self._printed("check", *self._cache, self.path)
+        pages, legs, features = map(int, text.split("\n")[1].split(","))
+        return Report(legs, features, pages)
+
+    def _printed(self, *words: str) -> str:
+        """What the program prints, if it ends well."""
+        spool = runs.Spool()
+        self._spooled(words, spool)
+        return FilePath(spool.path).read_text()
+
+    def _spooled(self, words: Sequence[str], spool: runs.Spool) -> str:
+        """Runs the program, and returns what it said on standard error."""
+        said = runs.spooled([self.program, *words], spool)
+        if said.status and f"mftb: cannot read {self.path}\n" in said.text:
+            raise errors.StoreMissing(said.text.strip(), status=said.status)
+        if said.status:
+            raise errors.of_status(said.status, said.text)
+        return said.text
+
+    def _run(self, script: Sequence[str], files: Sequence[str], spool: runs.Spool) -> str:
+        is_loading = any(lines.command_of(line) == "load" for line in script)
+        flags = ["--explain", *self._cache, *(self._in_place if is_loading else ["--existing"])]
+        with runs.script_file(script) as name:
+            return self._spooled(["run", *flags, self.path, name, "--", *files], spool).replace(name, "script")
+
+    def _moment_records(self, flags: list[str], words: list[str]) -> tuple[list[str], runs.Printed]:
+        spool = runs.Spool()
+        self._spooled(["moments", *flags, *self._cache, self.path, *words], spool)
+        return runs.table(spool)
+
+
+class Batch(Questions):
+    """Questions of one run: each gives an answer at once, which is filled when the batch ends."""
+
+    def __init__(self, book: Book, strict: bool = True) -> None:
+        self._book, self._strict, self._answers = book, strict, list[Answer]()
+
+    def _ask(self, line: str) -> Answer:
+        self._answers.append(Answer(line))
+        return self._answers[-1]
+
+    def __enter__(self) -> Batch:
+        return self
+
+    def __exit__(
+        self, kind: type[BaseException] | None, error: BaseException | None, trace: TracebackType | None
+    ) -> None:
+        if error is not None or not self._answers:
+            return
+        script = [answer.question for answer in self._answers]
+        self._book._fill(script, range(1, len(script) + 1), self._answers, [])
+        for answer in self._answers if self._strict else ():
+            if answer.error:
+                raise answer.error
+
+
+class Told:
+    """What a run said on standard error, line by line, beside its answers."""
+
+    def __init__(self, text: str) -> None:
+        self.rest = [line for line in text.splitlines() if line.startswith("mftb: ") and "UNPROVED" not in line]
+
+    def of(self, place: int, command: str, rest: str, refusal: str) -> str:
+        """What was said of a line that was refused, by its number, or of a file, by its name."""
+        code = refusal.split()[1]
+        begins = f"mftb: {rest}" if code.startswith("F") else f"mftb: script line {place}: "
+        for line in self.rest:
+            if line.startswith(begins) and (code in line or not code.startswith("F")):
+                self.rest.remove(line)
+                words = line.removeprefix("mftb: ")
+                return words if code in words else f"{words} ({code})"
+        return f"{command} {rest}: {refusal}"

@@ -1,0 +1,285 @@
+"""tools/promises over small repositories: it is silent where all is there, and says what is not."""
+import re
+import sys
+from importlib.machinery import SourceFileLoader
+
+from common import ROOT, Case, run
+
+sys.path.insert(0, str(ROOT / "tools"))
+words = SourceFileLoader("words", str(ROOT / "tools" / "words")).load_module()
+SOURCE = """\
+//! A crate.
+pub use calls::{Thing, first};
+
+pub fn first(a: u32) -> u32
+    requires small { a < 10 }
+    ensures value { result ≡ a }
+{
+    a
+}
+
+pub struct Thing {
+    a: u32,
+}
+
+impl<S: Store> Thing {
+    /// A method.
+    pub fn second(&self) -> u32
+        ensures { result ≡ self.now.a }
+    {
+        self.a
+    }
+}
+"""
+TESTS = """\
+#[test]
+fn it_is_so(rt: HostRuntime) {
+    let a = first(3);
+    assert_eq!(rt; a, 3);
+}
+"""
+PAGE = """\
+# Promises
+
+- The first is so | `low::first`: `value`; `Thing::second` (its clause) | proved
+- It is shown | `low::tests`: `it_is_so` | tested
+- A wrong body | `low`: `wrong-body` | refused
+"""
+OWN = """\
+# low
+
+It gives what it got (`first`: `value`, `Thing::second`: its clause).
+
+From `crates/low/src/tests.rt`, `it_is_so`:
+
+```rust
+let a = first(3);
+```
+"""
+LAW = """\
+-- Laws.
+use Rattle.std.specs.Prelude.{Unit}
+
+-- a law
+abbrev pub IsLaw : Type 0
+IsLaw = Unit
+"""
+TOP = """\
+pub use db::Db;
+
+impl Db {
+    ghost use Rattle.trajdb.specs.Promises.{RunCall};
+    ghost use Rattle.trajdb.specs.Run.{Runs};
+
+    /// Runs it.
+    pub fn run(&mut self)
+        // it ran
+        ensures ok { Runs self.old self.new }
+        ensures call { RunCall self.old self.new }
+    {}
+
+    /// Opens it.
+    pub fn open(&mut self)
+        ensures { RunCall self.old self.new }
+    {}
+}
+"""
+CALLS = """\
+use Rattle.trajdb.specs.Run.{Runs, is_open}
+
+-- what a run promises
+pub record RunCall (old new : \u2115) : Type 0 where
+  pub stays : Runs old new
+  -- the book is open
+  pub book : is_open new
+"""
+RUNS = """\
+use Rattle.std.specs.Prelude.{\u2115, \u25cc\u2261\u25cc}
+
+-- it is 1
+abbrev pub is_open : \u2115 \u2192 Type 0
+is_open n = n \u2261 one
+
+-- the first
+abbrev pub one : \u2115
+one = 1
+
+abbrev pub Runs : \u2115 \u2192 \u2115 \u2192 Type 0
+Runs old new = old \u2261 new
+"""
+TOPS = {
+    "crates/trajdb/src/lib.rt": TOP,
+    "crates/trajdb/specs/Promises.antt": CALLS,
+    "crates/trajdb/specs/Run.antt": RUNS,
+    "crates/trajdb/README.md": "# trajdb\n",
+}
+FILES = {
+    "README.md": "# It\n\nSee [the promises](docs/PROMISES.md#promises) and `crates/low/src/lib.rt`.\n",
+    "CONTRIBUTING.md": "# Picking it up\n",
+    "docs/PROMISES.md": PAGE,
+    "docs/proof/THEOREM.md": "# The theorem\n",
+    "crates/low/README.md": OWN,
+    "crates/low/src/lib.rt": SOURCE,
+    "crates/low/src/tests.rt": TESTS,
+    "crates/low/must-fail/wrong-body.edit": "file: src/lib.rt\n",
+    "crates/low/specs/Law.antt": LAW,
+}
+
+
+class Promises(Case):
+    def put(self, others):
+        """A repository in which some files are others."""
+        for name, text in {**FILES, **others}.items():
+            path = self.folder / name
+            path.parent.mkdir(parents=True, exist_ok=True)
+            path.write_text(text)
+
+    def make(self):
+        ended = run("reference", str(self.folder), folder=self.folder)
+        self.assertEqual((ended.returncode, ended.stderr), (0, ""))
+
+    def told(self):
+        """What the tool says, but for its last line."""
+        ended = run("promises", str(self.folder), folder=self.folder)
+        *said, last = ended.stdout.splitlines()
+        faults = [line for line in said if "in READING" not in line]
+        self.assertEqual(ended.stderr, "")
+        self.assertEqual(ended.returncode, 1 if faults else 0)
+        self.assertTrue(last.endswith(f"{len(faults)} faults"), last)
+        return said
+
+    def said(self, **others):
+        """What the tool says of a repository in which some files are others, whose reference was made."""
+        self.put(others)
+        (self.folder / "tools").mkdir(exist_ok=True)
+        self.make()
+        return self.told()
+
+    def page(self, old, new):
+        self.assertIn(old, PAGE)
+        return self.said(**{"docs/PROMISES.md": PAGE.replace(old, new)})
+
+    def made(self, name):
+        return (self.folder / "docs" / name).read_text()
+
+    def test_all_is_there(self):
+        self.assertEqual(self.said(), [])
+
+    def test_a_clause_that_is_not_there(self):
+        said = self.page("`low::first`: `value`", "`low::first`: `value`, `valve`")
+        self.assertEqual(said, ["docs/PROMISES.md:3: low::first has no clause valve"])
+
+    def test_a_function_that_is_not_there_and_where_one_is(self):
+        said = self.page("`low::first`: `value`;", "`low::second`: `value`; `low::first`: `value`;")
+        self.assertEqual(said, ["docs/PROMISES.md:3: there is no low::second; there is low::Thing::second"])
+
+    def test_a_test_that_is_not_there(self):
+        said = self.page("`it_is_so`", "`it_is_not_so`")
+        self.assertEqual(said, ["docs/PROMISES.md:4: low::tests has no it_is_not_so"])
+
+    def test_an_edit_that_is_not_there(self):
+        said = self.page("`wrong-body`", "`wronger-body`")
+        self.assertEqual(said, ["docs/PROMISES.md:5: low has no must-fail edit wronger-body"])
+
+    def test_a_crate_without_a_page(self):
+        (self.folder / "crates" / "high" / "src").mkdir(parents=True)
+        self.assertEqual(self.said(), ["crates/high/README.md:0: is not there"])
+
+    def test_a_line_of_an_example_that_no_test_has(self):
+        said = self.said(**{"crates/low/README.md": OWN.replace("first(3)", "first(4)")})
+        self.assertEqual(said, ["crates/low/README.md:8: crates/low/src/tests.rt has no line let a = first(4);"])
+
+    def test_lines_of_an_example_stand_one_behind_another(self):
+        swapped = "assert_eq!(rt; a, 3);\nlet a = first(3);"
+        said = self.said(**{"crates/low/README.md": OWN.replace("let a = first(3);", swapped)})
+        told = "crates/low/src/tests.rt has no line let a = first(3); behind the line before it"
+        self.assertEqual(said, [f"crates/low/README.md:9: {told}"])
+        apart = swapped.replace("\n", "\n//...\n")
+        self.assertEqual(self.said(**{"crates/low/README.md": OWN.replace("let a = first(3);", apart)}), [])
+
+    def test_a_file_and_a_link_that_are_not_there(self):
+        text = "# It\n\nSee `crates/low/src/tost.rt`, [them](docs/PROMISES.md#none)\nand [it](docs/NONE.md).\n"
+        said = self.said(**{"README.md": text})
+        self.assertEqual(
+            said,
+            [
+                "README.md:3: there is no file crates/low/src/tost.rt",
+                "README.md:3: docs/PROMISES.md has no heading none",
+                "README.md:4: the link docs/NONE.md leads nowhere",
+            ],
+        )
+
+    def test_definitions_on_the_page_of_a_crate_stand_in_its_files(self):
+        text = OWN + "\n## Definitions\n\n**A law** (`Law.antt`). `IsLaw`, `is_more`.\n\n**None** (`No.antt`).\n\n## More\n\n`is_less`.\n"
+        said = self.said(**{"crates/low/README.md": text})
+        self.assertEqual(
+            said,
+            [
+                "crates/low/README.md:13: crates/low has no definition is_more",
+                "crates/low/README.md:15: there is no file crates/low/specs/No.antt",
+            ],
+        )
+
+    def test_a_clause_of_a_record_of_calls_can_be_cited(self):
+        files = {**TOPS, "docs/MORE.md": "It stays (`trajdb::Db::run`: `stays`, `gone`).\n"}
+        said = self.said(**files)
+        self.assertIn("docs/MORE.md:1: trajdb::Db::run has no clause gone", said)
+        self.assertNotIn("stays", "".join(said))
+
+    def test_the_reference_has_the_clauses_with_their_comments(self):
+        self.said(**TOPS)
+        page = self.made("reference/CLAUSES.md")
+        self.assertIn("### `Db::run`\n\n`lib.rt`\n\nRuns it.\n\n```rust\npub fn run(&mut self)\n    // it ran\n    ensures ok {", page)
+        self.assertIn("### Clauses of `RunCall`\n\n`Promises.antt`\n\nwhat a run promises\n\n```text\npub record", page)
+        self.assertLess(page.index("## low"), page.index("## trajdb"))
+
+    def test_the_reference_has_the_definitions(self):
+        self.said()
+        self.assertIn("## low\n\n### Law.antt\n\nLaws.\n\n```text\n-- a law\nabbrev pub IsLaw : Type 0\nIsLaw = Unit\n```", self.made("reference/DEFINITIONS.md"))
+
+    def test_the_reading_has_what_is_needed_first(self):
+        self.said(**TOPS)
+        heads = re.findall(r"^##+ (.*)", self.made("proof/READING.md"), re.M)
+        self.assertEqual(heads, ["run: ok", "`Runs`", "open: book", "`one`", "`is_open`", "`RunCall`", "Names of the kit"])
+        self.assertIn("where\n  -- the book is open\n  pub book : is_open new\n```", self.made("proof/READING.md"))
+
+    def test_a_headline_clause_that_is_not_there(self):
+        said = self.said(**TOPS)
+        self.assertIn("tools/reading.py:0: there is no headline clause trajdb::Db::close: holds", said)
+        self.assertNotIn("Db::run: ok", "".join(said))
+
+    def test_names_that_mean_two_things(self):
+        run = RUNS.replace("one", "IsLaw").replace("Prelude.{", "Prelude.{Unit, ")
+        use = "use Rattle.low.specs.Law.{IsLaw as Other}\n"
+        calls = use + CALLS.replace("is_open new", "is_open new \u00d7 Other")
+        said = self.said(**{**TOPS, "crates/trajdb/specs/Run.antt": run, "crates/trajdb/specs/Promises.antt": calls})
+        self.assertIn("IsLaw means 2 things in READING: crates/trajdb/specs/Run.antt, crates/low/specs/Law.antt", said)
+
+    def test_a_reference_that_lags(self):
+        self.said()
+        self.put({"crates/low/specs/Law.antt": LAW.replace("= Unit", "= Bool")})
+        self.assertEqual(self.told(), ["docs/reference/DEFINITIONS.md:0: is not what the sources say: run tools/reference"])
+        self.make()
+        self.assertEqual(self.told(), [])
+
+    def test_clauses_and_definitions_without_a_comment_may_not_grow(self):
+        self.assertEqual(self.said(), [])
+        self.put({"crates/low/specs/Law.antt": LAW.replace("-- a law\n", "")})
+        self.make()
+        said = self.told()
+        self.assertEqual(said, ["tools/bare.txt:0: 1 public definitions have no comment, where 0 may; tools/promises --bare names them"])
+        listed = run("promises", "--bare", str(self.folder), folder=self.folder).stdout
+        self.assertIn("no comment: crates/low/specs/Law.antt:4: IsLaw\n", listed)
+
+    def test_two_lines_of_a_number_that_two_branches_left(self):
+        self.assertEqual(self.said(**{"tools/bare.txt": "definitions: 3\ndefinitions: 2\nclauses: 9\n"}), [])
+        self.assertIn("clauses: 2\ndefinitions: 0\n", (self.folder / "tools" / "bare.txt").read_text())
+
+
+class Words(Case):
+    def test_words_and_long_sentences(self):
+        long = "This " + "goes on " * 13 + "far.\n"
+        ended = run("words", str(ROOT / "CONTRIBUTING.md"), folder=self.folder)
+        self.assertIn("CONTRIBUTING.md", ended.stdout)
+        self.assertEqual(words.sentences("# A head\n\n" + long)[0].words(), 28)
+        self.assertEqual([one.words() for one in words.sentences("One `a b c` is. Two are so.\n\n- Three [are here](x.md)\n- four\n\n    code is none\n")], [3, 3, 3])
