@@ -121,9 +121,7 @@ def rows(
         line += count
 
 
-def quoted(
-    lines: list[str], text: Iterator[str], line: int, delimiter: str
-) -> tuple[list[int], list[Any], int]:
+def quoted(lines: list[str], text: Iterator[str], line: int, delimiter: str) -> tuple[list[int], list[Any], int]:
     """The line numbers and the rows of lines of which one has a quote: such a row may go on behind them.
 
     The third value says how many lines that was. A row that cannot be read is why it cannot.
