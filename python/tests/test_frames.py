@@ -14,8 +14,9 @@ from contextlib import redirect_stderr
 from fractions import Fraction
 from pathlib import Path
 
+import common
 import mftb
-from common import BUILT, Case, has_info
+from common import BUILT, Case, StandIn, has_info
 
 HAS_PANDAS, HAS_GEOPANDAS = (importlib.util.find_spec(name) is not None for name in ("pandas", "geopandas"))
 if not HAS_PANDAS:
@@ -24,12 +25,7 @@ elif not HAS_GEOPANDAS:
     print("test_frames: geopandas (python3-geopandas) is not there: no geometry is made", file=sys.stderr)
 STAND_IN = '#!/bin/sh\ncat {}/"$1"\n'
 COLUMNS = [("kind", "xsd:token"), ("draught", "xsd:decimal"), ("in port", "xsd:boolean"), ("feature", "xsd:integer")]
-INFO = {
-    "version": 2, "state": "finished", "pages": 1, "bytes": 4096, "crs": "urn:ogc:def:crs:OGC:1.3:CRS84", "dimension": 2,
-    "start": "2024-06-03T08:50:00.000Z", "columns": [{"name": name, "type": kind} for name, kind in COLUMNS], "legs": 3,
-    "features": 2, "most_legs": 16777216, "most_features": 1048576, "first": "2024-06-03T08:50:00.000Z",
-    "last": "2024-06-03T09:10:00.000Z", "extent": [-180, -90, 180, 90],
-}  # fmt: skip
+INFO = common.INFO | {"columns": [{"name": name, "type": kind} for name, kind in COLUMNS]}
 LEGS = """Castor,-0.5,30,-4.6 -183.4 -4.4 28.3,tug,3.1,true,7
 Bente III,30,60.001,0.1 0.2 0.3 -0.0000001,ferry,,true,8
 Castor,31,90,1 2 3 4,tug,2,false,9
@@ -44,13 +40,10 @@ Castor,1000/3,500/1,2024-06-03T08:50:00.333333Z,2024-06-03T08:50:00.500000Z,1.5,
 """
 
 
-class Frames(Case):
+class Frames(StandIn):
     def setUp(self):
         super().setUp()
-        program = self.folder / self.write("mftb", STAND_IN.format(self.folder))
-        program.chmod(0o755)
-        self.write("info", json.dumps(INFO))
-        self.store = mftb.Store(self.folder / "store", program=program)
+        self.store = self.stand_in(STAND_IN, INFO)
 
     def legs(self, records):
         self.write("run", f"ok {len(records.splitlines())}\n{records}")

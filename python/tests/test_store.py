@@ -1,14 +1,12 @@
 """The library over a store: what it answers is what the pages work out by hand, and errors have the program's words."""
-import tempfile
 import unittest
 import warnings
 from datetime import datetime, timedelta, timezone
 from decimal import Decimal
 from fractions import Fraction
-from pathlib import Path
 
 import mftb
-from common import BUILT, ROOT, Case, has_info
+from common import BUILT, ROOT, Case, folder_of, has_info
 from mftb import errors, lines, records
 
 S1 = ROOT / "examples" / "standard" / "S1.csv"
@@ -110,9 +108,7 @@ class Standard(Case):
 
     @classmethod
     def setUpClass(cls):
-        folder = tempfile.TemporaryDirectory()
-        cls.addClassCleanup(folder.cleanup)
-        cls.store = mftb.Store(Path(folder.name, "store"), program=BUILT)
+        cls.store = mftb.Store(folder_of(cls) / "store", program=BUILT)
         cls.loaded = cls.store.load(S1)
 
     def test_what_is_loaded(self):
@@ -202,11 +198,10 @@ SILENT = HEAD + "a,-1,10,0 0 1 0\nb,0,40,5 5 6 6\na,20,30,2 0 3 0\na,31.5,40,4 0
 class Gaps(Case):
     @classmethod
     def setUpClass(cls):
-        folder = tempfile.TemporaryDirectory()
-        cls.addClassCleanup(folder.cleanup)
-        Path(folder.name, "silent.csv").write_text(SILENT)
-        cls.store = mftb.Store(Path(folder.name, "store"), program=BUILT)
-        cls.store.load(Path(folder.name, "silent.csv"))
+        folder = folder_of(cls)
+        (folder / "silent.csv").write_text(SILENT)
+        cls.store = mftb.Store(folder / "store", program=BUILT)
+        cls.store.load(folder / "silent.csv")
 
     def gaps(self, first, last):
         start = datetime(2024, 1, 1, tzinfo=timezone.utc)
@@ -232,9 +227,7 @@ class Fleet(Case):
 
     @classmethod
     def setUpClass(cls):
-        folder = tempfile.TemporaryDirectory()
-        cls.addClassCleanup(folder.cleanup)
-        cls.fleet = mftb.Fleet.new(Path(folder.name, "fleet"), 2, program=BUILT)
+        cls.fleet = mftb.Fleet.new(folder_of(cls) / "fleet", 2, program=BUILT)
         cls.loaded = cls.fleet.load(S1)
 
     def test_what_is_loaded(self):
