@@ -23,7 +23,7 @@ if not HAS_PANDAS:
     print("test_frames: pandas (python3-pandas) is not there: no frame is made", file=sys.stderr)
 elif not HAS_GEOPANDAS:
     print("test_frames: geopandas (python3-geopandas) is not there: no geometry is made", file=sys.stderr)
-STAND_IN = '#!/bin/sh\ncat {}/"$1"\n'
+STAND_IN = '#!/bin/sh\ncase "$2" in --visits | --dwell) cat {0}/"$1$2" ;; *) cat {0}/"$1" ;; esac\n'
 COLUMNS = [("kind", "xsd:token"), ("draught", "xsd:decimal"), ("in port", "xsd:boolean"), ("feature", "xsd:integer")]
 INFO = common.INFO | {"columns": [{"name": name, "type": kind} for name, kind in COLUMNS]}
 LEGS = """Castor,-0.5,30,-4.6 -183.4 -4.4 28.3,tug,3.1,true,7
@@ -134,9 +134,11 @@ class Moments(Frames):
         self.assertEqual(found["enters"][0], Fraction(1717404600) + Fraction(1, 3))
 
     def test_visits_and_dwells(self):
-        self.write("moments", VISITS)
-        self.assertEqual(self.store.visits(BOX, PERIOD).to_pandas()["legs"].sum(), 12)
-        self.write("moments", "feature,visits,least,most\nCastor,2,0.1,0.100002\n")
+        self.write("moments--visits", VISITS)
+        self.write("moments", MOMENTS)
+        found = self.store.visits(BOX, PERIOD).to_pandas()
+        self.assertEqual((found["legs"].sum(), found["enters_by"][0]), (12, "edge"))
+        self.write("moments--dwell", "feature,visits,least,most\nCastor,2,0.1,0.100002\n")
         found = self.store.dwell(BOX, PERIOD).to_pandas()
         self.assertEqual((found["visits"][0], found["most"][0]), (2, 0.100002))
 
@@ -153,7 +155,7 @@ class Geometries(Frames):
     def test_stays_and_visits(self):
         self.write("moments", MOMENTS)
         self.assertEqual(self.store.moments(BOX, PERIOD).to_geopandas().geometry[0].wkt, "LINESTRING (1.5 2, 3 4)")
-        self.write("moments", VISITS)
+        self.write("moments--visits", VISITS)
         self.assertEqual(self.store.visits(BOX, PERIOD).to_geopandas().geometry[0].wkt, "POINT (1.5 2)")
 
     def test_what_has_no_place(self):

@@ -101,7 +101,7 @@ def names(answers: list[Answer]) -> dict[str, None]:
     return dict.fromkeys(row[0] for answer in answers for row in answer.rows if len(row) == 1)
 
 
-def base_of(votes: Mapping[int, int], start: int) -> tuple[int, bool]:
+def base_of(votes: Mapping[float, int], start: float) -> tuple[float, bool]:
     """The store's base: the one under which most legs of the answer are legs of the files."""
     if not votes:
         return start, False

@@ -53,7 +53,7 @@ class Store:
         except (ValueError, KeyError, TypeError):
             raise Refused(f"{self.program} does not say what {self.path} holds; is it mftb?") from None
 
-    def count(self):
+    def count(self) -> int:
         """How many legs the store has."""
         self.read_info()
         return self.legs

@@ -142,7 +142,7 @@ def quoted(lines: list[str], text: Iterator[str], line: int, delimiter: str) -> 
     return numbers, found, count
 
 
-def items_of(rows, wide, read_row):
+def items_of(rows: Iterable[Any], wide: int, read_row: RowReader) -> list[Any]:
     """What is read of each row, or why nothing is."""
     items = []
     add = items.append
@@ -159,7 +159,7 @@ def items_of(rows, wide, read_row):
     return items
 
 
-def batches(pairs):
+def batches(pairs: Iterator[tuple[int, Any]]) -> Iterator[tuple[list[int], list[Any]]]:
     """Line numbers, each with an item, as batches of both."""
     while found := list(islice(pairs, BATCH)):
         yield [line for line, _ in found], [item for _, item in found]

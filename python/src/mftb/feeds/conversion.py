@@ -122,7 +122,7 @@ class Bounds:
         self.high = [corner(*axis, max, end) for axis, end in zip(axes, highs)]
 
 
-def corner(texts, numbers, most, end):
+def corner(texts: Sequence[str], numbers: Sequence[float], most: Callable[..., float], end: str | None) -> str:
     """The first of the least texts of numbers, or of the greatest, where `end` was that so far."""
     # As floats keep the order, they only spare most comparisons of the decimals.
     found = most(numbers)
@@ -221,7 +221,7 @@ class Feed:
         self.judge(ends)
         self.order()
 
-    def follow(self, path, lines, positions, ends):
+    def follow(self, path: str, lines: Iterable[int], positions: Sequence[Position], ends: dict[str, int]) -> None:
         """Notes where each feature is now, and the first that goes back in time."""
         moments = [it[1] for it in positions]
         if not self.disorder and [self.latest, *moments] != sorted([self.latest, *moments]):
@@ -251,7 +251,7 @@ class Feed:
         if not self.quiet:
             say(self.tool, what)
 
-    def batches(self):
+    def batches(self) -> Iterator[tuple[str, Sequence[int], list]]:
         """What the files have, with a word of progress on a terminal."""
         terminal, read = sys.stderr.isatty(), self.reader(self.options)
         take = self.sieve.take if self.sieve else None
@@ -415,7 +415,7 @@ def write(out: TextIO, feed: Feed) -> None:
         out.write("".join([record(one, two, start) for one, two in found]))
 
 
-def record(one, two, start):
+def record(one: Position, two: Position, start: int) -> str:
     """The line of a leg between two positions, whose times count from `start`."""
     feature, begin, place, values, _ = one
     times = f"{field(feature)},{seconds(begin - start)},{seconds(two[1] - start)}"
@@ -483,7 +483,7 @@ def ends_of_feed(tool: str, reader: Reader, options: Namespace) -> dict[str, Pos
     return {name: end._replace(segment=0) for name, (end, _) in feed.legs.last.items()}
 
 
-def why_no_leg(feed):
+def why_no_leg(feed: Feed) -> str:
     """Why there is no leg, in words."""
     counts = feed.counts
     if counts["outside"]:
