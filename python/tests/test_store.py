@@ -4,6 +4,7 @@ import warnings
 from datetime import datetime, timedelta, timezone
 from decimal import Decimal
 from fractions import Fraction
+from pathlib import Path
 
 import mftb
 from common import BUILT, ROOT, Case, folder_of, has_info
@@ -141,6 +142,28 @@ class Standard(Case):
         self.assertEqual((visit.enters, visit.leaves, visit.legs), (since_1970(80000), since_1970(160000), 2))
         self.assertEqual(list(self.store.dwell(BOX, PERIOD)), [records.Dwell("a", 1, Fraction(80), Fraction(80))])
 
+    def test_zones_with_names(self):
+        visits = self.store.visits({"one": BOX, "all": (10, 1, 12, 3)}, PERIOD)
+        self.assertEqual([(it.zone, it.feature) for it in visits], [("one", "a"), *(("all", name) for name in "abc")])
+        (one,) = self.store.visits({"one": BOX}, PERIOD)
+        self.assertEqual((one.enters_by, one.leaves_by, one.legs), ("edge", "edge", 2))
+        (count,) = visits.by("year", key=lambda visit: visit.zone if visit.feature == "a" else None)[:1]
+        self.assertEqual((count.zone, count.key, count.features, count.begin.year), ("one", "one", 1, 2012))
+        # From 12:35:01 to 12:36:21.
+        parts = self.store.dwell({"one": BOX}, PERIOD).by("1min")
+        self.assertEqual([(it.begin.minute, it.seconds) for it in parts], [(35, 59), (36, 21)])
+
+    def test_a_page(self):
+        file = self.store.page(
+            folder_of(type(self)) / "map.html", rectangles={"box": BOX}, title="A & b", period=PERIOD
+        )
+        self.assertIn("<title>A &amp; b</title>", Path(file).read_text())
+        for words in {"rectangles": {"box": (1, 0, 0, 1)}}, {"period": ("now", PERIOD[1])}:
+            self.assertRaises(ValueError, self.store.page, file, **words)
+        late = ("2050-01-01T00:00:00Z", "2051-01-01T00:00:00Z")
+        with self.assertRaisesRegex(mftb.MftbError, "there is no leg from"):
+            self.store.page(file, period=late)
+
     def test_a_batch_is_one_run(self):
         with self.store.batch() as batch:
             legs, features = batch.box(BOX, PERIOD), batch.features("ever", BOX, PERIOD)
@@ -250,6 +273,11 @@ class Fleet(Case):
         stays = self.fleet.moments((10, 1, 12, 3), PERIOD)
         self.assertEqual([(it.feature, it.enters_at) for it in stays], self.all_stays())
         self.assertEqual(list(self.fleet.gaps(PERIOD)), [])
+
+    def test_a_page_has_all_parts(self):
+        file = self.fleet.page(folder_of(type(self)) / "map.html", rectangles={"box": BOX})
+        self.assertIn("<title>fleet</title>", Path(file).read_text())
+        self.assertEqual([it.feature for it in self.fleet.visits({"box": BOX}, PERIOD)], ["a"])
 
     def all_stays(self):
         """Each leg is inside for its whole time, as the rectangle is that of all legs."""
