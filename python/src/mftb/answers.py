@@ -49,7 +49,8 @@ class Hit(NamedTuple):
 def read_answers(path: str, script: str | None) -> list[Answer]:
     """The answers of a file; a refusal is one without records."""
     questions = read_script(script) if script else []
-    answers, left = [], 0
+    answers: list[Answer] = []
+    left = 0
     with opened(path) as raw:
         for row in csv.reader(as_text(raw)):
             fields = [text.strip(" \t") for text in row]

@@ -103,7 +103,7 @@ class Store:
     def tracks(self, names: Sequence[str]) -> dict[str, list[Row]]:
         """The legs of features, by their names; nothing of a name that no line can hold."""
         lines = [name for name in names if "\n" not in name and "\r" not in name]
-        found = {name: [] for name in names}
+        found: dict[str, list[Row]] = {name: [] for name in names}
         with tempfile.TemporaryDirectory() as folder:
             script = Path(folder, "script")
             script.write_bytes("".join(f"trajectory {name}\n" for name in lines).encode())

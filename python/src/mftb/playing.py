@@ -171,7 +171,8 @@ class Book:
         marks = ", ".join("?" * (1 + len(columns)))
         names = ", ".join(quoted(it) for it, _ in columns)
         self.base.executemany(f"INSERT INTO {name} (geom, {names}) VALUES ({marks})", rows)
-        corners: Sequence[float | None] = self.corners if self.corners[0] <= self.corners[2] else [None] * 4
+        is_empty = self.corners[0] > self.corners[2]
+        corners = [None if is_empty else corner for corner in self.corners]
         self.base.execute(
             "INSERT INTO gpkg_contents (table_name, data_type, identifier, min_x, min_y, max_x, max_y, srs_id) "
             "VALUES (?, 'features', ?, ?, ?, ?, ?, ?)",

@@ -73,7 +73,7 @@ class Book(Questions):
         """
         script = lines.script_lines(script)
         asked = [(place, line) for place, line in enumerate(script, 1) if lines.command_of(line)]
-        answers = [Answer(line.strip()) for _, line in asked]
+        answers: list[Answer] = [Answer(line.strip()) for _, line in asked]
         self._fill(script, [place for place, _ in asked], answers, [os.fspath(file) for file in files])
         for answer in answers if strict else ():
             if answer.error:

@@ -10,6 +10,7 @@ import sys
 import tempfile
 from collections.abc import Callable, Sequence
 from concurrent.futures import ThreadPoolExecutor
+from fractions import Fraction
 from pathlib import Path as FilePath
 from typing import TypeVar
 
@@ -125,7 +126,7 @@ class Fleet(Book):
         rows = [row for _, printed in found for row in rows_of(printed)]
         if "enters" in names:
             place = names.index("enters"), names.index("feature")
-            rows.sort(key=lambda row: (exact(row[place[0]], 0), row[place[1]]))
+            rows.sort(key=lambda row: (exact(row[place[0]], Fraction(0)), row[place[1]]))
         else:
             rows.sort()
         spool = runs.Spool()
