@@ -14,6 +14,7 @@ from argparse import Namespace
 from collections import Counter
 from collections.abc import Callable, Iterable, Iterator
 from contextlib import contextmanager
+from dataclasses import dataclass
 from itertools import chain, islice
 from operator import itemgetter
 from typing import IO, Any, BinaryIO, TextIO, TypeAlias
@@ -28,9 +29,38 @@ UNPACKING = EOFError, zlib.error, gzip.BadGzipFile, zipfile.BadZipFile, NotImple
 UTF_8 = "utf-8-sig"
 # Rows that are read at once.
 BATCH = 1000
-# What reads a row: its position, where there is one.
-RowReader: TypeAlias = Callable[[list[str]], Any]
+# What is read of a row: a position, or why there is none.
+Item: TypeAlias = Any
 NOT_A_LETTER = re.compile("[^0-9a-z]")
+
+
+@dataclass(frozen=True)
+class RowReader:
+    """What reads the rows below a header line.
+
+    `one` gives the position of a row, or says why there is none. `many` reads rows of the usual form at once, column
+    by column, and gives what is read of each; or nothing, where they are to be read one by one.
+    """
+
+    one: Callable[[list[str]], Item]
+    many: Callable[[list[list[str]]], list[Item] | None] = lambda rows: None
+
+    def items(self, rows: list[Any], wide: int) -> list[Item]:
+        """What is read of rows, which ought to have `wide` fields; a row that could not be cut is why."""
+        are_whole = not any(row.__class__ is BadLine for row in rows)
+        found = self.many(rows) if are_whole and set(map(len, rows)) == {wide} else None
+        return [self.item(row, wide) for row in rows] if found is None else found
+
+    def item(self, row: Any, wide: int) -> Item:
+        """What is read of one row."""
+        if row.__class__ is BadLine:
+            return row
+        if len(row) != wide:
+            return BadLine(f"{several(len(row), 'field')}, where the header line has {wide}")
+        try:
+            return self.one(row)
+        except (BadLine, LeftOut) as why:
+            return why
 
 
 @contextmanager
@@ -117,7 +147,7 @@ def rows(
             numbers = [number for number, row in zip(numbers, found) if row != [""]]
             found = [row for row in found if row != [""]]
         if found:
-            yield numbers, items_of(found, wide, read_row)
+            yield numbers, read_row.items(found, wide)
         line += count
 
 
@@ -142,23 +172,6 @@ def quoted(
             found.append(BadLine(why))
         count += table.line_num
     return numbers, found, count
-
-
-def items_of(rows, wide, read_row):
-    """What is read of each row, or why nothing is."""
-    items = []
-    add = items.append
-    for row in rows:
-        try:
-            if row.__class__ is BadLine:
-                add(row)
-            elif len(row) == wide:
-                add(read_row(row))
-            else:
-                add(BadLine(f"{several(len(row), 'field')}, where the header line has {wide}"))
-        except (BadLine, LeftOut) as why:
-            add(why)
-    return items
 
 
 def batches(pairs):
@@ -195,6 +208,31 @@ def column(header: list[str], *names: str) -> int:
     return place
 
 
+class Values:
+    """What takes the attribute values from rows: `places` says where they stand, and is nothing for a blank one."""
+
+    def __init__(self, names: list[str], places: list[int | None], wide: int) -> None:
+        # A place behind the row's end stands for a column that is not there.
+        take = [wide if place is None else place for place in places]
+        self.names, self.blank = names, [""] if None in places else []
+        self.take = itemgetter(*take) if len(take) > 1 else lambda row: tuple([row[place] for place in take])
+
+    def of(self, row: list[str]) -> tuple[str, ...]:
+        """The values of a row."""
+        values = self.take(row + self.blank if self.blank else row)
+        if not "".join(values).isascii():
+            for value, name in zip(values, self.names):
+                utf8(value, name)
+        return values
+
+    def of_all(self, rows: list[list[str]]) -> list[tuple[str, ...]]:
+        """The values of rows."""
+        if self.blank:
+            return list(map(self.of, rows))
+        found = list(map(self.take, rows))
+        return found if "".join(chain.from_iterable(found)).isascii() else list(map(self.of, rows))
+
+
 class Columns:
     """The columns that are kept as attributes, and which of them were found."""
 
@@ -205,27 +243,14 @@ class Columns:
         # In how many files a column is not, where there are several.
         self.lacking = Counter()
 
-    def reader(self, header: list[str]) -> Callable[[list[str]], tuple[str, ...]]:
-        """What takes the attribute values from a row below this header line."""
+    def reader(self, header: list[str]) -> Values:
+        """What takes the attribute values from rows below this header line."""
         places = [place_of(header, *names) for names in self.names]
         self.missing -= {names[0] for names, at in zip(self.names, places) if at is not None}
         if self.missing and len(self.files) == 1:
             raise BadLine(f"there is no column {self.first_missing()!r}")
         self.lacking.update(names[0] for names, at in zip(self.names, places) if at is None)
-
-        # A place behind the row's end stands for a column that is not there.
-        take = [len(header) if place is None else place for place in places]
-        blank = [""] if None in places else []
-        values_of = itemgetter(*take) if len(take) > 1 else lambda row: tuple([row[place] for place in take])
-
-        def read(row: list[str]) -> tuple[str, ...]:
-            values = values_of(row + blank if blank else row)
-            if not "".join(values).isascii():
-                for value, (name, _) in zip(values, self.pairs):
-                    utf8(value, name)
-            return values
-
-        return read if places else lambda row: ()
+        return Values([name for name, _ in self.pairs], places, len(header))
 
     def first_missing(self) -> str | None:
         """The first column that no file had, if there is one."""

@@ -161,6 +161,14 @@ class Clock:
         except KeyError:
             return self.met(text)
 
+    def moments(self, texts):
+        """The moments of instants."""
+        days, minutes, seconds = self.days, self.minutes, self.seconds
+        try:
+            return [days[text[:11]] + minutes[text[11:17]] + seconds[text[17:]] for text in texts]
+        except KeyError:
+            return list(map(self.moment, texts))
+
     def met(self, text):
         """The moment of an instant whose day may be new."""
         moment = self.read(text)

@@ -27,9 +27,9 @@ from argparse import Namespace
 from collections import Counter
 from collections.abc import Callable, Iterable, Iterator, Mapping, Sequence
 from decimal import Decimal
-from functools import lru_cache, partial
+from functools import partial
 from itertools import islice
-from typing import NamedTuple, TextIO, TypeAlias
+from typing import Any, NamedTuple, TextIO, TypeAlias
 
 from mftb.commands import ended, say
 from mftb.feeds import seams
@@ -62,8 +62,10 @@ class Position(NamedTuple):
 position_of = partial(tuple.__new__, Position)
 
 
+# A position as it is read, kept and made into legs: a plain tuple of its fields is as good, and faster.
+Plain: TypeAlias = tuple[str, int, tuple, tuple, int]
 # What is read of a line: a position, or why there is none.
-Item: TypeAlias = Position | Exception
+Item: TypeAlias = Plain | Exception
 FileReader: TypeAlias = Callable[[str], Iterator[tuple[int, Item]]]
 Reader: TypeAlias = Callable[[Namespace], FileReader]
 
@@ -76,32 +78,32 @@ class Spool:
     def __init__(self) -> None:
         self.file, self.sizes, self.bounds = tempfile.TemporaryFile(), [], Bounds()
 
-    def add(self, positions: list[Position]) -> None:
+    def add(self, positions: list[Plain]) -> None:
         """Keeps a batch of positions."""
         if positions:
             self.bounds.cover(positions)
             self.sizes.append(self.file.write(marshal.dumps(list(map(tuple, positions)), PLAIN)))
 
-    def __iter__(self) -> Iterator[Position]:
+    def __iter__(self) -> Iterator[Plain]:
         self.file.seek(0)
         for size in self.sizes:
-            yield from map(position_of, marshal.loads(self.file.read(size)))
+            yield from marshal.loads(self.file.read(size))
 
 
 class Sorted:
     """Positions by their moments, those of one moment as they came; memory does not grow."""
 
-    def __init__(self, positions: Iterable[Position]) -> None:
+    def __init__(self, positions: Iterable[Plain]) -> None:
         # An empty name is a temporary file, which is removed when it is closed.
         self.store = sqlite3.connect("")
         self.store.execute("pragma temp_store = file")
         self.store.execute("create table position (moment integer, number integer primary key, rest blob)")
-        rest = ((it.moment, marshal.dumps(tuple(it))) for it in positions)
+        rest = ((it[1], marshal.dumps(it)) for it in positions)
         self.store.executemany("insert into position (moment, rest) values (?, ?)", rest)
 
-    def __iter__(self) -> Iterator[Position]:
+    def __iter__(self) -> Iterator[Plain]:
         for (rest,) in self.store.execute("select rest from position order by moment, number"):
-            yield Position(*marshal.loads(rest))
+            yield marshal.loads(rest)
 
 
 class Bounds:
@@ -152,6 +154,7 @@ class Sieve:
         options = self.options
         if isinstance(item, Exception):
             return item
+        item = position_of(item)
         if options.prefix is not None:
             try:
                 item = item._replace(feature=feature_name(options.prefix + item.feature, "the name with --prefix"))
@@ -209,12 +212,12 @@ class Feed:
         ends = {}
         for path, lines, items in self.batches():
             self.lines += len(items)
-            kept = [item for item in items if item.__class__ is Position]
+            kept = [item for item in items if isinstance(item, tuple)]
             if len(kept) < len(items):
                 for line, item in zip(lines, items):
-                    if item.__class__ is not Position:
+                    if isinstance(item, Exception):
                         self.leave_out(path, line, item)
-                lines = [line for line, item in zip(lines, items) if item.__class__ is Position]
+                lines = [line for line, item in zip(lines, items) if isinstance(item, tuple)]
             self.spool.add(kept)
             self.follow(path, lines, kept, ends)
         self.features = len(ends)
@@ -315,38 +318,44 @@ class Legs:
         self.leaves_out = options.most is not None
         self.speed = Speed(options.most or options.usual, options.in_degrees)
         self.is_over = over_date_line if options.in_degrees else lambda one, two: False
-        # Of each feature the last position that was kept, and whether that is in a leg.
-        self.last = {name: (begin, True) for name, begin in begins.items()}
+        # Of each feature the last position that was kept, whether that is in a leg, and its x and y.
+        self.last = {name: (begin, True, *map(float, begin.place[:2])) for name, begin in begins.items()}
         # Of a feature whose first position is in no leg, one that was too fast from there.
         self.doubts = {}
 
-    def of(self, positions: Iterable[Position]) -> Iterator[tuple[Position, Position]]:
-        last, gap, nothing = self.last, self.gap, (None, True)
+    def ends(self) -> dict[str, Position]:
+        """Where each feature ended."""
+        return {name: position_of(end) for name, (end, *_) in self.last.items()}
+
+    def of(self, positions: Iterable[Plain]) -> Iterator[tuple[Plain, Plain]]:
+        last, gap, nothing = self.last, self.gap, (None, True, 0.0, 0.0)
         is_over, exceeded, glance = self.is_over, self.speed.exceeded, self.speed.glance
         for here in positions:
             feature, moment, place, _, segment = here
-            before, in_leg = last.get(feature, nothing)
+            x, y = float(place[0]), float(place[1])
+            before, in_leg, from_x, from_y = last.get(feature, nothing)
             if before is not None:
-                _, earlier, start, _, part = before
-                span = moment - earlier
-                if 0 < span <= gap and segment == part and not is_over(start[0], place[0]):
+                span = moment - before[1]
+                # Longitudes of one sign are on one side of the date line.
+                is_near = x * from_x > 0 or not is_over(before[2][0], place[0])
+                if 0 < span <= gap and segment == before[4] and is_near:
                     # What is slow enough at a glance needs no second one.
-                    apart = abs(float(place[0]) - float(start[0])) + abs(float(place[1]) - float(start[1]))
-                    if apart > glance * span and exceeded(before, here):
+                    if abs(x - from_x) + abs(y - from_y) > glance * span and exceeded(before, here):
                         before = self.too_fast(before, in_leg, here)
                     if before is not None:
                         yield before, here
-                        last[feature] = here, True
+                        last[feature] = here, True, x, y
                     continue
                 if self.is_repeated(before, here):
                     continue
             if not in_leg:
                 self.counts["alone"] += 1
-            last[feature] = here, False
-        self.counts["alone"] += sum(not in_leg for _, in_leg in last.values())
+            last[feature] = here, False, x, y
+        self.counts["alone"] += sum(not in_leg for _, in_leg, *_ in last.values())
 
-    def is_repeated(self, before: Position, here: Position) -> bool:
+    def is_repeated(self, before: Plain, here: Plain) -> bool:
         """Counts why there is no leg between two positions; whether it is a repeated instant."""
+        before, here = position_of(before), position_of(here)
         if before.segment != here.segment:
             self.counts["between segments"] += 1
         elif before.moment == here.moment:
@@ -358,7 +367,7 @@ class Legs:
             self.counts["over the date line"] += 1
         return False
 
-    def too_fast(self, before: Position, in_leg: bool, here: Position) -> Position | None:
+    def too_fast(self, before: Plain, in_leg: bool, here: Plain) -> Plain | None:
         """The position from which a leg leads here all the same, if there is one.
 
         Of two positions of which one is wrong, the later one is left out; but where the earlier
@@ -367,15 +376,17 @@ class Legs:
         if not self.leaves_out:
             self.counts["fast"] += 1
             return before
-        other = None if in_leg else self.doubts.get(here.feature)
+        feature = here[0]
+        other = None if in_leg else self.doubts.get(feature)
         if other and self.agree(other, here):
-            return self.doubts.pop(here.feature)
+            return self.doubts.pop(feature)
         self.counts["too fast"] += 1
         if not in_leg:
-            self.doubts[here.feature] = here
+            self.doubts[feature] = here
         return None
 
-    def agree(self, one: Position, two: Position) -> bool:
+    def agree(self, one: Plain, two: Plain) -> bool:
+        one, two = position_of(one), position_of(two)
         near = 0 < two.moment - one.moment <= self.gap and one.segment == two.segment
         apart = self.is_over(one.place[0], two.place[0]) or self.speed.exceeded(one, two)
         return near and not apart
@@ -384,7 +395,6 @@ class Legs:
 # The output
 
 
-@lru_cache(maxsize=10_000)
 def field(text: str) -> str:
     """A field of CSV, in quotes where it needs them."""
     if NEEDS_QUOTES.search(text):
@@ -392,11 +402,29 @@ def field(text: str) -> str:
     return text
 
 
-@lru_cache(maxsize=2000)
 def seconds(milliseconds: int) -> str:
     """A span in seconds, as the shortest decimal."""
     whole, part = divmod(milliseconds, 1000)
     return f"{whole}.{part:03}".rstrip("0") if part else str(whole)
+
+
+def value_fields(values: tuple[str, ...]) -> str:
+    """The fields behind a trajectory, each with its comma."""
+    return "".join(["," + field(value) for value in values])
+
+
+class Known(dict):
+    """What was made of texts or numbers that were met: the last 100,000 or so."""
+
+    def __init__(self, make: Callable[[Any], str]) -> None:
+        super().__init__()
+        self.make = make
+
+    def __missing__(self, given: Any) -> str:
+        if len(self) >= 100_000:
+            self.clear()
+        self[given] = made = self.make(given)
+        return made
 
 
 def write(out: TextIO, feed: Feed) -> None:
@@ -409,30 +437,28 @@ def write(out: TextIO, feed: Feed) -> None:
     names = [text for pair in options.written for text in pair]
     for line in head, ["@columns", "mfidref", "trajectory", *names]:
         out.write(",".join(map(field, line)) + "\n")
-    legs = kept_legs(feed)
+    legs, names, times, more = kept_legs(feed), Known(field), Known(seconds), Known(value_fields)
     while found := list(islice(legs, BATCH)):
         feed.written += len(found)
-        out.write("".join([record(one, two, start) for one, two in found]))
+        # A leg's times count from `start`.
+        lines = [
+            f"{names[one[0]]},{times[one[1] - start]},{times[two[1] - start]},{' '.join(one[2] + two[2])}{more[one[3]]}\n"
+            for one, two in found
+        ]
+        out.write("".join(lines))
 
 
-def record(one, two, start):
-    """The line of a leg between two positions, whose times count from `start`."""
-    feature, begin, place, values, _ = one
-    times = f"{field(feature)},{seconds(begin - start)},{seconds(two[1] - start)}"
-    more = "," + ",".join(map(field, values)) if values else ""
-    return f"{times},{' '.join(place + two[2])}{more}\n"
-
-
-def kept_legs(feed: Feed) -> Iterator[tuple[Position, Position]]:
+def kept_legs(feed: Feed) -> Iterator[tuple[Plain, Plain]]:
     """The legs that are written, with a word of progress on a terminal."""
     box, terminal = feed.options.bbox, sys.stderr.isatty()
     legs = feed.legs.of(feed.ordered)
     if box is None and not terminal:
         yield from legs
+        return
     for number, (one, two) in enumerate(legs):
         if number % STRIDE == 0 and terminal:
             say(feed.tool, f"leg {number}", end="")
-        if box is None or meets(box, one.place, two.place):
+        if box is None or meets(box, one[2], two[2]):
             yield one, two
         else:
             feed.counts["outside"] += 1
@@ -451,8 +477,7 @@ def save(feed: Feed) -> None:
         write(out, feed)
         out.flush()
         if state:
-            ends = {name: end for name, (end, _) in feed.legs.last.items()}
-            seams.write_state(state, options, ends)
+            seams.write_state(state, options, feed.legs.ends())
 
 
 def begins_of(tool: str, reader: Reader, options: Namespace) -> dict[str, Position]:
@@ -480,7 +505,7 @@ def ends_of_feed(tool: str, reader: Reader, options: Namespace) -> dict[str, Pos
     for _ in feed.legs.of(feed.ordered):
         pass
     # A later file's segments are its own.
-    return {name: end._replace(segment=0) for name, (end, _) in feed.legs.last.items()}
+    return {name: end._replace(segment=0) for name, end in feed.legs.ends().items()}
 
 
 def why_no_leg(feed):

@@ -48,9 +48,9 @@ def layout(table: layouts.Table, options: Namespace, clock: layouts.Clock) -> Ro
         if z is not None:
             place += (layouts.plain_number(row[z], table.header[z], comma),)
         place = tuple([texts.plain_decimal(text, "a coordinate") for text in place])
-        return conversion.Position(texts.feature_name(row[who], name), when, place, values(row))
+        return conversion.Position(texts.feature_name(row[who], name), when, place, values.of(row))
 
-    return read
+    return RowReader(read)
 
 
 def reader(options: Namespace) -> conversion.FileReader:

@@ -59,9 +59,9 @@ def layout(header: list[str], kept: sources.Columns, midnight: bool, studies: An
         name = texts.feature_name(row[who], animal)
         if study is not None:
             studies.see(name, row[study])
-        return conversion.Position(name, when, place, values(row))
+        return conversion.Position(name, when, place, values.of(row))
 
-    return read
+    return sources.RowReader(read)
 
 
 def outlier_reader(header: list[str]) -> Callable[[list[str]], bool]:
