@@ -6,7 +6,7 @@ The layout is told by the header line. A feature is an MMSI; x is the longitude,
 from __future__ import annotations
 
 from argparse import Namespace
-from collections.abc import Callable
+from collections.abc import Callable, Sequence
 from dataclasses import dataclass
 from functools import lru_cache
 from itertools import compress, repeat
@@ -153,15 +153,10 @@ def reader(options: Namespace) -> conversion.FileReader:
     return lambda path: sources.read_table(path, lambda header: layout(header, options.kept), options.encoding)
 
 
-def parse(given=None):
+def parse(given: Sequence[str] | None = None) -> Namespace:
     """The options of the command line, or of words that are given."""
     words = arguments.words(
-        __doc__,
-        EXAMPLE,
-        gap="10m",
-        why="since ships at anchor report every 3 minutes",
-        most="100kn",
-        usual="100kn",
+        __doc__, EXAMPLE, gap="10m", why="since ships at anchor report every 3 minutes", most="100kn", usual="100kn"
     )
     arguments.add_encoding(words)
     return words.parse_args(given)

@@ -7,12 +7,13 @@ from __future__ import annotations
 
 import argparse
 from argparse import Namespace
+from collections.abc import Sequence
 from datetime import datetime, timezone, tzinfo
-from mftb.sources import RowReader
 from zoneinfo import ZoneInfo
 
 from mftb import texts
 from mftb.feeds import arguments, conversion, layouts
+from mftb.sources import RowReader
 
 EXAMPLE = """example:
   tools/from_csv --id taxi --time time --x lon --y lat --tz America/New_York taxis.csv -o legs.csv
@@ -85,12 +86,7 @@ def delimiter(text: str) -> str:
 
 def words() -> arguments.Words:
     parser = arguments.words(
-        __doc__,
-        EXAMPLE,
-        gap="1h",
-        why="which is a guess: say what fits the table",
-        most="off",
-        usual="1200km/h",
+        __doc__, EXAMPLE, gap="1h", why="which is a guess: say what fits the table", most="off", usual="1200km/h"
     )
     for name, what in [
         ("id", "whose position it is"),
@@ -126,7 +122,7 @@ def add_forms(parser: argparse.ArgumentParser) -> None:
     parser.add_argument("--decimal", choices=".,", default=".", help="what stands before fractions (.)")
 
 
-def parse(given=None):
+def parse(given: Sequence[str] | None = None) -> Namespace:
     """The options of the command line, or of words that are given."""
     parser = words()
     options = parser.parse_args(given)

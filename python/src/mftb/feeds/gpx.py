@@ -168,7 +168,7 @@ def skip_blanks(source: BinaryIO) -> bytes:
     return piece
 
 
-def parse(given=None):
+def parse(given: Sequence[str] | None = None) -> Namespace:
     """The options of the command line, or of words that are given."""
     words = arguments.words(
         __doc__,

@@ -6,8 +6,9 @@ A feature is an individual-local-identifier; x is the longitude, y the latitude.
 from __future__ import annotations
 
 from argparse import Namespace
-from collections.abc import Callable
+from collections.abc import Callable, Sequence
 from typing import Any
+
 from mftb import sources, texts
 from mftb.feeds import arguments, conversion
 
@@ -119,15 +120,10 @@ def reader(options: Namespace) -> conversion.FileReader:
     return lambda path: sources.read_table(path, layout_of, options.encoding)
 
 
-def parse(given=None):
+def parse(given: Sequence[str] | None = None) -> Namespace:
     """The options of the command line, or of words that are given."""
     words = arguments.words(
-        __doc__,
-        EXAMPLE,
-        gap="25h",
-        why="one location a day, and an hour to spare",
-        most="200km/h",
-        usual="200km/h",
+        __doc__, EXAMPLE, gap="25h", why="one location a day, and an hour to spare", most="200km/h", usual="200km/h"
     )
     words.add_argument(
         "--midnight",
