@@ -12,13 +12,14 @@ import zipfile
 import zlib
 from argparse import Namespace
 from collections import Counter
-from collections.abc import Callable, Iterable, Iterator
+from collections.abc import Callable, Iterable, Iterator, Sequence
 from contextlib import contextmanager
 from dataclasses import dataclass
 from itertools import chain, islice
 from operator import itemgetter
 from typing import IO, Any, BinaryIO, TextIO, TypeAlias
 
+from mftb import apart
 from mftb.texts import BadLine, LeftOut, Refused, several, utf8
 
 # A field has fewer characters.
@@ -27,8 +28,8 @@ csv.field_size_limit(LONGEST)
 UNPACKING = EOFError, zlib.error, gzip.BadGzipFile, zipfile.BadZipFile, NotImplementedError
 # UTF-8, with or without a mark at the start.
 UTF_8 = "utf-8-sig"
-# Rows that are read at once.
-BATCH = 1000
+# Rows that are read at once, in this process, and in one of several.
+BATCH, FAR = 1000, 10_000
 # What is read of a row: a position, or why there is none.
 Item: TypeAlias = Any
 NOT_A_LETTER = re.compile("[^0-9a-z]")
@@ -106,8 +107,18 @@ def as_text(raw: IO[bytes], encoding: str = UTF_8) -> TextIO:
 # Tables
 
 
-def read_table(path: str, layout: Callable[[list[str]], RowReader], encoding: str = UTF_8) -> Iterator[tuple[int, Any]]:
-    """Batches of a CSV file: line numbers, and of each line its position, or why it has none.
+@dataclass(frozen=True)
+class Work:
+    """What is done with the rows of some lines, and in how many processes."""
+
+    judge: Callable[[Sequence[int], list[Item]], Any]
+    jobs: int = 1
+
+
+def read_table(
+    path: str, layout: Callable[[list[str]], RowReader], work: Work, encoding: str = UTF_8
+) -> Iterator[Any]:
+    """What is judged of the lines of a CSV file, some at once.
 
     `layout` makes what reads a row from the header line. A file of blank lines has none.
     """
@@ -116,11 +127,11 @@ def read_table(path: str, layout: Callable[[list[str]], RowReader], encoding: st
         table = csv.reader(text)
         try:
             header = first_row(table)
-            read_row = layout(header) if header else None
+            reader = layout(header) if header else None
         except (csv.Error, BadLine) as why:
             raise Refused(f"{path} line {max(table.line_num, 1)}: {why}") from None
         if header:
-            yield from rows(text, table.line_num, len(header), read_row)
+            yield from rows(text, table.line_num, Rows(len(header), reader), work)
 
 
 def first_row(table: Iterable[list[str]]) -> list[str]:
@@ -132,22 +143,63 @@ def first_row(table: Iterable[list[str]]) -> list[str]:
     return []
 
 
-def rows(
-    text: Iterator[str], line: int, wide: int, read_row: RowReader, delimiter: str = ","
-) -> Iterator[tuple[Any, Any]]:
-    """Batches of the rows behind a line: their line numbers, and what is read of each, or why nothing is."""
-    while lines := list(islice(text, BATCH)):
-        if any('"' in it for it in lines) or max(map(len, lines)) >= LONGEST:
-            numbers, found, count = quoted(lines, text, line, delimiter)
-        else:
+@dataclass(frozen=True)
+class Lines:
+    """Lines of a table without a quote, and how many stand before them."""
+
+    before: int
+    lines: list[str]
+
+
+@dataclass(frozen=True)
+class Cut:
+    """Rows that were cut from lines with quotes, and their line numbers; one that cannot be cut is why."""
+
+    numbers: Sequence[int]
+    rows: list[list[str] | BadLine]
+
+
+@dataclass(frozen=True)
+class Rows:
+    """How lines are cut into rows, and what reads these."""
+
+    wide: int
+    reader: RowReader
+    delimiter: str = ","
+
+    def read(self, part: Lines | Cut) -> tuple[Sequence[int], list[Item]]:
+        """Line numbers, and what is read of each row, or why nothing is; a blank line is no row."""
+        if isinstance(part, Lines):
             # A row without a quote is its line, cut at the delimiters.
-            found, count = [it.rstrip("\r\n").split(delimiter) for it in lines], len(lines)
-            numbers = range(line + 1, line + 1 + count)
+            found = [line.rstrip("\r\n").split(self.delimiter) for line in part.lines]
+            part = Cut(range(part.before + 1, part.before + 1 + len(found)), found)
+        numbers, found = part.numbers, part.rows
         if [""] in found:
             numbers = [number for number, row in zip(numbers, found) if row != [""]]
             found = [row for row in found if row != [""]]
-        if found:
-            yield numbers, read_row.items(found, wide)
+        return numbers, self.reader.items(found, self.wide)
+
+
+def rows(text: Iterator[str], line: int, how: Rows, work: Work) -> Iterator[Any]:
+    """What is judged of the rows behind a line, some at once."""
+
+    def judged(part: Lines | Cut) -> Any:
+        numbers, items = how.read(part)
+        return work.judge(numbers, items) if items else None
+
+    parts = cut(text, line, how.delimiter, BATCH if work.jobs == 1 else FAR)
+    return filter(None, map(judged, parts) if work.jobs == 1 else apart.ordered(judged, parts, work.jobs))
+
+
+def cut(text: Iterator[str], line: int, delimiter: str, most: int) -> Iterator[Lines | Cut]:
+    """The lines of a table behind a line, at most so many at once but where a row goes on over lines."""
+    while lines := list(islice(text, most)):
+        if any('"' in it for it in lines) or max(map(len, lines)) >= LONGEST:
+            numbers, found, count = quoted(lines, text, line, delimiter)
+            yield Cut(numbers, found)
+        else:
+            count = len(lines)
+            yield Lines(line, lines)
         line += count
 
 

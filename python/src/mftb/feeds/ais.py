@@ -6,7 +6,7 @@ The layout is told by the header line. A feature is an MMSI; x is the longitude,
 from __future__ import annotations
 
 from argparse import Namespace
-from collections.abc import Callable, Sequence
+from collections.abc import Callable, Iterator, Sequence
 from dataclasses import dataclass
 from functools import lru_cache
 from itertools import compress, repeat
@@ -14,6 +14,7 @@ from operator import itemgetter
 
 from mftb import sources, texts
 from mftb.feeds import arguments, conversion
+from mftb.feeds.judging import Batch, Item, Judge, Position
 
 EXAMPLE = """example:
   tools/from_ais --columns VesselName --skip-bad positions.csv -o ships.csv
@@ -94,7 +95,7 @@ class Reports:
         self.place_of = itemgetter(*self.axes)
         self.features = Features(self.header[self.mmsi])
 
-    def one(self, row: list[str]) -> conversion.Position:
+    def one(self, row: list[str]) -> Position:
         """The position of a report."""
         if self.kind is not None and is_no_ship(row[self.kind]):
             raise texts.LeftOut("of base stations and aids to navigation")
@@ -104,9 +105,9 @@ class Reports:
             what = f"{self.header[self.at]} {row[self.at]!r}"
             raise texts.BadLine(f"{what} is no instant of the form {self.form}") from None
         place = texts.degrees(*self.place_of(row), [self.header[axis] for axis in self.axes])
-        return conversion.Position(self.features[row[self.mmsi]], when, place, self.values.of(row))
+        return Position(self.features[row[self.mmsi]], when, place, self.values.of(row))
 
-    def many(self, rows: list[list[str]]) -> list[conversion.Item] | None:
+    def many(self, rows: list[list[str]]) -> list[Item] | None:
         """The positions of reports, column by column; those of another form than the usual one are read one by one."""
         are_usual = self.are_usual(rows)
         usual = list(compress(rows, are_usual))
@@ -150,7 +151,11 @@ def is_no_ship(kind: str) -> bool:
 
 
 def reader(options: Namespace) -> conversion.FileReader:
-    return lambda path: sources.read_table(path, lambda header: layout(header, options.kept), options.encoding)
+    def read(path: str, judge: Judge) -> Iterator[Batch]:
+        work = sources.Work(judge, options.jobs)
+        return sources.read_table(path, lambda header: layout(header, options.kept), work, options.encoding)
+
+    return read
 
 
 def parse(given: Sequence[str] | None = None) -> Namespace:
@@ -159,6 +164,13 @@ def parse(given: Sequence[str] | None = None) -> Namespace:
         __doc__, EXAMPLE, gap="10m", why="since ships at anchor report every 3 minutes", most="100kn", usual="100kn"
     )
     arguments.add_encoding(words)
+    words.add_argument(
+        "--jobs",
+        type=arguments.jobs,
+        default=1,
+        metavar="N",
+        help="read by so many processes; what is written is the same (without: 1)",
+    )
     return words.parse_args(given)
 
 

@@ -25,48 +25,29 @@ import sys
 import tempfile
 from argparse import Namespace
 from collections import Counter
-from collections.abc import Callable, Iterable, Iterator, Mapping, Sequence
-from decimal import Decimal
-from functools import partial
+from collections.abc import Callable, Iterable, Iterator, Mapping
 from itertools import islice
-from typing import Any, NamedTuple, TextIO, TypeAlias
+from typing import Any, TextIO, TypeAlias
 
 from mftb.commands import ended, say
 from mftb.feeds import seams
 from mftb.feeds.fixes import Speed, Unwrapped, meets, over_date_line
+from mftb.feeds.judging import Batch, Bounds, Judge, Plain, Position, Sieve, position_of
 from mftb.legfiles import beside
 from mftb.sources import BATCH, Columns
-from mftb.texts import BadLine, LeftOut, Refused, feature_name, instant, several
+from mftb.texts import LeftOut, Refused, instant, several
 
 NEEDS_QUOTES = re.compile('[",\r\n]')
 # Positions between two words of progress, and lines that cannot be read of which each is named.
 STRIDE, NAMED = 50_000, 20
-# The form of marshal that looks for no value that stands twice.
-PLAIN = 2
 
 
 class IsThere(Refused):
     """That all positions of the files were converted before."""
 
 
-class Position(NamedTuple):
-    """Where a feature was at a moment (in milliseconds since 1970), with its attribute values."""
-
-    feature: str
-    moment: int
-    place: tuple
-    values: tuple = ()
-    segment: int = 0
-
-
-position_of = partial(tuple.__new__, Position)
-
-
-# A position as it is read, kept and made into legs: a plain tuple of its fields is as good, and faster.
-Plain: TypeAlias = tuple[str, int, tuple, tuple, int]
-# What is read of a line: a position, or why there is none.
-Item: TypeAlias = Plain | Exception
-FileReader: TypeAlias = Callable[[str], Iterator[tuple[int, Item]]]
+# What reads a file, and gives what is judged of its lines, some at once.
+FileReader: TypeAlias = Callable[[str, Judge], Iterator[Batch]]
 Reader: TypeAlias = Callable[[Namespace], FileReader]
 
 # Reading
@@ -78,11 +59,11 @@ class Spool:
     def __init__(self) -> None:
         self.file, self.sizes, self.bounds = tempfile.TemporaryFile(), [], Bounds()
 
-    def add(self, positions: list[Plain]) -> None:
-        """Keeps a batch of positions."""
-        if positions:
-            self.bounds.cover(positions)
-            self.sizes.append(self.file.write(marshal.dumps(list(map(tuple, positions)), PLAIN)))
+    def add(self, batch: Batch) -> None:
+        """Keeps the positions of a batch."""
+        if batch.count:
+            self.bounds.join(batch.bounds)
+            self.sizes.append(self.file.write(batch.packed))
 
     def __iter__(self) -> Iterator[Plain]:
         self.file.seek(0)
@@ -104,87 +85,6 @@ class Sorted:
     def __iter__(self) -> Iterator[Plain]:
         for (rest,) in self.store.execute("select rest from position order by moment, number"):
             yield marshal.loads(rest)
-
-
-class Bounds:
-    """The first and the last moment of positions, and the corners of their places."""
-
-    def __init__(self) -> None:
-        self.first = self.last = None
-        self.low, self.high = [], []
-
-    def cover(self, positions: Sequence[tuple]) -> None:
-        """Takes positions in, which are tuples; there is at least one."""
-        moments = [it[1] for it in positions]
-        moments += [] if self.first is None else [self.first, self.last]
-        self.first, self.last = min(moments), max(moments)
-        axes = [(texts, list(map(float, texts))) for texts in zip(*[it[2] for it in positions])]
-        lows, highs = (self.low, self.high) if self.low else ([None] * len(axes),) * 2
-        self.low = [corner(*axis, min, end) for axis, end in zip(axes, lows)]
-        self.high = [corner(*axis, max, end) for axis, end in zip(axes, highs)]
-
-
-def corner(texts, numbers, most, end):
-    """The first of the least texts of numbers, or of the greatest, where `end` was that so far."""
-    # As floats keep the order, they only spare most comparisons of the decimals.
-    found = most(numbers)
-    if end is not None and most(found, float(end)) != found:
-        return end
-    ties = dict.fromkeys(text for text, number in zip(texts, numbers) if number == found)
-    if end is not None and float(end) == found:
-        ties = {end: None, **ties}
-    return most(ties, key=Decimal) if len(ties) > 1 else next(iter(ties))
-
-
-class Sieve:
-    """What the words of the command line leave out, line by line, or add to a position."""
-
-    def __init__(self, options: Namespace, begins: Mapping[str, Position]) -> None:
-        self.options, self.begins = options, begins
-        # The first feature that is not later than where it ended, and its moments.
-        self.early = []
-
-    def __bool__(self) -> bool:
-        options = self.options
-        wanted = options.start, options.end, options.source, options.prefix
-        return any(it is not None for it in wanted) or bool(self.begins)
-
-    def take(self, path: str, line: int, item: Item) -> Item:
-        """The position that is left of an item, or why none is."""
-        options = self.options
-        if isinstance(item, Exception):
-            return item
-        item = position_of(item)
-        if options.prefix is not None:
-            try:
-                item = item._replace(feature=feature_name(options.prefix + item.feature, "the name with --prefix"))
-            except BadLine as why:
-                return why
-        if options.start is not None and item.moment < options.start:
-            return LeftOut("before --from")
-        if options.end is not None and item.moment > options.end:
-            return LeftOut("after --to")
-        if options.source is not None:
-            item = item._replace(values=(*item.values, f"{path}:{line}"))
-        begin = self.begins.get(item.feature)
-        if begin is None or item.moment > begin.moment:
-            return item
-        if not self.early:
-            self.early = [item, item]
-        if item.feature == self.early[0].feature:
-            self.early = [min(self.early[0], item, key=when), max(self.early[1], item, key=when)]
-        return LeftOut(f"not later than {options.before}")
-
-    def question(self) -> str:
-        """Whether these files were loaded before, in words."""
-        first, last = self.early
-        end = instant(self.begins[first.feature].moment)
-        times = f"is here from {instant(first.moment)} to {instant(last.moment)}"
-        return f"already loaded? {first.feature!r} {times}, and ended at {end}"
-
-
-def when(position: Position) -> int:
-    return position.moment
 
 
 class Feed:
@@ -209,32 +109,30 @@ class Feed:
 
     def survey(self) -> None:
         """Judges every line, and sees what the header needs and whether there is an order."""
-        ends = {}
-        for path, lines, items in self.batches():
-            self.lines += len(items)
-            kept = [item for item in items if isinstance(item, tuple)]
-            if len(kept) < len(items):
-                for line, item in zip(lines, items):
-                    if isinstance(item, Exception):
-                        self.leave_out(path, line, item)
-                lines = [line for line, item in zip(lines, items) if isinstance(item, tuple)]
-            self.spool.add(kept)
-            self.follow(path, lines, kept, ends)
+        ends: dict[str, int] = {}
+        for path, batch in self.batches():
+            self.lines += batch.lines
+            for line, why in batch.faults:
+                self.leave_out(path, line, why)
+            for feature, (first, last) in batch.early.items():
+                self.sieve.note(feature, first, last)
+            self.spool.add(batch)
+            self.follow(path, batch, ends)
         self.features = len(ends)
         self.judge(ends)
         self.order()
 
-    def follow(self, path, lines, positions, ends):
+    def follow(self, path: str, batch: Batch, ends: dict[str, int]) -> None:
         """Notes where each feature is now, and the first that goes back in time."""
-        moments = [it[1] for it in positions]
-        if not self.disorder and [self.latest, *moments] != sorted([self.latest, *moments]):
-            for line, (feature, moment, _, _, _) in zip(lines, positions):
-                if moment < ends.get(feature, moment):
-                    self.disorder = f"{path} line {line}: {feature!r} goes back in time"
-                    break
-                ends[feature] = moment
-        self.latest = max([self.latest, *moments])
-        ends.update(zip([it[0] for it in positions], moments))
+        if not self.disorder and batch.count:
+            back = [] if batch.disorder is None else [batch.disorder]
+            if batch.bounds.first < self.latest:
+                back += [(line, name) for name, (when, line) in batch.firsts.items() if when < ends.get(name, when)]
+            if back:
+                line, feature = min(back)
+                self.disorder = f"{path} line {line}: {feature!r} goes back in time"
+            self.latest = max(self.latest, batch.bounds.last)
+        ends.update(batch.lasts)
 
     def leave_out(self, path: str, line: int, why: Exception) -> None:
         """Counts a line without a position; one that cannot be read ends all, or is named."""
@@ -254,19 +152,16 @@ class Feed:
         if not self.quiet:
             say(self.tool, what)
 
-    def batches(self):
+    def batches(self) -> Iterator[tuple[str, Batch]]:
         """What the files have, with a word of progress on a terminal."""
         terminal, read = sys.stderr.isatty(), self.reader(self.options)
-        take = self.sieve.take if self.sieve else None
         for path in self.options.files:
             number = 0
-            for lines, items in read(path):
-                if terminal and number // STRIDE < (number + len(items)) // STRIDE:
-                    say(self.tool, f"{path} line {lines[-1]}", end="")
-                number += len(items)
-                if take:
-                    items = [take(path, line, item) for line, item in zip(lines, items)]
-                yield path, lines, items
+            for batch in read(path, Judge(path, self.sieve)):
+                if terminal and number // STRIDE < (number + batch.lines) // STRIDE:
+                    say(self.tool, f"{path} line {batch.last_line}", end="")
+                number += batch.lines
+                yield path, batch
             if not number:
                 self.say(f"{path} has nothing to convert; it is passed over")
 
@@ -442,8 +337,8 @@ def write(out: TextIO, feed: Feed) -> None:
         feed.written += len(found)
         # A leg's times count from `start`.
         lines = [
-            f"{names[one[0]]},{times[one[1] - start]},{times[two[1] - start]},{' '.join(one[2] + two[2])}{more[one[3]]}\n"
-            for one, two in found
+            f"{names[name]},{times[begin - start]},{times[two[1] - start]},{' '.join(place + two[2])}{more[values]}\n"
+            for (name, begin, place, values, _), two in found
         ]
         out.write("".join(lines))
 

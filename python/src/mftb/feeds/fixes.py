@@ -8,7 +8,7 @@ from decimal import Decimal
 from typing import TYPE_CHECKING, TypeAlias
 
 if TYPE_CHECKING:
-    from mftb.feeds.conversion import Plain, Position
+    from mftb.feeds.judging import Plain, Position
 
 Place: TypeAlias = Sequence[str]
 EARTH = 6_371_008.8
