@@ -203,9 +203,7 @@ def cut(text: Iterator[str], line: int, delimiter: str, most: int) -> Iterator[L
         line += count
 
 
-def quoted(
-    lines: list[str], text: Iterator[str], line: int, delimiter: str
-) -> tuple[list[int], list[Any], int]:
+def quoted(lines: list[str], text: Iterator[str], line: int, delimiter: str) -> tuple[list[int], list[Any], int]:
     """The line numbers and the rows of lines of which one has a quote: such a row may go on behind them.
 
     The third value says how many lines that was. A row that cannot be read is why it cannot.

@@ -4,15 +4,17 @@ from __future__ import annotations
 
 import os
 from collections.abc import Iterable, Sequence
-from fractions import Fraction
+from functools import partial
 from pathlib import Path as FilePath
 from types import TracebackType
 from typing import TYPE_CHECKING, Any, TypeVar
 
-from mftb import errors, forms, gaps, lines, runs
+from mftb import errors, forms, gaps, lines, moments, runs
 from mftb.lines import Path, Period, Predicate, Rectangle
-from mftb.records import Counts, Dwell, Feature, Gap, Info, Leg, Loaded, Report, Stay, Visit
+from mftb.records import Counts, Feature, Gap, Info, Leg, Loaded, Report, Stay
 from mftb.results import Answer
+from mftb.tallies import Dwells, Visits
+from mftb.zones import Zones, named
 
 if TYPE_CHECKING:
     import pandas
@@ -126,25 +128,38 @@ class Book(Questions):
 
     def moments(self, rectangle: Rectangle, period: Period) -> Answer[Stay]:
         """When each leg is inside a rectangle."""
-        return self._moments(forms.StayForm, [], rectangle, period)
-
-    def visits(self, rectangle: Rectangle, period: Period) -> Answer[Visit]:
-        """When each feature is inside a rectangle: stays joined over legs without a gap in time."""
-        return self._moments(forms.VisitForm, ["--visits"], rectangle, period)
-
-    def dwell(self, rectangle: Rectangle, period: Period) -> Answer[Dwell]:
-        """How long each feature is inside a rectangle in all."""
-        return self._moments(forms.DwellForm, ["--dwell"], rectangle, period)
-
-    def _moments(self, form: type[forms.MomentForm], flags: list[str], rectangle: Rectangle, period: Period) -> Answer:
         words = lines.words(rectangle, period)
         info = self.info()
-        answer: Answer = Answer(" ".join(["moments", *flags, *words]), info.crs)
-        names, printed = self._moment_records(flags, words)
-        start = ((info.start or forms.EPOCH) - forms.EPOCH) // forms.MILLISECOND
-        return answer.fill(printed, form(names=names, start=Fraction(start, 1000)))
+        answer: Answer[Stay] = Answer(" ".join(["moments", *words]), info.crs)
+        names, printed = self._moment_records([], words)
+        return answer.fill(printed, forms.StayForm(names=names, start=forms.start_of(info)))
+
+    def visits(self, zones: Zones, period: Period) -> Visits:
+        """When each feature is inside a rectangle, or inside each of some that have names.
+
+        A visit is stays joined over legs without a gap in time. Those of each zone stand together.
+        """
+        info, found = self.info(), moments.Joined()
+        for name, words in moments.questions(zones, period):
+            names, visits = self._moment_records(["--visits"], words)
+            found.add(name, moments.with_ends(names, visits, *self._moment_records([], words)))
+        ends = moments.seconds(period)
+        answer = Visits(moments.question("--visits", zones, period), info.crs, list(named(zones)), ends)
+        answer.fill(found.printed(), forms.VisitForm(names=found.names, start=forms.start_of(info)))
+        return answer
+
+    def dwell(self, zones: Zones, period: Period) -> Dwells:
+        """How long each feature is inside a rectangle, or inside each of some that have names, in all."""
+        info, found = self.info(), moments.Joined()
+        for name, words in moments.questions(zones, period):
+            names, printed = self._moment_records(["--dwell"], words)
+            found.add(name, (names, moments.rows_of(printed)))
+        answer = Dwells(moments.question("--dwell", zones, period), info.crs, partial(self.visits, zones, period))
+        answer.fill(found.printed(), forms.DwellForm(names=found.names, start=forms.start_of(info)))
+        return answer
 
     def _moment_records(self, flags: list[str], words: list[str]) -> tuple[list[str], runs.Printed]:
+        """The names of the fields of `mftb moments`, and its records."""
         raise NotImplementedError
 
 

@@ -14,16 +14,18 @@ import re
 import sys
 import tempfile
 from argparse import Namespace
-from collections.abc import Callable, Iterable, Iterator, Mapping, Sequence
+from collections.abc import Callable, Iterable, Iterator, Sequence
 from contextlib import nullcontext
 from itertools import groupby
 from pathlib import Path
-from typing import Any, TextIO, TypeAlias
+from typing import IO, Any, TextIO
 
+from mftb import playing
 from mftb.asking import Row, Store
 from mftb.commands import ended, example, say
 from mftb.draw.plot import in_degrees
 from mftb.legfiles import beside
+from mftb.playing import Tracks
 from mftb.program import NAMING
 
 EXAMPLE = """example:
@@ -35,9 +37,10 @@ The columns are: question (its number), words, feature, begin, end, x0, y0, x1, 
 dimensions x0, y0, z0, x1, y1, z1), and the attributes by their names. csv is for
 pandas.read_csv and for .import of sqlite3; wkt is csv with one column wkt in place of the
 coordinates; json is a list of objects; geojson is for QGIS, kepler.gl and geopandas.read_file:
-there a feature of `features` is its whole track. The status is 3 where a line was refused.
+there a feature of `features` is its whole track. gpkg is a GeoPackage, whose layers are `legs`, for
+QGIS's Temporal Controller, and `tracks`, with moments as M; trips is GeoJSON with a moment a
+position, for a trip layer of kepler.gl. The status is 3 where a line was refused.
 The answers are those of mftb; this tool is no part of any proof."""
-Tracks: TypeAlias = Mapping[str, list[Row]]
 PLAIN = re.compile(r"-?(?:0|[1-9][0-9]*)(?:\.[0-9]+)?(?:[eE][+-]?[0-9]+)?")
 NUMBERS = {"integer", "int", "long", "short", "byte", "decimal", "double", "float"}
 NUMBERS |= {"nonNegativeInteger", "positiveInteger", "unsignedInt", "unsignedLong"}
@@ -195,21 +198,29 @@ def write(options: Namespace, store: Store, rows: Iterable[Row | None], tracks: 
     if options.question:
         rows = (row for row in rows if row.number == options.question)
     if not options.split:
-        with beside(options.output) if options.output else nullcontext(sys.stdout) as out:
+        with beside(options.output, mode_of(options)) if options.output else nullcontext(sys.stdout) as out:
             write_one(options, store, rows, tracks, out)
         return
-    kind = {"wkt": "csv"}.get(options.format, options.format)
+    kind = {"wkt": "csv", "trips": "geojson"}.get(options.format, options.format)
     Path(options.split).mkdir(exist_ok=True)
     for number, own in groupby(rows, lambda row: row.number):
-        with beside(str(Path(options.split, f"question-{number}.{kind}"))) as out:
+        with beside(str(Path(options.split, f"question-{number}.{kind}")), mode_of(options)) as out:
             write_one(options, store, own, tracks, out)
 
 
-def write_one(options: Namespace, store: Store, rows: Iterable[Row], tracks: Tracks, out: TextIO) -> None:
+def mode_of(options: Namespace) -> str:
+    return "wb" if options.format == "gpkg" else "w"
+
+
+def write_one(options: Namespace, store: Store, rows: Iterable[Row], tracks: Tracks, out: IO[Any]) -> None:
     if options.format == "json":
         write_json(out, store, rows)
     elif options.format == "geojson":
         write_geojson(out, store, rows, tracks)
+    elif options.format == "trips":
+        playing.write_trips(out, rows, tracks)
+    elif options.format == "gpkg":
+        playing.write_geopackage(out, store.crs, store.dimension, store.columns, rows, tracks)
     else:
         write_csv(out, store, rows, options.format == "wkt")
 
@@ -228,7 +239,7 @@ def table(options: Namespace) -> int:
             store.read_info()
             tracks = store.tracks(features_of(store.rows(out, script)))
             write(options, store, store.rows(out, script), tracks)
-    if options.format == "geojson" and not in_degrees(store.crs):
+    if options.format in ("geojson", "trips") and not in_degrees(store.crs):
         say("table", f"{store.crs}: GeoJSON's coordinates are taken as degrees")
     return 3 if is_refused else 0
 
@@ -245,7 +256,7 @@ def words() -> Namespace:
     parser.add_argument("files", metavar="FILES", nargs="*", help="the files that it may load")
     parser.add_argument("--ask", action="append", default=[], metavar="LINE", help="a line in place of a script")
     parser.add_argument("--question", type=int, metavar="N", help="only the Nth answer")
-    parser.add_argument("--format", choices=["csv", "json", "geojson", "wkt"], default="csv")
+    parser.add_argument("--format", choices=["csv", "json", "geojson", "wkt", "gpkg", "trips"], default="csv")
     parser.add_argument("-o", dest="output", metavar="OUT", help="the table (standard output)")
     parser.add_argument("--split", metavar="DIR", help="a file a question in this folder")
     parser.add_argument("--program", metavar="MFTB", help=NAMING)
@@ -255,6 +266,8 @@ def words() -> Namespace:
         parser.error("a SCRIPT is wanted, or --ask")
     if options.split and options.output:
         parser.error("-o or --split")
+    if options.format == "gpkg" and not (options.output or options.split):
+        parser.error("--format gpkg is written to a file: -o or --split")
     return options
 
 

@@ -3,12 +3,11 @@
 from __future__ import annotations
 
 import csv
-import io
 import os
 import re
 import subprocess
 import sys
-from collections.abc import Callable, Iterable, Sequence
+from collections.abc import Callable, Sequence
 from concurrent.futures import ThreadPoolExecutor
 from pathlib import Path as FilePath
 from typing import TypeVar
@@ -17,6 +16,7 @@ from mftb import errors, lines, runs
 from mftb.fleet import manifest
 from mftb.forms import LoadForm, exact
 from mftb.lines import Path
+from mftb.moments import rows_of
 from mftb.records import Info, Loaded, Report
 from mftb.store import Book, Store
 
@@ -123,11 +123,6 @@ class Fleet(Book):
 
 SUMMED = ("legs", "features", "most_legs", "most_features", "pages", "bytes")
 SAME = ("crs", "dimension", "start", "columns", "version", "state")
-
-
-def rows_of(printed: runs.Printed) -> Iterable[list[str]]:
-    with printed.opened() as file:
-        yield from csv.reader(io.TextIOWrapper(file, encoding="utf-8", newline=""))
 
 
 def error_of(status: int, printed: str, said: str) -> errors.MftbError:
