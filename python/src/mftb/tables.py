@@ -21,6 +21,7 @@ from pathlib import Path
 from typing import IO, Any, TextIO
 
 from mftb import playing
+from mftb.answers import read_script
 from mftb.asking import Row, Store
 from mftb.commands import ended, example, say
 from mftb.draw.plot import in_degrees
@@ -63,6 +64,9 @@ class Layout:
 
     def fields(self, row: Row) -> list[Any]:
         """A row as texts."""
+        if row.places and len(row.values) == len(self.types) and not self.is_wkt:
+            first, last = row.places
+            return [row.number, row.words, row.feature, row.begin, row.end, *first, *last, *row.values]
         places = [text for place in row.places for text in place]
         if self.is_wkt:
             places = [line_of(row.places)] if places else []
@@ -181,7 +185,7 @@ def geometry(legs: Iterable[Row]) -> dict[str, Any] | None:
 
 def full_rows(rows: Iterable[Row | None], tracks: Tracks) -> Iterator[Row]:
     """The rows, those of features with the moments and the values of their last legs."""
-    for row in rows:
+    for row in rows if tracks else filter(None, rows):
         if row is None:
             continue
         track = tracks.get(row.feature) if not row.begin else None
@@ -237,7 +241,8 @@ def table(options: Namespace) -> int:
         out, is_refused = store.run(script, options.files, words)
         with out:
             store.read_info()
-            tracks = store.tracks(features_of(store.rows(out, script)))
+            asks = any(line.startswith("features") for line in read_script(script))
+            tracks = store.tracks(features_of(store.rows(out, script))) if asks else {}
             write(options, store, store.rows(out, script), tracks)
     if options.format in ("geojson", "trips") and not in_degrees(store.crs):
         say("table", f"{store.crs}: GeoJSON's coordinates are taken as degrees")

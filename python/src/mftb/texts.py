@@ -7,10 +7,11 @@ from __future__ import annotations
 
 import argparse
 import re
-from collections.abc import Sequence
+from collections.abc import Callable, Sequence
 from datetime import date
 from decimal import Decimal
 from functools import lru_cache
+from typing import Any
 
 PLAIN_DECIMAL = re.compile(r"[+-]?(?:[0-9]+\.?[0-9]*|\.[0-9]+)")
 # A decimal with an exponent, as pandas writes small ones.
@@ -136,6 +137,20 @@ def read_instant(text: str) -> int:
     *day, clock, sign, hours, minutes = parts.groups()
     offset = (int(hours) * 60 + int(minutes or 0)) * 60_000 if sign else 0
     return moment(day, clock) + (offset if sign == "-" else -offset)
+
+
+class Known(dict):
+    """What was made of texts or numbers that were met: of the last 100,000 or so."""
+
+    def __init__(self, make: Callable[[Any], str]) -> None:
+        super().__init__()
+        self.make = make
+
+    def __missing__(self, given: Any) -> str:
+        if len(self) >= 100_000:
+            self.clear()
+        self[given] = made = self.make(given)
+        return made
 
 
 class Clock:

@@ -27,7 +27,7 @@ from argparse import Namespace
 from collections import Counter
 from collections.abc import Callable, Iterable, Iterator, Mapping
 from itertools import islice
-from typing import Any, TextIO, TypeAlias
+from typing import TextIO, TypeAlias
 
 from mftb.commands import ended, say
 from mftb.feeds import seams
@@ -35,7 +35,7 @@ from mftb.feeds.fixes import Speed, Unwrapped, meets, over_date_line
 from mftb.feeds.judging import Batch, Bounds, Judge, Plain, Position, Sieve, position_of
 from mftb.legfiles import beside
 from mftb.sources import BATCH, Columns
-from mftb.texts import LeftOut, Refused, instant, several
+from mftb.texts import Known, LeftOut, Refused, instant, several
 
 NEEDS_QUOTES = re.compile('[",\r\n]')
 # Positions between two words of progress, and lines that cannot be read of which each is named.
@@ -306,20 +306,6 @@ def seconds(milliseconds: int) -> str:
 def value_fields(values: tuple[str, ...]) -> str:
     """The fields behind a trajectory, each with its comma."""
     return "".join(["," + field(value) for value in values])
-
-
-class Known(dict):
-    """What was made of texts or numbers that were met: the last 100,000 or so."""
-
-    def __init__(self, make: Callable[[Any], str]) -> None:
-        super().__init__()
-        self.make = make
-
-    def __missing__(self, given: Any) -> str:
-        if len(self) >= 100_000:
-            self.clear()
-        self[given] = made = self.make(given)
-        return made
 
 
 def write(out: TextIO, feed: Feed) -> None:
