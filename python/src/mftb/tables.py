@@ -8,7 +8,6 @@ row.
 from __future__ import annotations
 
 import argparse
-import csv
 import json
 import re
 import sys
@@ -16,7 +15,7 @@ import tempfile
 from argparse import Namespace
 from collections.abc import Callable, Iterable, Iterator, Sequence
 from contextlib import nullcontext
-from itertools import groupby
+from itertools import groupby, islice
 from pathlib import Path
 from typing import IO, Any, TextIO
 
@@ -28,6 +27,8 @@ from mftb.draw.plot import in_degrees
 from mftb.legfiles import beside
 from mftb.playing import Tracks
 from mftb.program import NAMING
+from mftb.sources import BATCH
+from mftb.texts import Known, field, further_fields
 
 EXAMPLE = """example:
   tools/table harbour.mftb script.txt -o answers.csv
@@ -64,15 +65,24 @@ class Layout:
 
     def fields(self, row: Row) -> list[Any]:
         """A row as texts."""
-        if row.places and len(row.values) == len(self.types) and not self.is_wkt:
-            first, last = row.places
-            return [row.number, row.words, row.feature, row.begin, row.end, *first, *last, *row.values]
         places = [text for place in row.places for text in place]
         if self.is_wkt:
             places = [line_of(row.places)] if places else []
         blank = [""] * (self.values - 5 - len(places))
         values = [*row.values, *[""] * (len(self.types) - len(row.values))]
         return [str(row.number), row.words, row.feature, row.begin, row.end, *places, *blank, *values]
+
+    def lines(self, rows: Iterable[Row]) -> Iterator[str]:
+        """Rows as lines of CSV."""
+        names, more, width = Known(field), Known(further_fields), len(self.types)
+        for row in rows:
+            number, words, feature, begin, end, places, values = row
+            if not places or len(values) != width or self.is_wkt:
+                yield ",".join(map(field, self.fields(row))) + "\n"
+                continue
+            first, last = places
+            ends = f"{','.join(first)},{','.join(last)}"
+            yield f"{number},{names[words]},{names[feature]},{begin},{end},{ends}{more[values]}\n"
 
     def object(self, row: Row) -> dict[str, Any]:
         """A row as an object, without what it does not have."""
@@ -131,9 +141,10 @@ def line_of(places: Sequence[Sequence[str]]) -> str:
 
 def write_csv(out: TextIO, store: Store, rows: Iterable[Row], is_wkt: bool) -> None:
     layout = Layout(store, is_wkt)
-    table = csv.writer(out, lineterminator="\n")
-    table.writerow(layout.names)
-    table.writerows(map(layout.fields, rows))
+    out.write(",".join(map(field, layout.names)) + "\n")
+    lines = layout.lines(rows)
+    while found := list(islice(lines, BATCH)):
+        out.write("".join(found))
 
 
 def write_list(out: TextIO, rows: Iterable[Row], shown: Callable[[Row], Any], start: str, end: str) -> None:

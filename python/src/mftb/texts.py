@@ -13,6 +13,7 @@ from decimal import Decimal
 from functools import lru_cache
 from typing import Any
 
+NEEDS_QUOTES = re.compile('[",\r\n]')
 PLAIN_DECIMAL = re.compile(r"[+-]?(?:[0-9]+\.?[0-9]*|\.[0-9]+)")
 # A decimal with an exponent, as pandas writes small ones.
 EXPONENT = re.compile(r"[+-]?(?:[0-9]{1,20}\.?[0-9]{0,20}|\.[0-9]{1,20})[eE][+-]?[0-9]{1,2}")
@@ -103,6 +104,21 @@ def utf8(text: str, what: str) -> bytes:
         return text.encode()
     except UnicodeEncodeError:
         raise BadLine(f"{what} is not UTF-8 (see --encoding)") from None
+
+
+# Fields
+
+
+def field(text: str) -> str:
+    """A field of CSV, in quotes where it needs them."""
+    if NEEDS_QUOTES.search(text):
+        return '"' + text.replace('"', '""') + '"'
+    return text
+
+
+def further_fields(values: tuple[str, ...]) -> str:
+    """Fields that stand behind others, each with its comma."""
+    return "".join(["," + field(value) for value in values])
 
 
 # Moments

@@ -18,7 +18,6 @@ import io
 import marshal
 import math
 import os
-import re
 import signal
 import sqlite3
 import sys
@@ -35,9 +34,8 @@ from mftb.feeds.fixes import Speed, Unwrapped, meets, over_date_line
 from mftb.feeds.judging import Batch, Bounds, Judge, Plain, Position, Sieve, position_of
 from mftb.legfiles import beside
 from mftb.sources import BATCH, Columns
-from mftb.texts import Known, LeftOut, Refused, instant, several
+from mftb.texts import Known, LeftOut, Refused, field, further_fields, instant, several
 
-NEEDS_QUOTES = re.compile('[",\r\n]')
 # Positions between two words of progress, and lines that cannot be read of which each is named.
 STRIDE, NAMED = 50_000, 20
 
@@ -290,22 +288,10 @@ class Legs:
 # The output
 
 
-def field(text: str) -> str:
-    """A field of CSV, in quotes where it needs them."""
-    if NEEDS_QUOTES.search(text):
-        return '"' + text.replace('"', '""') + '"'
-    return text
-
-
 def seconds(milliseconds: int) -> str:
     """A span in seconds, as the shortest decimal."""
     whole, part = divmod(milliseconds, 1000)
     return f"{whole}.{part:03}".rstrip("0") if part else str(whole)
-
-
-def value_fields(values: tuple[str, ...]) -> str:
-    """The fields behind a trajectory, each with its comma."""
-    return "".join(["," + field(value) for value in values])
 
 
 def write(out: TextIO, feed: Feed) -> None:
@@ -318,7 +304,7 @@ def write(out: TextIO, feed: Feed) -> None:
     names = [text for pair in options.written for text in pair]
     for line in head, ["@columns", "mfidref", "trajectory", *names]:
         out.write(",".join(map(field, line)) + "\n")
-    legs, names, times, more = kept_legs(feed), Known(field), Known(seconds), Known(value_fields)
+    legs, names, times, more = kept_legs(feed), Known(field), Known(seconds), Known(further_fields)
     while found := list(islice(legs, BATCH)):
         feed.written += len(found)
         # A leg's times count from `start`.
