@@ -1,22 +1,17 @@
 """Visits and dwells by the spans of a clock; what is wanted of each is counted by hand."""
 import importlib.util
-import json
 import unittest
 from datetime import datetime, timezone
 from fractions import Fraction
 from itertools import pairwise
 
+import common
 import mftb
-from common import Case
+from common import StandIn
 from mftb.clocks import Clock
 
 STAND_IN = '#!/bin/sh\ncase "$2" in --json) cat {0}/info ;; --*) cat {0}/"$1$2-$5" ;; *) cat {0}/"$1-$4" ;; esac\n'
-INFO = {
-    "version": 2, "state": "finished", "pages": 1, "bytes": 4096, "crs": "metres", "dimension": 2,
-    "start": "2024-10-26T22:00:00.000Z", "columns": [], "legs": 3, "features": 2, "most_legs": 16777216,
-    "most_features": 1048576, "first": "2024-10-26T22:00:00.000Z", "last": "2024-10-28T00:00:00.000Z",
-    "extent": [0, 0, 9, 9],
-}  # fmt: skip
+INFO = common.INFO | {"start": "2024-10-26T22:00:00.000Z"}
 NAMES = "feature,enters,leaves,enters_at,leaves_at,x_in,y_in,x_out,y_out"
 # The night in which Berlin's clocks go back: from 02:00 to 03:00 they show each minute twice, from 00:00Z and from 01:00Z.
 NIGHT = "2024-10-26T22:00:00Z", "2024-10-27T23:00:00Z"
@@ -81,15 +76,12 @@ class Edges(unittest.TestCase):
         self.assertRaisesRegex(ValueError, "a million", Clock("1s").edges, Fraction(0), Fraction(10**9))
 
 
-class By(Case):
+class By(StandIn):
     """A stand-in answers: by its flag and by the second corner of the rectangle."""
 
     def setUp(self):
         super().setUp()
-        program = self.folder / self.write("mftb", STAND_IN.format(self.folder))
-        program.chmod(0o755)
-        self.write("info", json.dumps(INFO))
-        self.store = mftb.Store(self.folder / "store", program=program)
+        self.store = self.stand_in(STAND_IN, INFO)
 
     def answer(self, y, *visits):
         """What the program prints of a rectangle: visits with what begins and ends each."""
@@ -103,7 +95,9 @@ class By(Case):
     def test_visits_know_what_begins_and_ends_them(self):
         self.answer(1, ("a", (0, 0), (1, 0), "period", "edge"), ("b", (2, 0), (3, 0), "edge", "leg"))
         found = self.store.visits((0, 1, 9, 9), NIGHT)
-        self.assertEqual([(it.enters_by, it.leaves_by, it.zone) for it in found], [("period", "edge", ""), ("edge", "leg", "")])
+        self.assertEqual(
+            [(it.enters_by, it.leaves_by, it.zone) for it in found], [("period", "edge", ""), ("edge", "leg", "")]
+        )
 
     def test_two_stays_of_one_visit(self):
         self.answer(1, ("a", (1, 0), (3, 0), "edge", "edge"))

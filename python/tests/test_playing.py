@@ -63,15 +63,21 @@ class Packages(Case):
         base = self.package()
         rows = base.execute("SELECT * FROM legs").fetchall()
         self.assertEqual(len(rows), 6)
-        self.assertEqual(rows[0][2:], (3, "box", "a", "2024-06-03T09:00:00.000Z", "2024-06-03T09:01:00.000Z", 1.5, 7, "x", "12"))
+        self.assertEqual(
+            rows[0][2:], (3, "box", "a", "2024-06-03T09:00:00.000Z", "2024-06-03T09:01:00.000Z", 1.5, 7, "x", "12")
+        )
         self.assertEqual(rows[1][6:], ("2024-06-03T09:01:00.100Z", None, None, None, None))
         self.assertEqual(rows[5][2:5], (4, "features", "a"))
         kinds = {row[1]: row[2] for row in base.execute("PRAGMA table_info(legs)")}
         # Of berth one value is no number; no name of a column differs from another one in case only.
-        self.assertEqual((kinds["begin"], kinds["speed"], kinds["crew"], kinds["berth"]), ("DATETIME", "DOUBLE", "INTEGER", "TEXT"))
+        self.assertEqual(
+            (kinds["begin"], kinds["speed"], kinds["crew"], kinds["berth"]), ("DATETIME", "DOUBLE", "INTEGER", "TEXT")
+        )
         self.assertIn("Begin_", kinds)
         self.assertEqual(base.execute("PRAGMA application_id").fetchone(), (0x47504B47,))
-        self.assertEqual(base.execute("SELECT min_x, min_y, max_x, max_y FROM gpkg_contents").fetchone(), (0.1, -1e-7, 14, 5))
+        self.assertEqual(
+            base.execute("SELECT min_x, min_y, max_x, max_y FROM gpkg_contents").fetchone(), (0.1, -1e-7, 14, 5)
+        )
 
     def test_a_track_has_its_moments_as_m(self):
         base = self.package()
@@ -88,7 +94,9 @@ class Packages(Case):
         base = self.package(rows=[], crs="harbour-grid-metres")
         self.assertEqual(base.execute("SELECT min_x, srs_id FROM gpkg_contents").fetchall(), [(None, -1)] * 2)
 
-    @unittest.skipUnless(shutil.which("ogrinfo"), "ogrinfo (gdal-bin) is not there: no other program reads the GeoPackage")
+    @unittest.skipUnless(
+        shutil.which("ogrinfo"), "ogrinfo (gdal-bin) is not there: no other program reads the GeoPackage"
+    )
     def test_gdal_reads_it(self):
         self.package(crs="EPSG:25832")
         command = ["ogrinfo", "-al", self.folder / "out.gpkg"]
@@ -121,7 +129,9 @@ class Packages(Case):
     def test_the_command(self):
         head = f"@stboundedby,{CRS84},2D,,,2024-06-03T09:00:00Z,,sec\n@columns,mfidref,trajectory,speed,xsd:double\n"
         self.write("day.csv", f"{head}a,0,60,0.1 0 10 0,1.50\na,60,120,10 0 11 1,2\n")
-        self.write("script", "load day.csv\ntrajectory a\nfeatures ever 0 0 1 1 2024-06-03T09:00:00Z 2024-06-03T09:00:30Z\n")
+        self.write(
+            "script", "load day.csv\ntrajectory a\nfeatures ever 0 0 1 1 2024-06-03T09:00:00Z 2024-06-03T09:00:30Z\n"
+        )
         table = [ROOT / "tools" / "table", "--program", BUILT, "store"]
         subprocess.run([*table, "script", "day.csv", "--format", "gpkg", "-o", "out.gpkg"], cwd=self.folder, check=True)
         base = sqlite3.connect(self.folder / "out.gpkg")
@@ -129,10 +139,14 @@ class Packages(Case):
         found = base.execute("SELECT question, begin, speed FROM legs").fetchall()
         self.assertEqual([it[0] for it in found], [2, 2, 3, 3])
         self.assertEqual(found[1][1:], ("2024-06-03T09:01:00.000Z", 2.0))
-        trips = subprocess.run([*table, "--ask", "trajectory a", "--format", "trips"], cwd=self.folder, check=True, capture_output=True)
+        trips = subprocess.run(
+            [*table, "--ask", "trajectory a", "--format", "trips"], cwd=self.folder, check=True, capture_output=True
+        )
         (trip,) = json.loads(trips.stdout)["features"]
         self.assertEqual(trip["geometry"]["coordinates"][2], [11, 1, 0, (NINE + 120) * 1000])
-        ended = subprocess.run([*table, "--ask", "count", "--format", "gpkg"], cwd=self.folder, capture_output=True, text=True)
+        ended = subprocess.run(
+            [*table, "--ask", "count", "--format", "gpkg"], cwd=self.folder, capture_output=True, text=True
+        )
         self.assertEqual(ended.returncode, 2)
 
 

@@ -49,7 +49,8 @@ class Hit(NamedTuple):
 def read_answers(path: str, script: str | None) -> list[Answer]:
     """The answers of a file; a refusal is one without records."""
     questions = read_script(script) if script else []
-    answers, left = [], 0
+    answers: list[Answer] = []
+    left = 0
     with opened(path) as raw:
         for row in csv.reader(as_text(raw)):
             fields = [text.strip(" \t") for text in row]
@@ -101,7 +102,7 @@ def names(answers: list[Answer]) -> dict[str, None]:
     return dict.fromkeys(row[0] for answer in answers for row in answer.rows if len(row) == 1)
 
 
-def base_of(votes: Mapping[int, int], start: int) -> tuple[int, bool]:
+def base_of(votes: Mapping[float, int], start: float) -> tuple[float, bool]:
     """The store's base: the one under which most legs of the answer are legs of the files."""
     if not votes:
         return start, False

@@ -54,7 +54,7 @@ class Store:
         except (ValueError, KeyError, TypeError):
             raise Refused(f"{self.program} does not say what {self.path} holds; is it mftb?") from None
 
-    def count(self):
+    def count(self) -> int:
         """How many legs the store has."""
         self.read_info()
         return self.legs
@@ -105,7 +105,7 @@ class Store:
     def tracks(self, names: Sequence[str]) -> dict[str, list[Row]]:
         """The legs of features, by their names; nothing of a name that no line can hold."""
         lines = [name for name in names if "\n" not in name and "\r" not in name]
-        found = {name: [] for name in names}
+        found: dict[str, list[Row]] = {name: [] for name in names}
         with tempfile.TemporaryDirectory() as folder:
             script = Path(folder, "script")
             script.write_bytes("".join(f"trajectory {name}\n" for name in lines).encode())

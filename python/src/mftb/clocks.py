@@ -37,7 +37,7 @@ class Clock:
         """The edges of the spans that hold a period, in seconds since 1970; the last one may be its end."""
         if last - first > MOST * min(self.step, DAY) * DAYS[self.unit]:
             raise ValueError(f"the period has more than a million spans of {self.span}: take a shorter one")
-        found = []
+        found: list[int] = []
         for edge in self.all_edges(self.date_of(first)):
             if edge <= first:
                 found.clear()

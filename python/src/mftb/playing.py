@@ -169,10 +169,10 @@ class Book:
         fields = ", ".join(f"{quoted(it)} {kind}" for it, kind in columns)
         self.base.execute(f"CREATE TABLE {name} (fid INTEGER PRIMARY KEY AUTOINCREMENT NOT NULL, geom BLOB, {fields})")
         marks = ", ".join("?" * (1 + len(columns)))
-        self.base.executemany(
-            f"INSERT INTO {name} (geom, {', '.join(quoted(it) for it, _ in columns)}) VALUES ({marks})", rows
-        )
-        corners = self.corners if self.corners[0] <= self.corners[2] else [None] * 4
+        names = ", ".join(quoted(it) for it, _ in columns)
+        self.base.executemany(f"INSERT INTO {name} (geom, {names}) VALUES ({marks})", rows)
+        is_empty = self.corners[0] > self.corners[2]
+        corners = [None if is_empty else corner for corner in self.corners]
         self.base.execute(
             "INSERT INTO gpkg_contents (table_name, data_type, identifier, min_x, min_y, max_x, max_y, srs_id) "
             "VALUES (?, 'features', ?, ?, ?, ?, ?, ?)",

@@ -115,9 +115,7 @@ class Work:
     jobs: int = 1
 
 
-def read_table(
-    path: str, layout: Callable[[list[str]], RowReader], work: Work, encoding: str = UTF_8
-) -> Iterator[Any]:
+def read_table(path: str, layout: Callable[[list[str]], RowReader], work: Work, encoding: str = UTF_8) -> Iterator[Any]:
     """What is judged of the lines of a CSV file, some at once.
 
     `layout` makes what reads a row from the header line. A file of blank lines has none.
@@ -224,7 +222,7 @@ def quoted(lines: list[str], text: Iterator[str], line: int, delimiter: str) -> 
     return numbers, found, count
 
 
-def batches(pairs):
+def batches(pairs: Iterator[tuple[int, Any]]) -> Iterator[tuple[list[int], list[Any]]]:
     """Line numbers, each with an item, as batches of both."""
     while found := list(islice(pairs, BATCH)):
         yield [line for line, _ in found], [item for _, item in found]

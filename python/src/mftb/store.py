@@ -73,7 +73,7 @@ class Book(Questions):
         """
         script = lines.script_lines(script)
         asked = [(place, line) for place, line in enumerate(script, 1) if lines.command_of(line)]
-        answers = [Answer(line.strip()) for _, line in asked]
+        answers: list[Answer] = [Answer(line.strip()) for _, line in asked]
         self._fill(script, [place for place, _ in asked], answers, [os.fspath(file) for file in files])
         for answer in answers if strict else ():
             if answer.error:
@@ -125,6 +125,12 @@ class Book(Questions):
         """Writes all that the store holds as a file that can be loaded again."""
         printed, _ = self._ask("write").records()
         FilePath(file).write_bytes(printed.read())
+
+    def page(
+        self, file: Path, *, rectangles: Zones | None = None, title: str | None = None, period: Period | None = None
+    ) -> str:
+        """Writes a page for a browser, a map that moves, with the crossings of rectangles; returns the file's name."""
+        raise NotImplementedError
 
     def moments(self, rectangle: Rectangle, period: Period) -> Answer[Stay]:
         """When each leg is inside a rectangle."""
@@ -193,6 +199,16 @@ class Store(Book):
         text = self._printed("check", *self._cache, self.path)
         pages, legs, features = map(int, text.split("\n")[1].split(","))
         return Report(legs, features, pages)
+
+    def page(
+        self, file: Path, *, rectangles: Zones | None = None, title: str | None = None, period: Period | None = None
+    ) -> str:
+        """Writes a page for a browser, a map that moves, with the crossings of rectangles; returns the file's name."""
+        from mftb.page import store
+
+        places = {} if rectangles is None else named(rectangles)
+        store.save(self.path, self.program, os.fspath(file), places, title, period)
+        return os.fspath(file)
 
     def _printed(self, *words: str) -> str:
         """What the program prints, if it ends well."""

@@ -89,12 +89,11 @@ class Dwells(Answer[Dwell]):
             for place, part in parts(edges, visit):
                 key = visit.zone, visit.feature, place
                 sums[key] = sums.get(key, Fraction(0)) + part
-        return Table(
-            DwellTime(
-                *map(clock.shown, edges[place : place + 2]), zone, feature, seconds, edges[place + 1] - edges[place]
-            )
-            for (zone, feature, place), seconds in sums.items()
-        )
+        found: Table[DwellTime] = Table()
+        for (zone, feature, place), seconds in sums.items():
+            begin, end = edges[place : place + 2]
+            found.append(DwellTime(clock.shown(begin), clock.shown(end), zone, feature, seconds, end - begin))
+        return found
 
 
 def count(tallies: dict[int, Tally], edges: list[int], visit: Visit) -> None:

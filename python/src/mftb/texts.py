@@ -175,8 +175,9 @@ class Clock:
     Days that were met are known, and so are all minutes and seconds; what else there is, `read` reads.
     """
 
-    def __init__(self, read):
-        self.read, self.days = read, {}
+    def __init__(self, read: Callable[[str], int]) -> None:
+        self.read = read
+        self.days: dict[str, int] = {}
         pairs = [f"{number:02}" for number in range(60)]
         self.minutes = {
             f"{hour}:{minute}:": (place * 60 + at) * 60_000
@@ -185,14 +186,14 @@ class Clock:
         }
         self.seconds = {second: place * 1000 for place, second in enumerate(pairs)}
 
-    def moment(self, text):
+    def moment(self, text: str) -> int:
         """The moment of an instant, in milliseconds since 1970."""
         try:
             return self.days[text[:11]] + self.minutes[text[11:17]] + self.seconds[text[17:]]
         except KeyError:
             return self.met(text)
 
-    def moments(self, texts):
+    def moments(self, texts: Sequence[str]) -> list[int]:
         """The moments of instants."""
         days, minutes, seconds = self.days, self.minutes, self.seconds
         try:
@@ -200,7 +201,7 @@ class Clock:
         except KeyError:
             return list(map(self.moment, texts))
 
-    def met(self, text):
+    def met(self, text: str) -> int:
         """The moment of an instant whose day may be new."""
         moment = self.read(text)
         time = self.minutes.get(text[11:17]), self.seconds.get(text[17:])

@@ -15,7 +15,7 @@ LONGITUDE_LATITUDE = "urn:ogc:def:crs:OGC:1.3:CRS84"
 WITH_ELEVATION = "longitude-latitude-degrees-elevation-metres"
 
 
-def add_encoding(parser):
+def add_encoding(parser: argparse.ArgumentParser) -> None:
     """The word for what reads text, and not XML."""
     parser.add_argument(
         "--encoding",
@@ -26,7 +26,7 @@ def add_encoding(parser):
     )
 
 
-def encoding(text):
+def encoding(text: str) -> str:
     """The name of an encoding, which is one."""
     try:
         # As bytes of UTF-8 are kept until they are used, a mark at the start is left out.

@@ -375,7 +375,7 @@ def ends_of_feed(tool: str, reader: Reader, options: Namespace) -> dict[str, Pos
     return {name: end._replace(segment=0) for name, end in feed.legs.ends().items()}
 
 
-def why_no_leg(feed):
+def why_no_leg(feed: Feed) -> str:
     """Why there is no leg, in words."""
     counts = feed.counts
     if counts["outside"]:

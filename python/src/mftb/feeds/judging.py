@@ -4,11 +4,11 @@ from __future__ import annotations
 
 import marshal
 from argparse import Namespace
-from collections.abc import Mapping, Sequence
+from collections.abc import Callable, Mapping, Sequence
 from dataclasses import dataclass
 from decimal import Decimal
 from functools import partial
-from typing import NamedTuple, TypeAlias
+from typing import Any, NamedTuple, TypeAlias
 
 from mftb.texts import BadLine, LeftOut, feature_name, instant
 
@@ -61,7 +61,7 @@ class Bounds:
         self.high = [corner(*axis, max, end) for axis, end in zip(axes, highs)]
 
 
-def corner(texts, numbers, most, end):
+def corner(texts: Sequence[str], numbers: Sequence[float], most: Callable[..., Any], end: str | None) -> str:
     """The first of the least texts of numbers, or of the greatest, where `end` was that so far."""
     # As floats keep the order, they only spare most comparisons of the decimals.
     found = most(numbers)

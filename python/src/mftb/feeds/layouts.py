@@ -98,11 +98,11 @@ class Clock:
             raise ValueError(f"skipped by the clocks of {self.zone}")
         return zoned
 
-    def remark_zone(self):
+    def remark_zone(self) -> str | None:
         """What to say where a time said no zone, and none was named."""
         return "times without a zone are taken as UTC (see --tz)" if self.lacks_zone else None
 
-    def remark_days(self):
+    def remark_days(self) -> str | None:
         """What to say where no time has a time of day."""
         alone = self.has_dates and not self.has_times
         return "all times are days without a time of day: is --time the right column?" if alone else None

@@ -7,7 +7,6 @@ from __future__ import annotations
 
 from argparse import Namespace
 from collections.abc import Callable, Sequence
-from typing import Any
 
 from mftb import sources, texts
 from mftb.feeds import arguments, conversion
@@ -33,18 +32,21 @@ NOTHING = {"", "na", "nan", "null"}
 class Studies:
     """The study of each animal, and the first animal that is in two."""
 
-    def __init__(self):
-        self.of, self.twice = {}, None
+    def __init__(self) -> None:
+        self.of: dict[str, str] = {}
+        self.twice: str | None = None
 
-    def see(self, animal, study):
+    def see(self, animal: str, study: str) -> None:
+        """Notes the study of an animal."""
         if self.of.setdefault(animal, study) != study and not self.twice:
             self.twice = f"{animal!r} is in the studies {self.of[animal]!r} and {study!r}"
 
-    def remark(self):
+    def remark(self) -> str | None:
+        """What to say of an animal in two studies."""
         return self.twice and f"{self.twice}: here one feature (see --prefix)"
 
 
-def layout(header: list[str], kept: sources.Columns, midnight: bool, studies: Any) -> sources.RowReader:
+def layout(header: list[str], kept: sources.Columns, midnight: bool, studies: Studies) -> sources.RowReader:
     """What reads a row below this header line."""
     study = sources.place_of(header, "study-name", "study-id")
     at, who, x, y = (sources.column(header, name) for name in NAMES)

@@ -64,7 +64,7 @@ def read_legs(path: str, options: Namespace) -> Iterator[End]:
         yield name, *end
 
 
-def read_store(path, options):
+def read_store(path: str, options: Namespace) -> Iterator[tuple]:
     """The last position of each feature of a store: where its last leg ends."""
     store, ends = Store(getattr(options, "program", None), path), {}
     store.read_info()
