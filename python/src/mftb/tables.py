@@ -39,7 +39,8 @@ The columns are: question (its number), words, feature, begin, end, x0, y0, x1, 
 dimensions x0, y0, z0, x1, y1, z1), and the attributes by their names. csv is for
 pandas.read_csv and for .import of sqlite3; wkt is csv with one column wkt in place of the
 coordinates; json is a list of objects; geojson is for QGIS, kepler.gl and geopandas.read_file:
-there a feature of `features` is its whole track. gpkg is a GeoPackage, whose layers are `legs`, for
+there a feature of `features` has its legs in the question's period, or its whole track with
+--whole; so it has in gpkg and trips. gpkg is a GeoPackage, whose layers are `legs`, for
 QGIS's Temporal Controller, and `tracks`, with moments as M; trips is GeoJSON with a moment a
 position, for a trip layer of kepler.gl. The status is 3 where a line was refused.
 The answers are those of mftb; this tool is no part of any proof."""
@@ -169,7 +170,7 @@ def write_geojson(out: TextIO, store: Store, rows: Iterable[Row], tracks: Tracks
 
     def shown(row: Row) -> dict[str, Any]:
         said = {name: it for name, it in layout.object(row).items() if name not in ends}
-        ways = [row] if row.begin else tracks.get(row.feature, [])
+        ways = [row] if row.begin else tracks.of(row)
         return {"type": "Feature", "geometry": geometry(ways), "properties": said}
 
     write_list(out, rows, shown, '{"type": "FeatureCollection", "features": [', "]}")
@@ -196,10 +197,10 @@ def geometry(legs: Iterable[Row]) -> dict[str, Any] | None:
 
 def full_rows(rows: Iterable[Row | None], tracks: Tracks) -> Iterator[Row]:
     """The rows, those of features with the moments and the values of their last legs."""
-    for row in rows if tracks else filter(None, rows):
+    for row in rows if tracks.legs else filter(None, rows):
         if row is None:
             continue
-        track = tracks.get(row.feature) if not row.begin else None
+        track = tracks.legs.get(row.feature) if not row.begin else None
         yield row._replace(values=track[-1].values) if track else row
 
 
@@ -253,8 +254,8 @@ def table(options: Namespace) -> int:
         with out:
             store.read_info()
             asks = any(line.startswith("features") for line in read_script(script))
-            tracks = store.tracks(features_of(store.rows(out, script))) if asks else {}
-            write(options, store, store.rows(out, script), tracks)
+            legs = store.tracks(features_of(store.rows(out, script))) if asks else {}
+            write(options, store, store.rows(out, script), Tracks(legs, options.whole))
     if options.format in ("geojson", "trips") and not in_degrees(store.crs):
         say("table", f"{store.crs}: GeoJSON's coordinates are taken as degrees")
     return 3 if is_refused else 0
@@ -273,6 +274,7 @@ def words() -> Namespace:
     parser.add_argument("--ask", action="append", default=[], metavar="LINE", help="a line in place of a script")
     parser.add_argument("--question", type=int, metavar="N", help="only the Nth answer")
     parser.add_argument("--format", choices=["csv", "json", "geojson", "wkt", "gpkg", "trips"], default="csv")
+    parser.add_argument("--whole", action="store_true", help="the whole tracks of the features that were named")
     parser.add_argument("-o", dest="output", metavar="OUT", help="the table (standard output)")
     parser.add_argument("--split", metavar="DIR", help="a file a question in this folder")
     parser.add_argument("--program", metavar="MFTB", help=NAMING)
