@@ -1,4 +1,5 @@
 """What the tests of the tools share: running a tool in a folder of its own."""
+import json
 import os
 import re
 import shutil
@@ -15,7 +16,16 @@ BUILT = ROOT / "tools" / "out" / "mftb-unproved"
 CRS = "urn:ogc:def:crs:OGC:1.3:CRS84"
 sys.path[:0] = [str(ROOT / "python" / part) for part in ("src", "dev")]
 sys.dont_write_bytecode = True
+import mftb  # noqa: E402
+
 US = "MMSI,BaseDateTime,LAT,LON,SOG,VesselName\n"
+# What a stand-in for the program says of its store.
+INFO = {
+    "version": 2, "state": "finished", "pages": 1, "bytes": 4096, "crs": CRS, "dimension": 2,
+    "start": "2024-06-03T08:50:00.000Z", "columns": [], "legs": 3, "features": 2, "most_legs": 16777216,
+    "most_features": 1048576, "first": "2024-06-03T08:50:00.000Z", "last": "2024-06-03T09:10:00.000Z",
+    "extent": [-180, -90, 180, 90],
+}  # fmt: skip
 
 
 def cases(path):
@@ -69,6 +79,38 @@ class Case(unittest.TestCase):
         ended = subprocess.run(command, cwd=self.folder, capture_output=True)
         self.assertEqual(ended.returncode, 0, ended.stderr)
         return ended.stdout
+
+
+class Asked(Case):
+    """Runs of the build without proofs."""
+
+    def asked(self, *words, status=0):
+        """What mftb prints and says."""
+        ended = run("unproved", *words, folder=self.folder)
+        self.assertEqual(ended.returncode, status, ended.stderr)
+        return ended.stdout, ended.stderr.split("\n", 1)[1]
+
+    def load(self, text):
+        self.write("file.csv", text)
+        self.write("load", "load file.csv\n")
+        self.asked("run", "store", "load", "file.csv")
+
+
+class StandIn(Case):
+    """A store whose program is a script of the shell, which prints what is written for it."""
+
+    def stand_in(self, script, info):
+        program = self.folder / self.write("mftb", script.format(self.folder))
+        program.chmod(0o755)
+        self.write("info", json.dumps(info))
+        return mftb.Store(self.folder / "store", program=program)
+
+
+def folder_of(case):
+    """A folder that is there for all tests of a class."""
+    folder = tempfile.TemporaryDirectory()
+    case.addClassCleanup(folder.cleanup)
+    return Path(folder.name)
 
 
 def measure(tool, *words, folder):

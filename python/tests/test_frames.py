@@ -14,22 +14,18 @@ from contextlib import redirect_stderr
 from fractions import Fraction
 from pathlib import Path
 
+import common
 import mftb
-from common import BUILT, Case, has_info
+from common import BUILT, Case, StandIn, has_info
 
 HAS_PANDAS, HAS_GEOPANDAS = (importlib.util.find_spec(name) is not None for name in ("pandas", "geopandas"))
 if not HAS_PANDAS:
     print("test_frames: pandas (python3-pandas) is not there: no frame is made", file=sys.stderr)
 elif not HAS_GEOPANDAS:
     print("test_frames: geopandas (python3-geopandas) is not there: no geometry is made", file=sys.stderr)
-STAND_IN = '#!/bin/sh\ncat {}/"$1"\n'
+STAND_IN = '#!/bin/sh\ncase "$2" in --visits | --dwell) cat {0}/"$1$2" ;; *) cat {0}/"$1" ;; esac\n'
 COLUMNS = [("kind", "xsd:token"), ("draught", "xsd:decimal"), ("in port", "xsd:boolean"), ("feature", "xsd:integer")]
-INFO = {
-    "version": 2, "state": "finished", "pages": 1, "bytes": 4096, "crs": "urn:ogc:def:crs:OGC:1.3:CRS84", "dimension": 2,
-    "start": "2024-06-03T08:50:00.000Z", "columns": [{"name": name, "type": kind} for name, kind in COLUMNS], "legs": 3,
-    "features": 2, "most_legs": 16777216, "most_features": 1048576, "first": "2024-06-03T08:50:00.000Z",
-    "last": "2024-06-03T09:10:00.000Z", "extent": [-180, -90, 180, 90],
-}  # fmt: skip
+INFO = common.INFO | {"columns": [{"name": name, "type": kind} for name, kind in COLUMNS]}
 LEGS = """Castor,-0.5,30,-4.6 -183.4 -4.4 28.3,tug,3.1,true,7
 Bente III,30,60.001,0.1 0.2 0.3 -0.0000001,ferry,,true,8
 Castor,31,90,1 2 3 4,tug,2,false,9
@@ -44,13 +40,10 @@ Castor,1000/3,500/1,2024-06-03T08:50:00.333333Z,2024-06-03T08:50:00.500000Z,1.5,
 """
 
 
-class Frames(Case):
+class Frames(StandIn):
     def setUp(self):
         super().setUp()
-        program = self.folder / self.write("mftb", STAND_IN.format(self.folder))
-        program.chmod(0o755)
-        self.write("info", json.dumps(INFO))
-        self.store = mftb.Store(self.folder / "store", program=program)
+        self.store = self.stand_in(STAND_IN, INFO)
 
     def legs(self, records):
         self.write("run", f"ok {len(records.splitlines())}\n{records}")
@@ -141,9 +134,11 @@ class Moments(Frames):
         self.assertEqual(found["enters"][0], Fraction(1717404600) + Fraction(1, 3))
 
     def test_visits_and_dwells(self):
-        self.write("moments", VISITS)
-        self.assertEqual(self.store.visits(BOX, PERIOD).to_pandas()["legs"].sum(), 12)
-        self.write("moments", "feature,visits,least,most\nCastor,2,0.1,0.100002\n")
+        self.write("moments--visits", VISITS)
+        self.write("moments", MOMENTS)
+        found = self.store.visits(BOX, PERIOD).to_pandas()
+        self.assertEqual((found["legs"].sum(), found["enters_by"][0]), (12, "edge"))
+        self.write("moments--dwell", "feature,visits,least,most\nCastor,2,0.1,0.100002\n")
         found = self.store.dwell(BOX, PERIOD).to_pandas()
         self.assertEqual((found["visits"][0], found["most"][0]), (2, 0.100002))
 
@@ -160,7 +155,7 @@ class Geometries(Frames):
     def test_stays_and_visits(self):
         self.write("moments", MOMENTS)
         self.assertEqual(self.store.moments(BOX, PERIOD).to_geopandas().geometry[0].wkt, "LINESTRING (1.5 2, 3 4)")
-        self.write("moments", VISITS)
+        self.write("moments--visits", VISITS)
         self.assertEqual(self.store.visits(BOX, PERIOD).to_geopandas().geometry[0].wkt, "POINT (1.5 2)")
 
     def test_what_has_no_place(self):

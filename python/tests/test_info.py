@@ -2,7 +2,7 @@
 import json
 import subprocess
 
-from common import ROOT, Case, run
+from common import ROOT, Asked
 from test_moments import HARBOUR, SECOND, START, legs_of, said
 
 STATE = {"version": 2, "state": "finished"}
@@ -18,17 +18,7 @@ def plainly(values):
     return {key.replace("_", " "): str(value) for key, value in values.items()}
 
 
-class Info(Case):
-    def asked(self, *words, status=0):
-        ended = run("unproved", *words, folder=self.folder)
-        self.assertEqual(ended.returncode, status, ended.stderr)
-        return ended.stdout, ended.stderr.split("\n", 1)[1]
-
-    def load(self, text):
-        self.write("file.csv", text)
-        self.write("load", "load file.csv\n")
-        self.asked("run", "store", "load", "file.csv")
-
+class Info(Asked):
     def pages(self):
         size = (self.folder / "store").stat().st_size
         return {"pages": size // 4096, "bytes": size}

@@ -7,7 +7,7 @@ from datetime import datetime, timedelta, timezone
 from fractions import Fraction
 from math import ceil, floor
 
-from common import ROOT, Case
+from common import ROOT, Asked
 
 EPOCH = datetime(1970, 1, 1, tzinfo=timezone.utc)
 START = datetime(2024, 6, 3, 8, 50, tzinfo=timezone.utc)
@@ -133,19 +133,7 @@ class Wanted:
         return found
 
 
-class Moments(Case):
-    def asked(self, *words, status=0):
-        """What mftb prints and says."""
-        command = [ROOT / "tools" / "unproved", *words]
-        ended = subprocess.run(command, cwd=self.folder, capture_output=True, text=True)
-        self.assertEqual(ended.returncode, status, ended.stderr)
-        return ended.stdout, ended.stderr.split("\n", 1)[1]
-
-    def load(self, text):
-        self.write("file.csv", text)
-        self.write("load", "load file.csv\n")
-        self.asked("run", "store", "load", "file.csv")
-
+class Moments(Asked):
     def records(self, *words):
         return list(csv.reader(io.StringIO(self.asked("moments", "store", *words)[0])))
 
@@ -196,7 +184,9 @@ class Moments(Case):
                 count = chance.randrange(2, 6)
                 end = begin + Fraction(chance.randrange(1, 40_000), 1000)
                 ends[name] = end
-                numbers = [chance.choice([chance.randrange(-9, 10), chance.uniform(-9, 9)]) for _ in range(count * places)]
+                numbers = [
+                    chance.choice([chance.randrange(-9, 10), chance.uniform(-9, 9)]) for _ in range(count * places)
+                ]
                 shown = " ".join(f"{it:.7f}" for it in numbers)
                 lines.append(f"{name},{float(begin)},{float(end)},{shown}\n")
             head = f"@stboundedby,m,{places}D,,,2024-06-03T08:50:00Z,,sec\n@columns,mfidref,trajectory\n"
@@ -225,7 +215,10 @@ class Moments(Case):
         words = ["1", "2", "3", "4", "2024-06-03T09:00:00Z", "2024-06-03T09:05:00Z"]
         wrong = {
             0: [("x", "a coordinate is no number, or out of range"), ("4", "X1 is above X2, or Y1 above Y2")],
-            4: [("9 o'clock", "X1 Y1 X2 Y2 T1 T2 are one word each"), ("9:00", "T1 or T2 is no instant, or out of range")],
+            4: [
+                ("9 o'clock", "X1 Y1 X2 Y2 T1 T2 are one word each"),
+                ("9:00", "T1 or T2 is no instant, or out of range"),
+            ],
             5: [("2024-06-03T08:59:59Z", "T1 is after T2")],
         }
         for place, pairs in wrong.items():

@@ -1,6 +1,7 @@
 """The package: it installs offline, and each of its commands stands under its name."""
 import importlib.util
 import os
+import re
 import subprocess
 import sys
 import tomllib
@@ -9,6 +10,7 @@ import unittest
 from common import ROOT, Case
 
 PYTHON = ROOT / "python"
+SHIM = re.compile(r'^run\(__name__, "(.*)"\)$', re.M)
 
 
 class Package(Case):
@@ -28,8 +30,10 @@ class Package(Case):
 
     def test_each_command_is_a_tool_by_its_former_name(self):
         declared = tomllib.loads((PYTHON / "pyproject.toml").read_text())["project"]["scripts"]
-        former = "daily", "from_ais", "from_csv", "from_gpx", "from_movebank", "draw", "table", "fleet"
-        for tool in former:
-            text, module = (ROOT / "tools" / tool).read_text(), declared[f"mftb-{tool.replace('_', '-')}"]
-            self.assertEqual(len(text.splitlines()), 3)
-            self.assertIn(f'"{module.removesuffix(":main")}"', text)
+        shims = {}
+        for path in (ROOT / "tools").iterdir():
+            found = path.is_file() and SHIM.search(path.read_text(errors="replace"))
+            if found and found[1].startswith("mftb."):
+                self.assertEqual(len(path.read_text().splitlines()), 3, path.name)
+                shims[f"mftb-{path.name.replace('_', '-')}"] = f"{found[1]}:main"
+        self.assertEqual(shims, declared)

@@ -46,8 +46,11 @@ c,10,190,12.0 1.0 10.0 2.0 11.0 3.0,vehicle,1
 # How page 0 of a finished store of version 1 begins into which no file was accepted: the letters, the version, the
 # state, 63 legs and 72 entries, the limits of 2^24 legs and 2^20 features, no tree, and a text of one byte in page 1.
 HEADER = (
-    b"MFTB" + bytes([0, 0, 0, 1, 0, 0, 0, 1, 0, 63, 0, 72, 0, 0, 0, 0, 1, 0, 0, 0, 0, 0, 0, 0, 0, 16, 0, 0])
-    + bytes(15) + bytes([1, 0, 0, 0, 0, 0, 0, 0, 1]) + bytes(4)
+    b"MFTB"
+    + bytes([0, 0, 0, 1, 0, 0, 0, 1, 0, 63, 0, 72, 0, 0, 0, 0, 1, 0, 0, 0, 0, 0, 0, 0, 0, 16, 0, 0])
+    + bytes(15)
+    + bytes([1, 0, 0, 0, 0, 0, 0, 0, 1])
+    + bytes(4)
 )
 # How page 1 begins: no page comes next, one byte of the text, ten zeros, and that byte, 0.
 TEXT = bytes([0, 0, 0, 0, 0, 1]) + bytes(54)

@@ -247,7 +247,10 @@ class Promises(Case):
         )
 
     def test_definitions_on_the_page_of_a_crate_stand_in_its_files(self):
-        text = OWN + "\n## Definitions\n\n**A law** (`Law.antt`). `IsLaw`, `is_more`.\n\n**None** (`No.antt`).\n\n## More\n\n`is_less`.\n"
+        text = (
+            OWN
+            + "\n## Definitions\n\n**A law** (`Law.antt`). `IsLaw`, `is_more`.\n\n**None** (`No.antt`).\n\n## More\n\n`is_less`.\n"
+        )
         said = self.said(**{"crates/low/README.md": text})
         self.assertEqual(
             said,
@@ -266,18 +269,26 @@ class Promises(Case):
     def test_the_reference_has_the_clauses_with_their_comments(self):
         self.said(**TOPS)
         page = self.made("reference/CLAUSES.md")
-        self.assertIn("### `Db::run`\n\n`lib.rt`\n\nRuns it.\n\n```rust\npub fn run(&mut self)\n    // it ran\n    ensures ok {", page)
+        self.assertIn(
+            "### `Db::run`\n\n`lib.rt`\n\nRuns it.\n\n```rust\npub fn run(&mut self)\n    // it ran\n    ensures ok {",
+            page,
+        )
         self.assertIn("### Clauses of `RunCall`\n\n`Promises.antt`\n\nwhat a run promises\n\n```text\npub record", page)
         self.assertLess(page.index("## low"), page.index("## trajdb"))
 
     def test_the_reference_has_the_definitions(self):
         self.said()
-        self.assertIn("## low\n\n### Law.antt\n\nLaws.\n\n```text\n-- a law\nabbrev pub IsLaw : Type 0\nIsLaw = Unit\n```", self.made("reference/DEFINITIONS.md"))
+        self.assertIn(
+            "## low\n\n### Law.antt\n\nLaws.\n\n```text\n-- a law\nabbrev pub IsLaw : Type 0\nIsLaw = Unit\n```",
+            self.made("reference/DEFINITIONS.md"),
+        )
 
     def test_the_reading_has_what_is_needed_first(self):
         self.said(**TOPS)
         heads = re.findall(r"^##+ (.*)", self.made("proof/READING.md"), re.M)
-        self.assertEqual(heads, ["run: ok", "`Runs`", "open: book", "`one`", "`is_open`", "`RunCall`", "Names of the kit"])
+        self.assertEqual(
+            heads, ["run: ok", "`Runs`", "open: book", "`one`", "`is_open`", "`RunCall`", "Names of the kit"]
+        )
         self.assertIn("where\n  -- the book is open\n  pub book : is_open new\n```", self.made("proof/READING.md"))
 
     def test_a_headline_clause_that_is_not_there(self):
@@ -295,7 +306,9 @@ class Promises(Case):
     def test_a_reference_that_lags(self):
         self.said()
         self.put({"crates/low/specs/Law.antt": LAW.replace("= Unit", "= Bool")})
-        self.assertEqual(self.told(), ["docs/reference/DEFINITIONS.md:0: is not what the sources say: run tools/reference"])
+        self.assertEqual(
+            self.told(), ["docs/reference/DEFINITIONS.md:0: is not what the sources say: run tools/reference"]
+        )
         self.make()
         self.assertEqual(self.told(), [])
 
@@ -304,7 +317,10 @@ class Promises(Case):
         self.put({"crates/low/specs/Law.antt": LAW.replace("-- a law\n", "")})
         self.make()
         said = self.told()
-        self.assertEqual(said, ["tools/bare.txt:0: 1 public definitions have no comment, where 0 may; tools/promises --bare names them"])
+        self.assertEqual(
+            said,
+            ["tools/bare.txt:0: 1 public definitions have no comment, where 0 may; tools/promises --bare names them"],
+        )
         listed = run("promises", "--bare", str(self.folder), folder=self.folder).stdout
         self.assertIn("no comment: crates/low/specs/Law.antt:4: IsLaw\n", listed)
 
@@ -327,7 +343,15 @@ class Words(Case):
         ended = run("words", str(ROOT / "CONTRIBUTING.md"), folder=self.folder)
         self.assertIn("CONTRIBUTING.md", ended.stdout)
         self.assertEqual(words.sentences("# A head\n\n" + long)[0].words(), 28)
-        self.assertEqual([one.words() for one in words.sentences("One `a b c` is. Two are so.\n\n- Three [are here](x.md)\n- four\n\n    code is none\n")], [3, 3, 3])
+        self.assertEqual(
+            [
+                one.words()
+                for one in words.sentences(
+                    "One `a b c` is. Two are so.\n\n- Three [are here](x.md)\n- four\n\n    code is none\n"
+                )
+            ],
+            [3, 3, 3],
+        )
 
     def test_the_gate_passes_pages_at_its_limits(self):
         long = "It is " + "so " * 38 + "\n\nNo more.\n\nNor less.\n"

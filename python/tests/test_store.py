@@ -1,5 +1,4 @@
 """The library over a store: what it answers is what the pages work out by hand, and errors have the program's words."""
-import tempfile
 import unittest
 import warnings
 from datetime import datetime, timedelta, timezone
@@ -8,7 +7,7 @@ from fractions import Fraction
 from pathlib import Path
 
 import mftb
-from common import BUILT, ROOT, Case, has_info
+from common import BUILT, ROOT, Case, folder_of, has_info
 from mftb import errors, lines, records
 
 S1 = ROOT / "examples" / "standard" / "S1.csv"
@@ -110,9 +109,7 @@ class Standard(Case):
 
     @classmethod
     def setUpClass(cls):
-        folder = tempfile.TemporaryDirectory()
-        cls.addClassCleanup(folder.cleanup)
-        cls.store = mftb.Store(Path(folder.name, "store"), program=BUILT)
+        cls.store = mftb.Store(folder_of(cls) / "store", program=BUILT)
         cls.loaded = cls.store.load(S1)
 
     def test_what_is_loaded(self):
@@ -144,6 +141,28 @@ class Standard(Case):
         (visit,) = self.store.visits(BOX, PERIOD)
         self.assertEqual((visit.enters, visit.leaves, visit.legs), (since_1970(80000), since_1970(160000), 2))
         self.assertEqual(list(self.store.dwell(BOX, PERIOD)), [records.Dwell("a", 1, Fraction(80), Fraction(80))])
+
+    def test_zones_with_names(self):
+        visits = self.store.visits({"one": BOX, "all": (10, 1, 12, 3)}, PERIOD)
+        self.assertEqual([(it.zone, it.feature) for it in visits], [("one", "a"), *(("all", name) for name in "abc")])
+        (one,) = self.store.visits({"one": BOX}, PERIOD)
+        self.assertEqual((one.enters_by, one.leaves_by, one.legs), ("edge", "edge", 2))
+        (count,) = visits.by("year", key=lambda visit: visit.zone if visit.feature == "a" else None)[:1]
+        self.assertEqual((count.zone, count.key, count.features, count.begin.year), ("one", "one", 1, 2012))
+        # From 12:35:01 to 12:36:21.
+        parts = self.store.dwell({"one": BOX}, PERIOD).by("1min")
+        self.assertEqual([(it.begin.minute, it.seconds) for it in parts], [(35, 59), (36, 21)])
+
+    def test_a_page(self):
+        file = self.store.page(
+            folder_of(type(self)) / "map.html", rectangles={"box": BOX}, title="A & b", period=PERIOD
+        )
+        self.assertIn("<title>A &amp; b</title>", Path(file).read_text())
+        for words in {"rectangles": {"box": (1, 0, 0, 1)}}, {"period": ("now", PERIOD[1])}:
+            self.assertRaises(ValueError, self.store.page, file, **words)
+        late = ("2050-01-01T00:00:00Z", "2051-01-01T00:00:00Z")
+        with self.assertRaisesRegex(mftb.MftbError, "there is no leg from"):
+            self.store.page(file, period=late)
 
     def test_a_batch_is_one_run(self):
         with self.store.batch() as batch:
@@ -202,11 +221,10 @@ SILENT = HEAD + "a,-1,10,0 0 1 0\nb,0,40,5 5 6 6\na,20,30,2 0 3 0\na,31.5,40,4 0
 class Gaps(Case):
     @classmethod
     def setUpClass(cls):
-        folder = tempfile.TemporaryDirectory()
-        cls.addClassCleanup(folder.cleanup)
-        Path(folder.name, "silent.csv").write_text(SILENT)
-        cls.store = mftb.Store(Path(folder.name, "store"), program=BUILT)
-        cls.store.load(Path(folder.name, "silent.csv"))
+        folder = folder_of(cls)
+        (folder / "silent.csv").write_text(SILENT)
+        cls.store = mftb.Store(folder / "store", program=BUILT)
+        cls.store.load(folder / "silent.csv")
 
     def gaps(self, first, last):
         start = datetime(2024, 1, 1, tzinfo=timezone.utc)
@@ -232,9 +250,7 @@ class Fleet(Case):
 
     @classmethod
     def setUpClass(cls):
-        folder = tempfile.TemporaryDirectory()
-        cls.addClassCleanup(folder.cleanup)
-        cls.fleet = mftb.Fleet.new(Path(folder.name, "fleet"), 2, program=BUILT)
+        cls.fleet = mftb.Fleet.new(folder_of(cls) / "fleet", 2, program=BUILT)
         cls.loaded = cls.fleet.load(S1)
 
     def test_what_is_loaded(self):
@@ -257,6 +273,11 @@ class Fleet(Case):
         stays = self.fleet.moments((10, 1, 12, 3), PERIOD)
         self.assertEqual([(it.feature, it.enters_at) for it in stays], self.all_stays())
         self.assertEqual(list(self.fleet.gaps(PERIOD)), [])
+
+    def test_a_page_has_all_parts(self):
+        file = self.fleet.page(folder_of(type(self)) / "map.html", rectangles={"box": BOX})
+        self.assertIn("<title>fleet</title>", Path(file).read_text())
+        self.assertEqual([it.feature for it in self.fleet.visits({"box": BOX}, PERIOD)], ["a"])
 
     def all_stays(self):
         """Each leg is inside for its whole time, as the rectangle is that of all legs."""

@@ -28,10 +28,24 @@ from mftb.errors import (
     ZonesRefused,
 )
 from mftb.fleet.book import Fleet
-from mftb.records import Counts, Dwell, Feature, Gap, Info, Leg, Loaded, Report, Stay, Visit
+from mftb.records import (
+    Counts,
+    Dwell,
+    DwellTime,
+    Feature,
+    Gap,
+    Info,
+    Leg,
+    Loaded,
+    Report,
+    Stay,
+    Visit,
+    VisitCount,
+)
 from mftb.results import Answer
 from mftb.runs import MftbWarning
 from mftb.store import Batch, Store
+from mftb.tallies import Dwells, Table, Visits
 
 __version__ = "0.1.0"
 __all__ = [
@@ -39,6 +53,8 @@ __all__ = [
     "Batch",
     "Counts",
     "Dwell",
+    "DwellTime",
+    "Dwells",
     "Feature",
     "FileRefused",
     "FileUnreadable",
@@ -66,7 +82,10 @@ __all__ = [
     "StoreMissing",
     "StoreUnfinished",
     "StoreVersion",
+    "Table",
     "Visit",
+    "VisitCount",
+    "Visits",
     "WrongWords",
     "ZonesRefused",
 ]

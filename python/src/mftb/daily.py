@@ -4,14 +4,19 @@ Beside STORE is a folder STORE.ends. A file in it says where each feature ended 
 It is written before the day is loaded, and a load is whole or absent: so the legs that the store has say which file
 is right, whenever a run is killed.
 """
+from __future__ import annotations
+
 import argparse
 import csv
 import fcntl
 import os
 import subprocess
 import tempfile
+from collections.abc import Iterator, Sequence
 from contextlib import contextmanager, suppress
 from pathlib import Path
+from types import ModuleType
+from typing import NamedTuple
 
 from mftb.asking import Store
 from mftb.commands import ended, example, say
@@ -41,14 +46,14 @@ FEEDS = {
 class Ends:
     """The folder beside a store in which it stands where features ended."""
 
-    def __init__(self, store):
+    def __init__(self, store: str) -> None:
         self.folder = Path(f"{store}.ends")
 
-    def of(self, legs):
+    def of(self, legs: int) -> Path:
         """The file that is right of a store with so many legs."""
         return self.folder / f"{legs}.json"
 
-    def keep(self, legs):
+    def keep(self, legs: int) -> None:
         """Removes what was right of the store before, or never was."""
         for it in self.folder.iterdir():
             if it != self.of(legs):
@@ -59,7 +64,7 @@ class Day(argparse.Namespace):
     """What a file's conversion and its load need: the store, its ends, the program, the source and its words."""
 
 
-def legs_of(day):
+def legs_of(day: Day) -> int:
     """How many legs the store has; none where it is absent."""
     with suppress(FileNotFoundError):
         if os.path.getsize(day.store):
@@ -67,7 +72,7 @@ def legs_of(day):
     return 0
 
 
-def take(day, file):
+def take(day: Day, file: str) -> int:
     """Converts a file and loads it: the status, and whether it is in the store now."""
     legs = legs_of(day)
     day.ends.folder.mkdir(exist_ok=True)
@@ -88,7 +93,7 @@ def take(day, file):
         return load(day, file, folder, legs) if feed.written else 0
 
 
-def load(day, file, folder, legs):
+def load(day: Day, file: str, folder: str, legs: int) -> int:
     """Loads the legs that were made of a file; the status."""
     Path(folder, "load.txt").write_text("load legs.csv\n")
     command = [day.program, "run", "--strict", "--explain", os.path.abspath(day.store), "load.txt", "legs.csv"]
@@ -103,7 +108,7 @@ def load(day, file, folder, legs):
     return 0
 
 
-def make_durable(path):
+def make_durable(path: Path) -> None:
     """Waits until a file, or a folder's names, are on disk."""
     place = os.open(path, os.O_RDONLY)
     try:
@@ -113,7 +118,7 @@ def make_durable(path):
 
 
 @contextmanager
-def alone(store):
+def alone(store: str) -> Iterator[None]:
     """Keeps other runs in the store's folder waiting."""
     place = os.open(os.path.dirname(os.path.abspath(store)), os.O_RDONLY)
     try:
@@ -123,7 +128,7 @@ def alone(store):
         os.close(place)
 
 
-def take_all(day, files):
+def take_all(day: Day, files: Sequence[str]) -> int:
     """Takes each file, up to the first that is refused; the status."""
     with alone(day.store):
         for file in files:
@@ -139,7 +144,7 @@ def take_all(day, files):
 # The command line
 
 
-def feed_of(words):
+def feed_of(words: Sequence[str]) -> str | None:
     """The source that the files come from, by the words, or by how the first file begins."""
     if any(word.split("=")[0] == "--id" for word in words):
         return "csv"
@@ -156,7 +161,18 @@ def feed_of(words):
     return None
 
 
-def words():
+class Given(NamedTuple):
+    """The words of the command line: its own, the source, the files with the store first, and the source's words."""
+
+    own: argparse.Namespace
+    module: ModuleType
+    unit: str
+    files: list[str]
+    rest: list[str]
+
+
+def words() -> Given:
+    """The words of the command line."""
     parser = argparse.ArgumentParser(
         description=__doc__,
         usage="%(prog)s [--feed FEED] [--program MFTB] STORE FILES... [the words of the source's tool]",
@@ -176,10 +192,11 @@ def words():
         parser.error("STORE and a file are wanted")
     if options.output or options.state or options.after or "-" in options.files:
         parser.error("-o, --state, --after and standard input are not for this tool")
-    return own, module, unit, options.files, rest
+    return Given(own, module, unit, options.files, rest)
 
 
-def work():
+def work() -> int:
+    """Takes the files that were named; the status."""
     own, module, unit, (store, *files), rest = words()
     # The words without the files, each of which stands there once for each time that it is named.
     for name in [store, *files]:
@@ -188,5 +205,5 @@ def work():
     return take_all(day, files)
 
 
-def main():
+def main() -> int:
     return ended("daily", work, "stopped; the file that was in work is not loaded")

@@ -15,6 +15,7 @@ from mftb.records import Counts, Dwell, Feature, Info, Leg, Loaded, Stay, Visit
 Record = TypeVar("Record")
 EPOCH = datetime(1970, 1, 1, tzinfo=timezone.utc)
 MILLISECOND = timedelta(milliseconds=1)
+MICROSECOND = timedelta(microseconds=1)
 
 
 def instant(text: str) -> datetime:
@@ -115,14 +116,24 @@ class StayForm(MomentForm[Stay]):
 class VisitForm(MomentForm[Visit]):
     def record(self, fields: Sequence[str]) -> Visit:
         said = self.named(fields)
-        zone = said.get("zone") or said.get("rectangle") or ""
-        return Visit(**self.stay(said), legs=int(said["legs"]), zone=zone)
+        return Visit(**self.stay(said), legs=int(said["legs"]), zone=said.get("zone", ""))
 
 
 class DwellForm(MomentForm[Dwell]):
     def record(self, fields: Sequence[str]) -> Dwell:
         said = self.named(fields)
-        return Dwell(said["feature"], int(said["visits"]), Fraction(said["least"]), Fraction(said["most"]))
+        least, most = (Fraction(said[name]) for name in ("least", "most"))
+        return Dwell(said["feature"], int(said["visits"]), least, most, said.get("zone", ""))
+
+
+def since_1970(moment: datetime) -> Fraction:
+    """Seconds since 1970, exactly."""
+    return Fraction((moment - EPOCH) // MICROSECOND, 1_000_000)
+
+
+def start_of(info: Info) -> Fraction:
+    """When the store's time begins, in seconds since 1970."""
+    return since_1970(info.start or EPOCH)
 
 
 def leg_form(info: Info) -> LegForm:

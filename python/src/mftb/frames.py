@@ -4,6 +4,7 @@ from __future__ import annotations
 
 import io
 from collections.abc import Iterable, Sequence
+from dataclasses import fields
 from functools import partial
 from typing import TYPE_CHECKING, Any
 
@@ -45,6 +46,13 @@ def frame(printed: Printed, form: Form, with_exact: bool = False) -> pandas.Data
     if not form.names:
         raise TypeError("the records of this answer are no table: iterate over them")
     return texts(printed.read(), form.names)
+
+
+def of_records(records: Sequence[Any]) -> pandas.DataFrame:
+    """Records as a frame: fractions are seconds, as doubles."""
+    rows = [{it.name: getattr(record, it.name) for it in fields(record)} for record in records]
+    found = pandas.DataFrame(rows)
+    return found.assign(seconds=found["seconds"].astype(float)) if "seconds" in found else found
 
 
 def texts(data: bytes, names: Sequence[str]) -> pandas.DataFrame:

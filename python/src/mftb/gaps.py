@@ -4,6 +4,7 @@ from __future__ import annotations
 
 import csv
 import io
+from collections.abc import Sequence
 from datetime import datetime
 
 from mftb import forms, lines, runs
@@ -18,7 +19,7 @@ EVERYWHERE = (-MOST, -MOST, MOST, MOST)
 class GapForm(LegForm):
     """Gaps, which lie in a spool as legs do."""
 
-    def record(self, fields):
+    def record(self, fields: Sequence[str]) -> Gap:  # type: ignore[override]
         leg = super().record(fields)
         return Gap(leg.feature, leg.begin, leg.end, leg.start, leg.finish)
 

@@ -23,7 +23,10 @@ class LegFile:
     """
 
     def __init__(self, path: str) -> None:
-        self.path, self.head, self.columns, self.types = path, None, [], []
+        self.path = path
+        self.head: list[str] = []
+        self.columns: list[str] = []
+        self.types: list[str] = []
         self.dimension, self.start, self.unit, self.line = 2, 0, "sec", 0
 
     def __iter__(self) -> Iterator[list[str]]:

@@ -2,7 +2,7 @@
 
 from __future__ import annotations
 
-from collections.abc import Mapping
+from collections.abc import Hashable, Mapping
 from dataclasses import dataclass
 from datetime import datetime
 from fractions import Fraction
@@ -71,6 +71,41 @@ class Dwell:
     visits: int
     least: Fraction
     most: Fraction
+    zone: str = ""
+
+
+@dataclass(frozen=True, slots=True)
+class VisitCount:
+    """Visits in a span of a clock, which has its begin and not its end.
+
+    `entered` and `left` are how many begin and end in it; one that the period cuts has no such end.
+    `features` is how many features are inside at some moment of it.
+    """
+
+    begin: datetime
+    end: datetime
+    zone: str
+    key: Hashable
+    entered: int
+    left: int
+    features: int
+
+
+@dataclass(frozen=True, slots=True)
+class DwellTime:
+    """How long a feature is inside in a span of a clock, in `seconds`; `length` is how many the span has."""
+
+    begin: datetime
+    end: datetime
+    zone: str
+    feature: str
+    seconds: Fraction
+    length: int
+
+    @property
+    def is_whole(self) -> bool:
+        """Whether the feature is inside all the time."""
+        return self.seconds == self.length
 
 
 @dataclass(frozen=True, slots=True)

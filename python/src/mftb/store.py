@@ -4,15 +4,17 @@ from __future__ import annotations
 
 import os
 from collections.abc import Iterable, Sequence
-from fractions import Fraction
+from functools import partial
 from pathlib import Path as FilePath
 from types import TracebackType
 from typing import TYPE_CHECKING, Any, TypeVar
 
-from mftb import errors, forms, gaps, lines, runs
+from mftb import errors, forms, gaps, lines, moments, runs
 from mftb.lines import Path, Period, Predicate, Rectangle
-from mftb.records import Counts, Dwell, Feature, Gap, Info, Leg, Loaded, Report, Stay, Visit
+from mftb.records import Counts, Feature, Gap, Info, Leg, Loaded, Report, Stay
 from mftb.results import Answer
+from mftb.tallies import Dwells, Visits
+from mftb.zones import Zones, named
 
 if TYPE_CHECKING:
     import pandas
@@ -71,7 +73,7 @@ class Book(Questions):
         """
         script = lines.script_lines(script)
         asked = [(place, line) for place, line in enumerate(script, 1) if lines.command_of(line)]
-        answers = [Answer(line.strip()) for _, line in asked]
+        answers: list[Answer] = [Answer(line.strip()) for _, line in asked]
         self._fill(script, [place for place, _ in asked], answers, [os.fspath(file) for file in files])
         for answer in answers if strict else ():
             if answer.error:
@@ -124,27 +126,46 @@ class Book(Questions):
         printed, _ = self._ask("write").records()
         FilePath(file).write_bytes(printed.read())
 
+    def page(
+        self, file: Path, *, rectangles: Zones | None = None, title: str | None = None, period: Period | None = None
+    ) -> str:
+        """Writes a page for a browser, a map that moves, with the crossings of rectangles; returns the file's name."""
+        raise NotImplementedError
+
     def moments(self, rectangle: Rectangle, period: Period) -> Answer[Stay]:
         """When each leg is inside a rectangle."""
-        return self._moments(forms.StayForm, [], rectangle, period)
-
-    def visits(self, rectangle: Rectangle, period: Period) -> Answer[Visit]:
-        """When each feature is inside a rectangle: stays joined over legs without a gap in time."""
-        return self._moments(forms.VisitForm, ["--visits"], rectangle, period)
-
-    def dwell(self, rectangle: Rectangle, period: Period) -> Answer[Dwell]:
-        """How long each feature is inside a rectangle in all."""
-        return self._moments(forms.DwellForm, ["--dwell"], rectangle, period)
-
-    def _moments(self, form: type[forms.MomentForm], flags: list[str], rectangle: Rectangle, period: Period) -> Answer:
         words = lines.words(rectangle, period)
         info = self.info()
-        answer: Answer = Answer(" ".join(["moments", *flags, *words]), info.crs)
-        names, printed = self._moment_records(flags, words)
-        start = ((info.start or forms.EPOCH) - forms.EPOCH) // forms.MILLISECOND
-        return answer.fill(printed, form(names=names, start=Fraction(start, 1000)))
+        answer: Answer[Stay] = Answer(" ".join(["moments", *words]), info.crs)
+        names, printed = self._moment_records([], words)
+        return answer.fill(printed, forms.StayForm(names=names, start=forms.start_of(info)))
+
+    def visits(self, zones: Zones, period: Period) -> Visits:
+        """When each feature is inside a rectangle, or inside each of some that have names.
+
+        A visit is stays joined over legs without a gap in time. Those of each zone stand together.
+        """
+        info, found = self.info(), moments.Joined()
+        for name, words in moments.questions(zones, period):
+            names, visits = self._moment_records(["--visits"], words)
+            found.add(name, moments.with_ends(names, visits, *self._moment_records([], words)))
+        ends = moments.seconds(period)
+        answer = Visits(moments.question("--visits", zones, period), info.crs, list(named(zones)), ends)
+        answer.fill(found.printed(), forms.VisitForm(names=found.names, start=forms.start_of(info)))
+        return answer
+
+    def dwell(self, zones: Zones, period: Period) -> Dwells:
+        """How long each feature is inside a rectangle, or inside each of some that have names, in all."""
+        info, found = self.info(), moments.Joined()
+        for name, words in moments.questions(zones, period):
+            names, printed = self._moment_records(["--dwell"], words)
+            found.add(name, (names, moments.rows_of(printed)))
+        answer = Dwells(moments.question("--dwell", zones, period), info.crs, partial(self.visits, zones, period))
+        answer.fill(found.printed(), forms.DwellForm(names=found.names, start=forms.start_of(info)))
+        return answer
 
     def _moment_records(self, flags: list[str], words: list[str]) -> tuple[list[str], runs.Printed]:
+        """The names of the fields of `mftb moments`, and its records."""
         raise NotImplementedError
 
 
@@ -178,6 +199,16 @@ class Store(Book):
         text = self._printed("check", *self._cache, self.path)
         pages, legs, features = map(int, text.split("\n")[1].split(","))
         return Report(legs, features, pages)
+
+    def page(
+        self, file: Path, *, rectangles: Zones | None = None, title: str | None = None, period: Period | None = None
+    ) -> str:
+        """Writes a page for a browser, a map that moves, with the crossings of rectangles; returns the file's name."""
+        from mftb.page import store
+
+        places = {} if rectangles is None else named(rectangles)
+        store.save(self.path, self.program, os.fspath(file), places, title, period)
+        return os.fspath(file)
 
     def _printed(self, *words: str) -> str:
         """What the program prints, if it ends well."""

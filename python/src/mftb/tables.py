@@ -8,23 +8,27 @@ row.
 from __future__ import annotations
 
 import argparse
-import csv
 import json
 import re
 import sys
 import tempfile
 from argparse import Namespace
-from collections.abc import Callable, Iterable, Iterator, Mapping, Sequence
+from collections.abc import Callable, Iterable, Iterator, Sequence
 from contextlib import nullcontext
-from itertools import groupby
+from itertools import groupby, islice
 from pathlib import Path
-from typing import Any, TextIO, TypeAlias
+from typing import IO, Any, TextIO
 
+from mftb import playing
+from mftb.answers import read_script
 from mftb.asking import Row, Store
 from mftb.commands import ended, example, say
 from mftb.draw.plot import in_degrees
 from mftb.legfiles import beside
+from mftb.playing import Tracks
 from mftb.program import NAMING
+from mftb.sources import BATCH
+from mftb.texts import Known, field, further_fields
 
 EXAMPLE = """example:
   tools/table harbour.mftb script.txt -o answers.csv
@@ -35,9 +39,11 @@ The columns are: question (its number), words, feature, begin, end, x0, y0, x1, 
 dimensions x0, y0, z0, x1, y1, z1), and the attributes by their names. csv is for
 pandas.read_csv and for .import of sqlite3; wkt is csv with one column wkt in place of the
 coordinates; json is a list of objects; geojson is for QGIS, kepler.gl and geopandas.read_file:
-there a feature of `features` is its whole track. The status is 3 where a line was refused.
+there a feature of `features` has its legs in the question's period, or its whole track with
+--whole; so it has in gpkg and trips. gpkg is a GeoPackage, whose layers are `legs`, for
+QGIS's Temporal Controller, and `tracks`, with moments as M; trips is GeoJSON with a moment a
+position, for a trip layer of kepler.gl. The status is 3 where a line was refused.
 The answers are those of mftb; this tool is no part of any proof."""
-Tracks: TypeAlias = Mapping[str, list[Row]]
 PLAIN = re.compile(r"-?(?:0|[1-9][0-9]*)(?:\.[0-9]+)?(?:[eE][+-]?[0-9]+)?")
 NUMBERS = {"integer", "int", "long", "short", "byte", "decimal", "double", "float"}
 NUMBERS |= {"nonNegativeInteger", "positiveInteger", "unsignedInt", "unsignedLong"}
@@ -66,6 +72,18 @@ class Layout:
         blank = [""] * (self.values - 5 - len(places))
         values = [*row.values, *[""] * (len(self.types) - len(row.values))]
         return [str(row.number), row.words, row.feature, row.begin, row.end, *places, *blank, *values]
+
+    def lines(self, rows: Iterable[Row]) -> Iterator[str]:
+        """Rows as lines of CSV."""
+        names, more, width = Known(field), Known(further_fields), len(self.types)
+        for row in rows:
+            number, words, feature, begin, end, places, values = row
+            if not places or len(values) != width or self.is_wkt:
+                yield ",".join(map(field, self.fields(row))) + "\n"
+                continue
+            first, last = places
+            ends = f"{','.join(first)},{','.join(last)}"
+            yield f"{number},{names[words]},{names[feature]},{begin},{end},{ends}{more[values]}\n"
 
     def object(self, row: Row) -> dict[str, Any]:
         """A row as an object, without what it does not have."""
@@ -124,9 +142,10 @@ def line_of(places: Sequence[Sequence[str]]) -> str:
 
 def write_csv(out: TextIO, store: Store, rows: Iterable[Row], is_wkt: bool) -> None:
     layout = Layout(store, is_wkt)
-    table = csv.writer(out, lineterminator="\n")
-    table.writerow(layout.names)
-    table.writerows(map(layout.fields, rows))
+    out.write(",".join(map(field, layout.names)) + "\n")
+    lines = layout.lines(rows)
+    while found := list(islice(lines, BATCH)):
+        out.write("".join(found))
 
 
 def write_list(out: TextIO, rows: Iterable[Row], shown: Callable[[Row], Any], start: str, end: str) -> None:
@@ -151,7 +170,7 @@ def write_geojson(out: TextIO, store: Store, rows: Iterable[Row], tracks: Tracks
 
     def shown(row: Row) -> dict[str, Any]:
         said = {name: it for name, it in layout.object(row).items() if name not in ends}
-        ways = [row] if row.begin else tracks.get(row.feature, [])
+        ways = [row] if row.begin else tracks.of(row)
         return {"type": "Feature", "geometry": geometry(ways), "properties": said}
 
     write_list(out, rows, shown, '{"type": "FeatureCollection", "features": [', "]}")
@@ -178,10 +197,10 @@ def geometry(legs: Iterable[Row]) -> dict[str, Any] | None:
 
 def full_rows(rows: Iterable[Row | None], tracks: Tracks) -> Iterator[Row]:
     """The rows, those of features with the moments and the values of their last legs."""
-    for row in rows:
+    for row in rows if tracks.legs else filter(None, rows):
         if row is None:
             continue
-        track = tracks.get(row.feature) if not row.begin else None
+        track = tracks.legs.get(row.feature) if not row.begin else None
         yield row._replace(values=track[-1].values) if track else row
 
 
@@ -195,21 +214,29 @@ def write(options: Namespace, store: Store, rows: Iterable[Row | None], tracks: 
     if options.question:
         rows = (row for row in rows if row.number == options.question)
     if not options.split:
-        with beside(options.output) if options.output else nullcontext(sys.stdout) as out:
+        with beside(options.output, mode_of(options)) if options.output else nullcontext(sys.stdout) as out:
             write_one(options, store, rows, tracks, out)
         return
-    kind = {"wkt": "csv"}.get(options.format, options.format)
+    kind = {"wkt": "csv", "trips": "geojson"}.get(options.format, options.format)
     Path(options.split).mkdir(exist_ok=True)
     for number, own in groupby(rows, lambda row: row.number):
-        with beside(str(Path(options.split, f"question-{number}.{kind}"))) as out:
+        with beside(str(Path(options.split, f"question-{number}.{kind}")), mode_of(options)) as out:
             write_one(options, store, own, tracks, out)
 
 
-def write_one(options: Namespace, store: Store, rows: Iterable[Row], tracks: Tracks, out: TextIO) -> None:
+def mode_of(options: Namespace) -> str:
+    return "wb" if options.format == "gpkg" else "w"
+
+
+def write_one(options: Namespace, store: Store, rows: Iterable[Row], tracks: Tracks, out: IO[Any]) -> None:
     if options.format == "json":
         write_json(out, store, rows)
     elif options.format == "geojson":
         write_geojson(out, store, rows, tracks)
+    elif options.format == "trips":
+        playing.write_trips(out, rows, tracks)
+    elif options.format == "gpkg":
+        playing.write_geopackage(out, store.crs, store.dimension, store.columns, rows, tracks)
     else:
         write_csv(out, store, rows, options.format == "wkt")
 
@@ -226,9 +253,10 @@ def table(options: Namespace) -> int:
         out, is_refused = store.run(script, options.files, words)
         with out:
             store.read_info()
-            tracks = store.tracks(features_of(store.rows(out, script)))
-            write(options, store, store.rows(out, script), tracks)
-    if options.format == "geojson" and not in_degrees(store.crs):
+            asks = any(line.startswith("features") for line in read_script(script))
+            legs = store.tracks(features_of(store.rows(out, script))) if asks else {}
+            write(options, store, store.rows(out, script), Tracks(legs, options.whole))
+    if options.format in ("geojson", "trips") and not in_degrees(store.crs):
         say("table", f"{store.crs}: GeoJSON's coordinates are taken as degrees")
     return 3 if is_refused else 0
 
@@ -245,7 +273,8 @@ def words() -> Namespace:
     parser.add_argument("files", metavar="FILES", nargs="*", help="the files that it may load")
     parser.add_argument("--ask", action="append", default=[], metavar="LINE", help="a line in place of a script")
     parser.add_argument("--question", type=int, metavar="N", help="only the Nth answer")
-    parser.add_argument("--format", choices=["csv", "json", "geojson", "wkt"], default="csv")
+    parser.add_argument("--format", choices=["csv", "json", "geojson", "wkt", "gpkg", "trips"], default="csv")
+    parser.add_argument("--whole", action="store_true", help="the whole tracks of the features that were named")
     parser.add_argument("-o", dest="output", metavar="OUT", help="the table (standard output)")
     parser.add_argument("--split", metavar="DIR", help="a file a question in this folder")
     parser.add_argument("--program", metavar="MFTB", help=NAMING)
@@ -255,6 +284,8 @@ def words() -> Namespace:
         parser.error("a SCRIPT is wanted, or --ask")
     if options.split and options.output:
         parser.error("-o or --split")
+    if options.format == "gpkg" and not (options.output or options.split):
+        parser.error("--format gpkg is written to a file: -o or --split")
     return options
 
 

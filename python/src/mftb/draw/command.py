@@ -3,19 +3,25 @@
 The files are in the profile of docs/user/FILES.md, and their legs are grey; without a file those
 of the store are. An answer is what a run of a script printed: its records of legs (of `legs`, `box`
 and `trajectory`) are drawn in colour, by feature; where it has none, the tracks of the features
-that `features` named.
+that `features` named, in the question's period where --script says it (all of them with --whole).
 """
+
+from __future__ import annotations
+
 import argparse
 import math
 import shutil
 import subprocess
+from argparse import Namespace
 from collections import Counter
+from collections.abc import Callable, Iterable, Iterator, Mapping, Sequence
 from pathlib import Path
+from typing import TypeAlias
 
 from mftb import answers, asking, texts
 from mftb.commands import ended, example, say
 from mftb.draw import coast, crossings, labels, stored, svg
-from mftb.draw.plot import MANY, WIDTH, Extent, Ink, View, in_degrees, size
+from mftb.draw.plot import MANY, WIDTH, Extent, Ink, Piece, Place, Seen, View, in_degrees, size
 from mftb.legfiles import LegFile, beside
 from mftb.program import NAMING
 
@@ -35,6 +41,8 @@ a store is shown, what lies far off counts. This tool is no part of any proof.""
 
 LEFT, TOP, BELOW = 70, 40, 136
 FIRST_START = "its times are taken to count from the first file's start"
+# What has legs.
+Source: TypeAlias = "Files | stored.Stored"
 OTHERS = {".jpg", ".jpeg", ".gif", ".pdf", ".webp", ".tif", ".tiff", ".bmp"}
 
 
@@ -43,7 +51,7 @@ class Files:
 
     kind = "files"
 
-    def __init__(self, paths):
+    def __init__(self, paths: Sequence[str]) -> None:
         self.paths, self.heads = paths, [header(path) for path in paths]
         self.title = ", ".join(Path(path).name for path in paths)
         first = self.heads[0]
@@ -51,8 +59,8 @@ class Files:
         self.columns = ["mfidref", "", "", "trajectory", *first.columns]
         self.count, self.first, self.last = 0, math.inf, -math.inf
 
-    def legs(self, _view=None):
-        """Each leg: its file, its record, its number there, and its places; the period is noted."""
+    def legs(self, _view: View | None = None) -> Iterator[Seen]:
+        """Each leg; the period is noted."""
         self.count = 0
         for path in self.paths:
             file = LegFile(path)
@@ -63,12 +71,13 @@ class Files:
         if not self.count:
             raise texts.Refused("there is no leg in these files")
 
-    def legs_of(self, file):
+    def legs_of(self, file: LegFile) -> Iterator[Seen]:
+        """Each leg of a file."""
         first, last, count, step = math.inf, -math.inf, 0, 0
         for count, row in enumerate(file, 1):
             if not step:
                 absolute, step, wide = file.unit == "absolute", file.dimension, 2 * file.dimension
-                moment = file.milliseconds if absolute else float
+                moment: Callable[[str], float] = file.milliseconds if absolute else float
                 if not file.head:
                     raise ValueError("a record before the header lines")
             begin, end = moment(row[1]), moment(row[2])
@@ -77,17 +86,17 @@ class Files:
             if not -4e8 < sum(numbers) < 4e8:
                 raise ValueError("no numbers")
             if len(numbers) == wide:
-                yield file, row, 0, numbers[0], numbers[1], numbers[step], numbers[step + 1]
+                yield Seen(file, row, 0, numbers[0], numbers[1], numbers[step], numbers[step + 1])
                 continue
             if not numbers or len(numbers) % step:
                 raise ValueError("no places")
             places = list(zip(numbers[::step], numbers[1::step]))
             for number, ends in enumerate(zip(places, places[1:] or places)):
-                yield file, row, number, *ends[0], *ends[1]
+                yield Seen(file, row, number, *ends[0], *ends[1])
         if count:
             self.note(file, count, first, last)
 
-    def note(self, file, count, first, last):
+    def note(self, file: LegFile, count: int, first: float, last: float) -> None:
         """Counts a file's records, and widens the period."""
         unit = {"absolute": 1, "minute": 60_000}.get(file.unit, 1000)
         start = 0 if file.unit == "absolute" else file.start
@@ -95,16 +104,17 @@ class Files:
         self.first = min(self.first, start + first * unit)
         self.last = max(self.last, start + last * unit)
 
-    def bounds(self, names, is_whole):
-        """Two corners of the legs of some features, or of all legs; nothing where there is none."""
+    def bounds(self, shown: Shown | None, is_whole: bool) -> list[Place]:
+        """Two corners of what is shown of features, or of all legs; nothing where there is none."""
         every = Extent()
-        for _, row, _, *ends in self.legs():
-            if not names or row[0] in names:
-                every.add(*ends[:2])
-                every.add(*ends[2:])
+        for file, row, number, *ends in self.legs():
+            one, two = ends[:2], ends[2:]
+            for piece in shown.pieces(file, row, number, one, two) if shown else [(one, two)]:
+                every.add(*piece[0])
+                every.add(*piece[1])
         return every.corners(is_whole)
 
-    def corners(self):
+    def corners(self) -> list[Place]:
         """The corners that the header lines say; nothing where one says none."""
         try:
             fields = [text.split() for file in self.heads for text in file.head[3:5]]
@@ -113,7 +123,7 @@ class Files:
             return []
 
 
-def header(path):
+def header(path: str) -> LegFile:
     """A file whose header lines were read, as far as they stand before its first record."""
     file = LegFile(path)
     for _ in file:
@@ -123,7 +133,7 @@ def header(path):
     return file
 
 
-def moment(file, row, number):
+def moment(file: LegFile | stored.Stored, row: list[str], number: int) -> int:
     """When the leg with a number in its record begins."""
     first, last = (file.milliseconds(text) for text in row[1:3])
     legs = max(len(row[3].split()) // file.dimension - 1, 1)
@@ -133,13 +143,15 @@ def moment(file, row, number):
 class Shown:
     """What is shown of an answer: its legs, or the tracks of features, and the rectangle."""
 
-    def __init__(self, options, files):
-        self.given = []
+    def __init__(self, options: Namespace, files: Source) -> None:
+        self.given: list[answers.Answer] = []
         if options.answer:
             found = answers.read_answers(options.answer, options.script)
             self.given = answers.chosen(found, options.question)
         self.hits = list(answers.hits(self.given, files.dimension))
-        self.names = {} if self.hits else answers.names(self.given)
+        self.is_whole = options.whole
+        # The features whose tracks are shown, and in which periods.
+        self.names: dict[str, list[answers.Period | None]] = {} if self.hits else answers.names(self.given)
         boxes = [answer.box() for answer in self.given] if options.question else []
         self.box = options.box or next((box for box in boxes if box), None)
         if options.label not in files.columns:
@@ -147,23 +159,49 @@ class Shown:
         self.label = files.columns.index(options.label)
         self.crossings = crossings.read(options.moments) if options.moments else []
         # The offset of each leg, but of one that is there at several moments.
-        self.legs, self.own = {}, {hit.name for hit in self.hits}
+        self.legs: dict[tuple, float | None] = {}
+        self.own = {hit.name for hit in self.hits}
         for hit in self.hits:
             where = (hit.name, *rounded(hit.places))
             is_new = self.legs.setdefault(where, hit.first) == hit.first
             self.legs[where] = hit.first if is_new else None
 
-    def title(self, files):
+    def pieces(
+        self, file: LegFile | stored.Stored, row: list[str], number: int, one: Place, two: Place
+    ) -> list[tuple[Place, Place]]:
+        """What is shown of a leg in the track of its feature: its part in each period that was asked for."""
+        periods = self.names.get(row[0], [])
+        if not periods or self.is_whole or None in periods:
+            return [(one, two)] if periods else []
+        first, last = moment(file, row, number), moment(file, row, number + 1)
+        parts = [(max(first, begin), min(last, end)) for begin, end in filter(None, periods)]
+        span = max(last - first, 1)
+        return [
+            (
+                between(one, two, (begin - first) / span),
+                between(one, two, (end - first) / span) if last > first else two,
+            )
+            for begin, end in parts
+            if begin <= end
+        ]
+
+    def title(self, files: Source) -> str:
+        """The question, or the names of the files."""
         if self.given and len(self.given) == 1 and self.given[0].words:
             return self.given[0].title()
         return files.title
 
-    def row_label(self, row):
+    def row_label(self, row: list[str]) -> str:
         """What a feature is called, by a record of the files or of an answer."""
         return row[self.label] if self.label < len(row) else row[0]
 
 
-def rounded(places):
+def between(one: Place, two: Place, share: float) -> Place:
+    """The place after a share of the way between two."""
+    return one[0] + (two[0] - one[0]) * share, one[1] + (two[1] - one[1]) * share
+
+
+def rounded(places: Iterable[Sequence[float]]) -> tuple[float, ...]:
     """Two places as the store keeps them."""
     return tuple(round(number, 7) for place in places for number in place)
 
@@ -171,7 +209,7 @@ def rounded(places):
 # What is seen
 
 
-def seen(options, files, shown):
+def seen(options: Namespace, files: Source, shown: Shown) -> list[Place]:
     """The places that the picture shows: what was asked for, or all where that is little more."""
     near = Extent()
     for hit in shown.hits:
@@ -184,7 +222,7 @@ def seen(options, files, shown):
         wide = max(box[2] - box[0], box[3] - box[1]) if shown.names else 0
         found += [(box[0] - wide, box[1] - wide), (box[2] + wide, box[3] + wide)]
     if options.whole or not found:
-        every = files.bounds({} if options.whole else shown.names, options.whole) + found
+        every = files.bounds(shown if shown.names and not options.whole else None, options.whole) + found
         if not every:
             raise texts.Refused(f"no feature of the answer is in the {files.kind}")
         return every
@@ -195,20 +233,22 @@ def seen(options, files, shown):
 class Scene:
     """The picture's ink: grey, and in colour by feature."""
 
-    def __init__(self, view, shown):
+    def __init__(self, view: View, shown: Shown) -> None:
         self.view, self.shown, self.grey = view, shown, Ink(view)
         # Of each feature that is coloured its label and its legs that are seen, and of each colour
         # its ink, where these are too many.
-        self.groups = {name: [] for name in shown.names}
-        self.labels, self.inks, self.total = {}, {}, 0
+        self.groups: dict[str, list[Piece]] = {name: [] for name in shown.names}
+        self.labels: dict[str, str] = {}
+        self.inks: dict[str, Ink] = {}
+        self.total = 0
         self.numbers = {name: number for number, name in enumerate(self.groups)}
         # What the base would be by each leg that is in the answer and in the files.
-        self.votes = Counter()
+        self.votes: Counter[float] = Counter()
         for hit in shown.hits:
             label = shown.row_label([hit.name, "", "", "", *hit.values])
             self.take(label, *map(view.at, hit.places))
 
-    def scan(self, files):
+    def scan(self, files: Source) -> None:
         """Takes in the legs of the files."""
         view, special = self.view, self.shown.own or self.shown.names
         left, right, low, top = view.edges()
@@ -226,19 +266,21 @@ class Scene:
             a, b = (x - start) * across, (rise - y) * scale
             add(row[0], a, b, a + (u - x) * across, b - (v - y) * scale, is_within)
 
-    def is_coloured(self, file, row, number, one, two):
+    def is_coloured(self, file: LegFile | stored.Stored, row: list[str], number: int, one: Place, two: Place) -> bool:
         """Takes a leg of a feature of the answer; whether it is drawn in colour."""
         name = row[0]
         if self.shown.names:
-            self.labels[name] = self.shown.row_label(row)
-            self.take(name, self.view.at(one), self.view.at(two))
-            return True
+            found = self.shown.pieces(file, row, number, one, two)
+            for begin, end in found:
+                self.labels[name] = self.shown.row_label(row)
+                self.take(name, self.view.at(begin), self.view.at(end))
+            return bool(found)
         offset = self.shown.legs.get((name, *rounded((one, two))))
         if offset is not None:
             self.votes[moment(file, row, number) - offset] += 1
         return False
 
-    def take(self, name, one, two):
+    def take(self, name: str, one: Place, two: Place) -> None:
         """Takes a leg that is drawn in the colour of its feature, where it is seen."""
         found = self.groups.setdefault(name, [])
         number = self.numbers.setdefault(name, len(self.numbers))
@@ -250,19 +292,20 @@ class Scene:
         kind = svg.colour(number)
         self.inks.setdefault(kind, Ink(self.view, MANY // 10)).add(name, *one, *two)
 
-    def by_label(self):
+    def by_label(self) -> dict[str, list[Piece]]:
         """The legs of features, by what these are called."""
         return {self.labels.get(name, name): found for name, found in self.groups.items()}
 
-    def marks(self, groups):
-        """The words of each crossing that is seen, the number of its colour, and its place."""
+    def marks(self, groups: list[str]) -> Iterator[svg.Mark]:
+        """The words of each crossing that is seen."""
         found = self.shown.crossings
         for crossing, words in zip(found, crossings.times(found)):
             label, place = self.labels.get(crossing.name, crossing.name), self.view.at(crossing.place)
             if self.view.shows(place, place):
                 yield words, groups.index(label) if label in groups else 0, place
 
-    def coloured(self):
+    def coloured(self) -> Iterator[str]:
+        """What is in colour."""
         if self.total > MANY:
             return svg.many(self.inks)
         return svg.coloured(self.by_label(), arrows=bool(self.shown.hits))
@@ -271,7 +314,7 @@ class Scene:
 # The picture
 
 
-def periods(options, files, scene):
+def periods(options: Namespace, files: Source, scene: Scene) -> Iterator[str]:
     """The lines below the picture that say of when the legs are."""
     yield f"Legs of the {files.kind}: {svg.period(files.first, files.last)}"
     hits = scene.shown.hits
@@ -285,7 +328,7 @@ def periods(options, files, scene):
         yield f"Legs in colour: {svg.period(base + first, base + last)}"
 
 
-def picture(options, files, shown):
+def picture(options: Namespace, files: Source, shown: Shown) -> Iterator[str]:
     """The whole SVG text."""
     corners = [options.view[:2], options.view[2:]] if options.view else None
     places = corners or seen(options, files, shown)
@@ -311,7 +354,7 @@ def picture(options, files, shown):
     yield "</g></svg>"
 
 
-def plotted(options, scene, groups):
+def plotted(options: Namespace, scene: Scene, groups: Mapping[str, list[Piece]]) -> Iterator[str]:
     """The plot: the frame's lines, legs, what was asked for, and names."""
     view, box = scene.view, scene.shown.box
     yield f'<g transform="translate({LEFT} {TOP})">'
@@ -321,14 +364,14 @@ def plotted(options, scene, groups):
     yield from svg.grey(scene.grey)
     yield svg.asked(view, box) if box else ""
     yield from scene.coloured()
-    others = [tuple(ends) for _, *ends in scene.grey.pieces[:600]]
+    others = [(one, two) for _, one, two in scene.grey.pieces[:600]]
     marks = list(scene.marks(list(groups)))
     yield from svg.rings(marks)
     yield from labels.names(view, groups, others, box, marks)
     yield f'</g><rect class="frame" width="{WIDTH}" height="{view.height}"/></g>'
 
 
-def save(text, path):
+def save(text: str, path: str) -> None:
     """Writes a picture: a PNG by rsvg-convert where the name says so, else the SVG text."""
     if not path.lower().endswith(".png"):
         with beside(path) as out:
@@ -344,7 +387,8 @@ def save(text, path):
 # The command line
 
 
-def words():
+def words() -> Namespace:
+    """The words of the command line."""
     parser = argparse.ArgumentParser(
         description=__doc__, epilog=example(EXAMPLE), formatter_class=argparse.RawDescriptionHelpFormatter
     )
@@ -379,7 +423,7 @@ def words():
     return options
 
 
-def add_store(parser):
+def add_store(parser: argparse.ArgumentParser) -> None:
     parser.add_argument(
         "--base",
         type=texts.bound,
@@ -401,7 +445,7 @@ def add_store(parser):
     parser.add_argument("--program", metavar="MFTB", help=NAMING)
 
 
-def add_answer(parser):
+def add_answer(parser: argparse.ArgumentParser) -> None:
     parser.add_argument("--answer", help="what a run printed")
     parser.add_argument("--script", help="the run's script, which has the words of the questions")
     parser.add_argument(
@@ -419,7 +463,7 @@ def add_answer(parser):
     )
 
 
-def wrong_words(options):
+def wrong_words(options: Namespace) -> str | None:
     """What is wrong with the words of the command line, if something is."""
     for box in options.box, options.view:
         if box and (box[0] > box[2] or box[1] > box[3]):
@@ -442,16 +486,17 @@ def wrong_words(options):
     return None
 
 
-def draw(options):
+def draw(options: Namespace) -> None:
+    """Draws the picture."""
     if options.store:
         store = asking.Store(options.program, options.store)
         store.read_info()
         options.base = store.start
-    files = Files(options.files) if options.files else stored.Stored(store, options.period)
+    files: Source = Files(options.files) if options.files else stored.Stored(store, options.period)
     shown = Shown(options, files)
     lines = picture(options, files, shown)
     save("\n".join(line for line in lines if line) + "\n", options.output)
 
 
-def main():
+def main() -> int:
     return ended("draw", lambda: draw(words()), "stopped; no file is written")

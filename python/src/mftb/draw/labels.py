@@ -1,16 +1,34 @@
 """Names in a picture: where there is room for them."""
+
+from __future__ import annotations
+
 import math
+from collections.abc import Iterable, Iterator, Mapping, Sequence
+from typing import NamedTuple, TypeAlias
 
-from mftb.draw.plot import WIDTH, pair, px
-from mftb.draw.svg import ROWS, clean, colour
+from mftb.draw.plot import WIDTH, Piece, Place, View, pair, px
+from mftb.draw.svg import ROWS, Mark, clean, colour
+
+# A box: left, top, right, bottom.
+Box: TypeAlias = tuple[float, float, float, float]
+# A line, and how bad it is to cover it.
+Weighed: TypeAlias = tuple[Piece, int]
 
 
-def overlap(one, two):
-    """Whether two boxes (left, top, right, bottom) meet."""
+class Spot(NamedTuple):
+    """Where a name may stand: its box, the place that it names, and how far off that is."""
+
+    box: Box
+    anchor: Place
+    away: float
+
+
+def overlap(one: Box, two: Box) -> bool:
+    """Whether two boxes meet."""
     return one[0] < two[2] and two[0] < one[2] and one[1] < two[3] and two[1] < one[3]
 
 
-def meets(box, piece):
+def meets(box: Box, piece: Piece) -> bool:
     """Whether a line meets a box: whether one of some points of it lies in the box."""
     (x, y), (u, v) = piece
     if not overlap(box, (min(x, u) - 1, min(y, v) - 1, max(x, u) + 1, max(y, v) + 1)):
@@ -20,15 +38,15 @@ def meets(box, piece):
     return any(box[0] < a < box[2] and box[1] < b < box[3] for a, b in points)
 
 
-def text_width(text):
+def text_width(text: str) -> float:
     """About how many pixels a text takes, in a wide font."""
     return sum(4.5 if sign in " .,:;'|!ijlI-" else 9.5 if sign.isupper() else 8 for sign in text)
 
 
-def spots(found, width):
-    """Where a name may stand: its box, the place that it names, and how far off that is."""
-    anchors = []
-    for one, two in found[-1:] + found[:3]:
+def spots(found: Sequence[Piece], width: float) -> Iterator[Spot]:
+    """Where a name of a width may stand, beside the last lines and the first ones."""
+    anchors: list[Place] = []
+    for one, two in [*found[-1:], *found[:3]]:
         anchors += [two, one, ((one[0] + two[0]) / 2, (one[1] + two[1]) / 2)]
     for away in (8, 22, 40):
         for x, y in anchors:
@@ -38,28 +56,31 @@ def spots(found, width):
                 side = (0, 0, 0.5, 1, 1, 1, 0.5, 0)[turn]
                 rise = (0.5, 0, 0, 0, 0.5, 1, 1, 1)[turn]
                 left, top = u - side * width, v - rise * 15
-                yield (left, top, left + width, top + 15), (x, y), away
+                yield Spot((left, top, left + width, top + 15), (x, y), away)
 
 
-def names(view, groups, others, box, marks=()):
-    """A name beside each feature that is coloured, and each mark's words, where there is room.
-
-    A mark is its words, its colour's number and its place in pixels.
-    """
+def names(
+    view: View,
+    groups: Mapping[str, Sequence[Piece]],
+    others: Sequence[Piece],
+    box: Sequence[float] | None,
+    marks: Iterable[Mark] = (),
+) -> Iterator[str]:
+    """A name beside each feature that is coloured, and each mark's words, where there is room."""
     hits = [piece for found in groups.values() for piece in found] + edges(view, box)
     # What a name had better not cover, and how bad it is.
     lines = [(piece, 10) for piece in hits[:600]] + [(piece, 3) for piece in others[:600]]
-    taken = []
+    taken: list[Box] = []
     wanted = [(name, number, found) for number, (name, found) in enumerate(groups.items())][:ROWS]
     wanted += [(words, number, [(place, place)]) for words, number, place in marks][:ROWS]
     for name, number, found in wanted:
         best = best_spot(view, found, text_width(name) + 4, lines, taken) if found else None
         if best:
-            taken.append(best[0])
-            yield name_at(name, number, *best)
+            taken.append(best.box)
+            yield name_at(name, number, best)
 
 
-def edges(view, box):
+def edges(view: View, box: Sequence[float] | None) -> list[Piece]:
     """The sides of the rectangle that was asked for, as lines between pixels."""
     if not box:
         return []
@@ -68,27 +89,34 @@ def edges(view, box):
     return list(zip(ring, ring[1:] + ring[:1]))
 
 
-def best_spot(view, found, width, lines, taken):
-    """The box for a name that covers the fewest lines, if there is room, and what it names."""
-    best = None
-    for box, anchor, away in spots(found, width):
+def best_spot(
+    view: View, found: Sequence[Piece], width: float, lines: Sequence[Weighed], taken: Sequence[Box]
+) -> Spot | None:
+    """The spot for a name that covers the fewest lines, if there is room."""
+    best: Spot | None = None
+    least = 40.0
+    for spot in spots(found, width):
+        box, anchor, away = spot
         inside = 0 < box[0] and box[2] < WIDTH and 0 < box[1] and box[3] < view.height
-        lead = *map(min, anchor, nearest(box, anchor)), *map(max, anchor, nearest(box, anchor))
+        near = nearest(box, anchor)
+        lead = min(anchor[0], near[0]), min(anchor[1], near[1]), max(anchor[0], near[0]), max(anchor[1], near[1])
         if not inside or any(overlap(own, other) for own in (box, lead) for other in taken):
             continue
         cost = away / 4 + sum(weight for piece, weight in lines if meets(box, piece))
         cost += sum(weight / 5 for piece, weight in lines if meets(lead, piece)) if away > 8 else 0
-        if cost < 40 and (not best or cost < best[0]):
-            best = cost, box, anchor
-    return best and best[1:]
+        if cost < least:
+            least, best = cost, spot
+    return best
 
 
-def nearest(box, point):
+def nearest(box: Box, point: Place) -> Place:
+    """The point of a box that is nearest to a place."""
     return min(max(point[0], box[0]), box[2]), min(max(point[1], box[1]), box[3])
 
 
-def name_at(name, number, box, anchor):
+def name_at(name: str, number: int, spot: Spot) -> str:
     """A name in its box, with a thin line from its place where that is far."""
+    box, anchor, _ = spot
     near = nearest(box, anchor)
     line = f'<path class="lead" d="M{pair(anchor)}L{pair(near)}"/>' if math.dist(anchor, near) > 12 else ""
     text = f'<text class="name" x="{px(box[0] + 2)}" y="{px(box[3] - 4)}">{clean(name)}</text>'

@@ -1,15 +1,24 @@
 """The legs of a store, for a picture: the store is asked for those in view, and each is read as it is printed."""
+
+from __future__ import annotations
+
 import csv
 import subprocess
 import tempfile
+from collections.abc import Iterable, Iterator
 from decimal import Decimal
 from io import TextIOWrapper
 from itertools import chain, islice
 from pathlib import Path
+from typing import TYPE_CHECKING, IO
 
+from mftb import asking
 from mftb.answers import HEAD
-from mftb.draw.plot import Extent
+from mftb.draw.plot import Extent, Place, Seen, View
 from mftb.texts import Refused, instant
+
+if TYPE_CHECKING:
+    from mftb.draw.command import Shown
 
 # The greatest magnitude of a coordinate, and the least span between two.
 GREATEST, LEAST = 100_000_000, 1e-7
@@ -22,7 +31,7 @@ class Stored:
 
     kind = "store"
 
-    def __init__(self, store, period=None):
+    def __init__(self, store: asking.Store, period: tuple[int, int] | None = None) -> None:
         self.store, self.title = store, Path(store.path).name
         self.crs, self.dimension, self.start = store.crs, store.dimension, store.start
         self.columns = ["mfidref", "", "", "trajectory", *(name for name, _ in store.columns)]
@@ -34,21 +43,21 @@ class Stored:
             own = f"from {instant(store.first)} to {instant(store.last)}"
             raise Refused(f"{store.path}: there is no leg in this period; its legs are {own}")
 
-    def legs(self, view):
+    def legs(self, view: View) -> Iterator[Seen]:
         """Each leg that is in view: the store, its record, its number there, and its places."""
         return self.legs_of([self.question(view)])
 
-    def legs_of(self, lines):
+    def legs_of(self, lines: Iterable[str]) -> Iterator[Seen]:
         """Each leg of the answers to the lines of a script."""
         step = self.dimension
         try:
             for row in printed(self.store, lines):
                 numbers = [*map(float, row[3].split(" "))]
-                yield self, row, 0, numbers[0], numbers[1], numbers[step], numbers[step + 1]
+                yield Seen(self, row, 0, numbers[0], numbers[1], numbers[step], numbers[step + 1])
         except (ValueError, IndexError):
             raise Refused("mftb run printed what is no leg") from None
 
-    def question(self, view):
+    def question(self, view: View) -> str:
         """What asks for the legs in view."""
         across, up = (max(INK / scale, LEAST) for scale in (view.across, view.scale))
         left, right, low, top = view.edges()
@@ -56,43 +65,45 @@ class Stored:
         box = " ".join(f"{min(max(side, -GREATEST), GREATEST):.7f}" for side in sides)
         return f"legs ever {box} {instant(self.first)} {instant(self.last)}"
 
-    def corners(self):
+    def corners(self) -> list[Place]:
         """Two corners of all that the store has."""
         left, low, right, top = self.store.extent
         return [(left, low), (right, top)]
 
-    def bounds(self, names, _is_whole=False):
-        """Two corners of the legs of some features, or of all that the store has."""
-        if not names:
+    def bounds(self, shown: Shown | None, _is_whole: bool = False) -> list[Place]:
+        """Two corners of what is shown of features, or of all that the store has."""
+        if not shown:
             return self.corners()
         every = Extent()
         begin, end = ((moment - self.start) / 1000 for moment in (self.first, self.last))
         # A name that no line can hold is passed over.
-        lines = [f"trajectory {name}" for name in names if not {"\n", "\r"} & {*name}]
-        for _, row, _, *ends in self.legs_of(lines):
+        lines = [f"trajectory {name}" for name in shown.names if not {"\n", "\r"} & {*name}]
+        for file, row, number, *ends in self.legs_of(lines):
             if float(row[1]) <= end and float(row[2]) >= begin:
-                every.add(*ends[:2])
-                every.add(*ends[2:])
+                for one, two in shown.pieces(file, row, number, ends[:2], ends[2:]):
+                    every.add(*one)
+                    every.add(*two)
         return every.corners()
 
-    def milliseconds(self, text):
+    def milliseconds(self, text: str) -> int:
         """The moment of a time field."""
         return self.start + int(Decimal(text) * 1000)
 
 
-def printed(store, lines):
+def printed(store: asking.Store, lines: Iterable[str]) -> Iterator[list[str]]:
     """The records of a store's answers to the lines of a script, one by one as the program prints them."""
     with tempfile.NamedTemporaryFile("w", encoding="utf-8", newline="\n", suffix=".txt") as script:
         script.writelines(f"{line}\n" for line in lines)
         script.flush()
         command = [store.program, "run", "--existing", "-q", store.path, script.name]
         with subprocess.Popen(command, stdout=subprocess.PIPE) as run:
+            assert run.stdout is not None
             yield from records(TextIOWrapper(run.stdout, encoding="utf-8", newline="\n"))
         if run.returncode:
             raise Refused(f"mftb run ended with status {run.returncode}")
 
 
-def records(lines):
+def records(lines: IO[str]) -> Iterator[list[str]]:
     """The records of answers, as lists of fields."""
     for line in lines:
         head = HEAD.fullmatch(line.rstrip("\n"))

@@ -1,34 +1,43 @@
 """The marks of a picture: colours, the frame, legs, names."""
+
+from __future__ import annotations
+
 import math
 import re
+from collections.abc import Iterable, Iterator, Mapping, Sequence
+from typing import TypeAlias
 from xml.sax.saxutils import escape
 
 from mftb import texts
-from mftb.draw.plot import WIDTH, in_words, nice, pair, path_of, px, scale_bar
+from mftb.draw.plot import WIDTH, Ink, Piece, Place, View, in_words, nice, pair, path_of, px, scale_bar
 
+# Words beside a place, the number of its colour, and its pixel.
+Mark: TypeAlias = tuple[str, int, Place]
 ROWS = 24
 LIGHT = "#1f6fb4 #c55a00 #1b7f3b #c2252d #7a3fa8 #007d84 #b8358a #6b6b00 #7b4b2a #30408f".split()
 DARK = "#6cb4f5 #ff9d4d #5fd07f #ff7b7f #c29bf0 #4fd6dd #f58ccb #cfcf5a #d3a17c #9aa8ff".split()
 DASHES = ["", ' stroke-dasharray="7 3"', ' stroke-dasharray="2 3"']
 
 
-def clean(text):
+def clean(text: str) -> str:
     """A text as XML takes it."""
     return escape(re.sub("[\x00-\x1f\x7f\ufffe\uffff]", " ", text))
 
 
-def colour(number):
+def colour(number: int) -> str:
+    """The class of a colour."""
     return f"c{number % len(LIGHT)}"
 
 
-def dash(number):
+def dash(number: int) -> str:
+    """What tells lines of one colour apart."""
     return DASHES[number // len(LIGHT) % len(DASHES)]
 
 
-def style():
+def style() -> str:
     """The colours, for light and for dark."""
 
-    def colours(paper, ink, soft, leg, palette):
+    def colours(paper: str, ink: str, soft: str, leg: str, palette: Sequence[str]) -> str:
         own = "".join(f".c{i}{{color:{value}}}" for i, value in enumerate(palette))
         return (
             f".paper{{fill:{paper}}}.name{{stroke:{paper}}}svg{{color:{ink}}}"
@@ -55,12 +64,12 @@ def style():
 # Legs
 
 
-def path(kind, way, more=""):
+def path(kind: str, way: str, more: str = "") -> str:
     """A path, where it has a line."""
     return f'<path class="{kind}" d="{way}"{more}/>' if way else ""
 
 
-def grey(ink):
+def grey(ink: Ink) -> Iterator[str]:
     """The legs of the files, with a dot at each position where there are few."""
     yield path("leg", ink.path())
     if len(ink.pieces) <= 600:
@@ -68,7 +77,7 @@ def grey(ink):
         yield path("dot", "".join(f"M{end}h0" for end in ends))
 
 
-def arrow(one, two):
+def arrow(one: Place, two: Place) -> str:
     """A triangle at the end of a leg, where the leg is long enough."""
     length = math.dist(one, two)
     if length < 14:
@@ -79,7 +88,7 @@ def arrow(one, two):
     return f"M{pair(two)}L{pair(left)}L{pair(right)}Z"
 
 
-def coloured(groups, arrows):
+def coloured(groups: Mapping[str, Sequence[Piece]], arrows: bool) -> Iterator[str]:
     """What is coloured, by feature: its legs, with starts and heads where these are an answer."""
     for number, (name, found) in enumerate(groups.items()):
         if found:
@@ -91,13 +100,13 @@ def coloured(groups, arrows):
             yield "</g>"
 
 
-def many(inks):
+def many(inks: Mapping[str, Ink]) -> Iterator[str]:
     """What is coloured, where it is much: one path for each colour."""
     for kind, ink in inks.items():
         yield f'<g class="{kind}">{path("ink", ink.path())}</g>' if ink else ""
 
 
-def rings(marks):
+def rings(marks: Iterable[Mark]) -> Iterator[str]:
     """A ring at each place that is marked."""
     for words, number, (x, y) in marks:
         where = f'cx="{px(x)}" cy="{px(y)}" r="5"'
@@ -105,7 +114,7 @@ def rings(marks):
         yield f'<g class="{colour(number)}">{ring}<title>{clean(words)}</title></g>'
 
 
-def asked(view, box):
+def asked(view: View, box: Sequence[float]) -> str:
     """The rectangle that was asked for; without width or height it is a line."""
     (left, bottom), (right, top) = view.at(box[:2]), view.at(box[2:])
     if left == right or bottom == top:
@@ -117,7 +126,7 @@ def asked(view, box):
 # Beside the plot and below it
 
 
-def key(labels, box, kind):
+def key(labels: Sequence[str], box: Sequence[float] | None, kind: str) -> list[str]:
     """The list beside the plot: what is grey, what was asked for, and the features."""
     rows = [f'<path class="leg" d="M0 -4h24"/><text x="32">legs of the {kind}</text>']
     if box:
@@ -132,27 +141,27 @@ def key(labels, box, kind):
     return rows
 
 
-def ticks(view):
+def ticks(view: View) -> Iterator[str]:
     """Lines at round values of x and y, with the values."""
     left, right, low, top = view.edges()
     for x, text in rounds(left, right, (right - left) / 4):
-        x = px(view.at((x, 0))[0])
-        yield f'<path class="grid" d="M{x} 0V{view.height}"/>'
-        yield f'<text class="small middle" x="{x}" y="{view.height + 15}">{text}</text>'
+        across = px(view.at((x, 0))[0])
+        yield f'<path class="grid" d="M{across} 0V{view.height}"/>'
+        yield f'<text class="small middle" x="{across}" y="{view.height + 15}">{text}</text>'
     for y, text in rounds(low, top, (right - left) * view.narrow / 4):
         y = view.at((0, y))[1]
         yield f'<path class="grid" d="M0 {px(y)}H{WIDTH}"/>'
         yield f'<text class="small end" x="-6" y="{px(y + 4)}">{text}</text>'
 
 
-def rounds(least, most, span):
+def rounds(least: float, most: float, span: float) -> Iterator[tuple[float, str]]:
     """The round values in a range, about a span apart, and how they are written."""
     step, digits = nice(span)
     for k in range(math.ceil(least / step), math.floor(most / step) + 1):
         yield k * step, f"{k * step:.{digits}f}"
 
 
-def caption(view, crs, unit, lines):
+def caption(view: View, crs: str, unit: str, lines: Iterable[str]) -> Iterator[str]:
     """The scale, the name of the coordinates, and what else is said."""
     end, words = scale_bar(view, crs, unit)
     yield f'<path class="scale" d="M0 -4v4h{px(end)}v-4"/>'
@@ -161,7 +170,7 @@ def caption(view, crs, unit, lines):
         yield f'<text y="{4 + 20 * place}">{clean(line)}</text>'
 
 
-def period(first, last):
+def period(first: float, last: float) -> str:
     """From one moment to another one."""
     one, two = (texts.instant(math.floor(it)).rstrip("Z").replace("T", " ") for it in (first, last))
     return f"{one} to {two[11:] if one[:10] == two[:10] else two} UTC"

@@ -15,7 +15,7 @@ LONGITUDE_LATITUDE = "urn:ogc:def:crs:OGC:1.3:CRS84"
 WITH_ELEVATION = "longitude-latitude-degrees-elevation-metres"
 
 
-def add_encoding(parser):
+def add_encoding(parser: argparse.ArgumentParser) -> None:
     """The word for what reads text, and not XML."""
     parser.add_argument(
         "--encoding",
@@ -26,13 +26,20 @@ def add_encoding(parser):
     )
 
 
-def encoding(text):
+def encoding(text: str) -> str:
     """The name of an encoding, which is one."""
     try:
         # As bytes of UTF-8 are kept until they are used, a mark at the start is left out.
         return UTF_8 if codecs.lookup(text).name == "utf-8" else codecs.lookup(text).name
     except LookupError:
         raise argparse.ArgumentTypeError(f"{text!r} is no encoding such as utf-8, latin-1 or cp1252") from None
+
+
+def jobs(text: str) -> int:
+    """A number of processes."""
+    if not (text.isascii() and text.isdigit() and 0 < int(text) <= 256):
+        raise argparse.ArgumentTypeError(f"{text!r} is no number of processes from 1 to 256")
+    return int(text)
 
 
 def column_list(text: str) -> list[tuple[str, str]]:

@@ -7,12 +7,14 @@ from __future__ import annotations
 
 import argparse
 from argparse import Namespace
+from collections.abc import Sequence
 from datetime import datetime, timezone, tzinfo
-from mftb.sources import RowReader
 from zoneinfo import ZoneInfo
 
 from mftb import texts
 from mftb.feeds import arguments, conversion, layouts
+from mftb.feeds.judging import Position
+from mftb.sources import RowReader
 
 EXAMPLE = """example:
   tools/from_csv --id taxi --time time --x lon --y lat --tz America/New_York taxis.csv -o legs.csv
@@ -35,7 +37,7 @@ def layout(table: layouts.Table, options: Namespace, clock: layouts.Clock) -> Ro
     name, time, *axes = (table.header[place] for place in (who, at, x, y))
     comma = options.decimal == ","
 
-    def read(row: list[str]) -> conversion.Position:
+    def read(row: list[str]) -> Position:
         if not row[x].strip() and not row[y].strip():
             raise texts.LeftOut("without a position")
         try:
@@ -48,9 +50,9 @@ def layout(table: layouts.Table, options: Namespace, clock: layouts.Clock) -> Ro
         if z is not None:
             place += (layouts.plain_number(row[z], table.header[z], comma),)
         place = tuple([texts.plain_decimal(text, "a coordinate") for text in place])
-        return conversion.Position(texts.feature_name(row[who], name), when, place, values(row))
+        return Position(texts.feature_name(row[who], name), when, place, values.of(row))
 
-    return read
+    return RowReader(read)
 
 
 def reader(options: Namespace) -> conversion.FileReader:
@@ -61,7 +63,7 @@ def reader(options: Namespace) -> conversion.FileReader:
     def layout_of(table: layouts.Table) -> RowReader:
         return layout(table, options, clock)
 
-    return lambda path: layouts.read(path, names, options, layout_of)
+    return lambda path, judge: layouts.read(path, names, options, layout_of, judge)
 
 
 def zone(text: str) -> tzinfo | None:
@@ -85,12 +87,7 @@ def delimiter(text: str) -> str:
 
 def words() -> arguments.Words:
     parser = arguments.words(
-        __doc__,
-        EXAMPLE,
-        gap="1h",
-        why="which is a guess: say what fits the table",
-        most="off",
-        usual="1200km/h",
+        __doc__, EXAMPLE, gap="1h", why="which is a guess: say what fits the table", most="off", usual="1200km/h"
     )
     for name, what in [
         ("id", "whose position it is"),
@@ -126,7 +123,7 @@ def add_forms(parser: argparse.ArgumentParser) -> None:
     parser.add_argument("--decimal", choices=".,", default=".", help="what stands before fractions (.)")
 
 
-def parse(given=None):
+def parse(given: Sequence[str] | None = None) -> Namespace:
     """The options of the command line, or of words that are given."""
     parser = words()
     options = parser.parse_args(given)

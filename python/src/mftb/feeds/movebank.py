@@ -6,10 +6,11 @@ A feature is an individual-local-identifier; x is the longitude, y the latitude.
 from __future__ import annotations
 
 from argparse import Namespace
-from collections.abc import Callable
-from typing import Any
+from collections.abc import Callable, Sequence
+
 from mftb import sources, texts
 from mftb.feeds import arguments, conversion
+from mftb.feeds.judging import Position
 
 EXAMPLE = """example:
   tools/from_movebank --columns individual-taxon-canonical-name --skip-bad storks.csv -o legs.csv
@@ -31,25 +32,28 @@ NOTHING = {"", "na", "nan", "null"}
 class Studies:
     """The study of each animal, and the first animal that is in two."""
 
-    def __init__(self):
-        self.of, self.twice = {}, None
+    def __init__(self) -> None:
+        self.of: dict[str, str] = {}
+        self.twice: str | None = None
 
-    def see(self, animal, study):
+    def see(self, animal: str, study: str) -> None:
+        """Notes the study of an animal."""
         if self.of.setdefault(animal, study) != study and not self.twice:
             self.twice = f"{animal!r} is in the studies {self.of[animal]!r} and {study!r}"
 
-    def remark(self):
+    def remark(self) -> str | None:
+        """What to say of an animal in two studies."""
         return self.twice and f"{self.twice}: here one feature (see --prefix)"
 
 
-def layout(header: list[str], kept: sources.Columns, midnight: bool, studies: Any) -> sources.RowReader:
+def layout(header: list[str], kept: sources.Columns, midnight: bool, studies: Studies) -> sources.RowReader:
     """What reads a row below this header line."""
     study = sources.place_of(header, "study-name", "study-id")
     at, who, x, y = (sources.column(header, name) for name in NAMES)
     time, animal, *axes = (header[place] for place in (at, who, x, y))
     is_outlier, values = outlier_reader(header), kept.reader(header)
 
-    def read(row: list[str]) -> conversion.Position:
+    def read(row: list[str]) -> Position:
         if is_outlier(row):
             raise texts.LeftOut("marked as outliers")
         when = moment(row[at], time, midnight)
@@ -59,9 +63,9 @@ def layout(header: list[str], kept: sources.Columns, midnight: bool, studies: An
         name = texts.feature_name(row[who], animal)
         if study is not None:
             studies.see(name, row[study])
-        return conversion.Position(name, when, place, values(row))
+        return Position(name, when, place, values.of(row))
 
-    return read
+    return sources.RowReader(read)
 
 
 def outlier_reader(header: list[str]) -> Callable[[list[str]], bool]:
@@ -116,18 +120,13 @@ def reader(options: Namespace) -> conversion.FileReader:
         return layout(header, options.kept, options.midnight, studies)
 
     options.remarks.append(studies.remark)
-    return lambda path: sources.read_table(path, layout_of, options.encoding)
+    return lambda path, judge: sources.read_table(path, layout_of, sources.Work(judge), options.encoding)
 
 
-def parse(given=None):
+def parse(given: Sequence[str] | None = None) -> Namespace:
     """The options of the command line, or of words that are given."""
     words = arguments.words(
-        __doc__,
-        EXAMPLE,
-        gap="25h",
-        why="one location a day, and an hour to spare",
-        most="200km/h",
-        usual="200km/h",
+        __doc__, EXAMPLE, gap="25h", why="one location a day, and an hour to spare", most="200km/h", usual="200km/h"
     )
     words.add_argument(
         "--midnight",

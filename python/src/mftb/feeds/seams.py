@@ -14,7 +14,7 @@ from mftb.sources import opened
 from mftb.texts import BadLine, Refused, instant, plain_decimal, read_instant
 
 if TYPE_CHECKING:
-    from mftb.feeds.conversion import Position
+    from mftb.feeds.judging import Position
 
 # A feature, and the moment, the place and the values of its last position.
 End: TypeAlias = tuple[str, int, tuple[str, ...], tuple[str, ...]]
@@ -64,7 +64,7 @@ def read_legs(path: str, options: Namespace) -> Iterator[End]:
         yield name, *end
 
 
-def read_store(path, options):
+def read_store(path: str, options: Namespace) -> Iterator[tuple]:
     """The last position of each feature of a store: where its last leg ends."""
     store, ends = Store(getattr(options, "program", None), path), {}
     store.read_info()

@@ -3,22 +3,25 @@
 from __future__ import annotations
 
 import csv
-import io
 import os
 import re
 import subprocess
 import sys
-from collections.abc import Callable, Iterable, Sequence
+import tempfile
+from collections.abc import Callable, Sequence
 from concurrent.futures import ThreadPoolExecutor
+from fractions import Fraction
 from pathlib import Path as FilePath
 from typing import TypeVar
 
 from mftb import errors, lines, runs
 from mftb.fleet import manifest
 from mftb.forms import LoadForm, exact
-from mftb.lines import Path
+from mftb.lines import Path, Period
+from mftb.moments import rows_of
 from mftb.records import Info, Loaded, Report
 from mftb.store import Book, Store
+from mftb.zones import Zones
 
 Value = TypeVar("Value")
 SOURCE = str(FilePath(__file__).resolve().parents[2])
@@ -77,6 +80,17 @@ class Fleet(Book):
         pages, legs, features = map(int, self._printed("check", *self._where).splitlines()[1].split(","))
         return Report(legs, features, pages)
 
+    def page(
+        self, file: Path, *, rectangles: Zones | None = None, title: str | None = None, period: Period | None = None
+    ) -> str:
+        """Writes a page of all parts, by way of one store of them."""
+        with tempfile.TemporaryDirectory(prefix="mftb-") as folder:
+            self.write(FilePath(folder, "all.csv"))
+            whole = Store(FilePath(folder, "whole"), program=self.program)
+            whole.load(FilePath(folder, "all.csv"))
+            title = title or FilePath(self.path).name
+            return whole.page(file, rectangles=rectangles, title=title, period=period)
+
     def _each(self, work: Callable[[Store], Value]) -> list[Value]:
         """What is made of each part, some at once."""
         with ThreadPoolExecutor() as pool:
@@ -112,7 +126,7 @@ class Fleet(Book):
         rows = [row for _, printed in found for row in rows_of(printed)]
         if "enters" in names:
             place = names.index("enters"), names.index("feature")
-            rows.sort(key=lambda row: (exact(row[place[0]], 0), row[place[1]]))
+            rows.sort(key=lambda row: (exact(row[place[0]], Fraction(0)), row[place[1]]))
         else:
             rows.sort()
         spool = runs.Spool()
@@ -123,11 +137,6 @@ class Fleet(Book):
 
 SUMMED = ("legs", "features", "most_legs", "most_features", "pages", "bytes")
 SAME = ("crs", "dimension", "start", "columns", "version", "state")
-
-
-def rows_of(printed: runs.Printed) -> Iterable[list[str]]:
-    with printed.opened() as file:
-        yield from csv.reader(io.TextIOWrapper(file, encoding="utf-8", newline=""))
 
 
 def error_of(status: int, printed: str, said: str) -> errors.MftbError:

@@ -159,11 +159,17 @@ def label_of(column: str, legs: Legs) -> int | None:
     raise texts.Refused(f"there is no column {column!r}")
 
 
-def work(options: argparse.Namespace) -> int:
+def save(options: argparse.Namespace) -> Page:
     """Reads the store, and writes the page."""
     page = page_of(options)
     with beside(options.output) as out:
         write(page, out)
+    return page
+
+
+def work(options: argparse.Namespace) -> int:
+    """Writes the page, and says what is in it."""
+    page = save(options)
     count = page.legs.count()
     what = f"{texts.several(count.legs, 'leg')} of {texts.several(count.features, 'feature')}"
     size = os.path.getsize(options.output) if os.path.isfile(options.output) else 0

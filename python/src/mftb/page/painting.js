@@ -91,14 +91,19 @@ class Painter {
 
   // Draws strips as lines.
   lines(strips, [from, to], colour, width) {
+    this.stroke(strips.map((strip) => [strip, from, to]), colour, width, 1);
+  }
+
+  // Draws parts of strips, each between two moments, as lines; a part of fewer points than the least is left out.
+  stroke(pieces, colour, width, least) {
     const { context, parts, view } = this;
     context.strokeStyle = colour;
     context.lineWidth = width;
     let points = 0;
     context.beginPath();
-    for (const strip of strips) {
+    for (const [strip, from, to] of pieces) {
       const count = parts.take(view, this.level, strip, from, to);
-      if (count) trace(context, parts.pixels, count, view);
+      if (count >= least) trace(context, parts.pixels, count, view);
       points += count;
       if (points > 2000) {
         context.stroke();
@@ -193,30 +198,20 @@ class Painter {
       if (!byColour.has(colour)) byColour.set(colour, []);
       byColour.get(colour).push([features[place], from, to]);
     }
-    for (const [colour, spans] of byColour) this.spansOf(spans, colour, layer.kind === "features" ? 2 : 2.8);
+    const width = layer.kind === "features" ? 2 : 2.8;
+    for (const [colour, spans] of byColour) this.stroke(this.piecesOf(spans), colour, width, 2);
   }
 
-  spansOf(spans, colour, width) {
-    const { context, parts, tracks, view } = this;
-    context.strokeStyle = colour;
-    context.lineWidth = width;
-    let points = 0;
-    context.beginPath();
+  // The parts of strips in view that spans of features have.
+  *piecesOf(spans) {
+    const { stripAt, times } = this.tracks;
     for (const [feature, from, to] of spans) {
-      const begin = tracks.stripFrom(feature, from);
-      for (const strip of this.seen(begin, tracks.featureStrip[feature + 1])) {
-        if (tracks.times[tracks.stripAt[strip]] > to) break;
-        const count = parts.take(view, this.level, strip, from, to);
-        if (count > 1) trace(context, parts.pixels, count, view);
-        points += count;
-      }
-      if (points > 2000) {
-        context.stroke();
-        context.beginPath();
-        points = 0;
+      const begin = this.tracks.stripFrom(feature, from);
+      for (const strip of this.seen(begin, this.tracks.featureStrip[feature + 1])) {
+        if (times[stripAt[strip]] > to) break;
+        yield [strip, from, to];
       }
     }
-    context.stroke();
   }
 
   // A ring at each crossing that has come.
