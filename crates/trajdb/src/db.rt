@@ -85,27 +85,45 @@ impl<S: PageStore> Db<S> {
         cache_pages: usize,
         limits: Limits,
     ) -> Result<Db<S>, (S, OpenFault)>
+        // The store has no page.
         requires empty { (S.seen store).count ≡ 0 }
+        // The cache has room for a page.
         requires cache_pages { 0 < cache_pages }
+        // Over a faithful store the new database is sound.
         ensures sound { IfOk result (λ db. IsTrue (S.seen store).is_faithful → IsSoundDb db) }
+        // No file was accepted: the book is the empty one.
         ensures book { IfOk result (λ db. db.book ≡ empty_book) }
+        // It keeps the limits that were given.
         ensures limits { IfOk result (λ db. db.limits ≡ limits) }
+        // Its tree has the shape that was given.
         ensures shape { IfOk result (λ db. words.plan db.index ≡ Some shape) }
+        // Its cache holds at most that many pages.
         ensures capacity { IfOk result (λ db. db.index.cache.capacity ≡ cache_pages) }
+        // Page 0 is the only page: the header of an unfinished store, with this shape and these
+        // limits.
         ensures stored { IfOk result (λ db. Writes 0 (sealed 0 (header_payload shape limits))
             (S.seen store) db.index.cache.store) }
+        // That page is synced.
         ensures synced { IfOk result (λ db. IsSynced db.index.cache.store) }
+        // It has not failed.
         ensures lives { IfOk result (λ db. db.failed ≡ false) }
+        // It has begun, so `close` will save it.
         ensures begun { IfOk result (λ db. db.begun ≡ true) }
+        // Over a faithful store page 0 as written says that the store is not finished.
         ensures pages { IfOk result (λ db. IsTrue (S.seen store).is_faithful → HasPages db) }
+        // If it is given up, the store over which it was made is refused as unfinished.
         ensures safe { IfOk result (λ db. IsTrue (S.seen store).is_faithful → (was : Store)
             → IsSafe was db) }
+        // Over a faithful store it fails only if memory runs out, or the store fails or is full.
         ensures only { IfErr result (λ back. IsTrue (S.seen store).is_faithful
             → IsSavingStop back.1) }
+        // `Store` is returned only if the store failed, and `StoreFull` only if it has room for no
+        // page.
         ensures caused { IfErr result (λ back. IsCaused (S.seen store) (S.seen back.0) back.1) }
 
         // The store that is handed back.
         ensures kept { IfErr result (λ back. Keeps (S.seen store) (S.seen back.0)) }
+        // It has no page, or page 0 alone, which is exactly the header unless the store failed.
         ensures left { IfErr result (λ back. IsLeft shape limits (S.seen store) (S.seen back.0)) }
     {
         let index = match begin(alloc, store, shape, cache_pages, &limits) {

@@ -77,6 +77,7 @@ impl<S: PageStore> Db<S> {
         store: S,
         cache_pages: usize,
     ) -> Result<Db<S>, (S, OpenFault)>
+        // The cache has room for a page.
         requires cache_pages { 0 < cache_pages }
         ensures { OpenCall S.seen (S.seen store) cache_pages result }
     {
@@ -92,7 +93,9 @@ impl<S: PageStore> Db<S> {
     /// A database of these parts: what is known beside the legs, and their index; whether it has
     /// begun. It is sound where they belong together, which is not tested.
     pub fn from_parts(catalogue: Catalogue, index: TreeIndex<S>, begun: bool) -> Db<S>
+        // It has exactly this catalogue and this index, and has not failed.
         ensures parts { result ≡ restored words catalogue index begun }
+        // Its limits are in range.
         ensures limits { IsLimits result.limits }
     {
         Db {
@@ -124,6 +127,7 @@ impl<S: PageStore> Db<S> {
 
     /// Gives the store as it stands: what was changed and not written is lost.
     pub fn abandon(self) -> S
+        // It is the store below the cache, as it stands.
         ensures store { S.seen result ≡ self.index.cache.store }
 
         // Of one that has begun it is the store of one that was not finished.
