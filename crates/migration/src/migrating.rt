@@ -47,7 +47,9 @@ pub trait Migrate<T: PageStore> {
         new: T,
         cache_pages: usize,
     ) -> Result<Db<T>, (T, OpenFault)>
+        // The new store has no page.
         requires empty { (T.seen new).count ≡ 0 }
+        // The cache has room for a page.
         requires cache_pages { 0 < cache_pages }
 
         // A store whose pages hold a book gives a sound database with that book.
@@ -56,6 +58,8 @@ pub trait Migrate<T: PageStore> {
             → (shape : ShapeView) (limits : LimitsView) (book : Book)
             → HoldsOldBook (S.seen old.old) shape limits book
             → HasBook (present_shape shape) limits book db) }
+        // A store that holds a book is refused only if memory runs out, a store fails, or the new
+        // one is full.
         ensures holds { IfErr result (λ back. IsTrue (S.seen old.old).is_faithful
             → IsTrue (T.seen new).is_faithful
             → (shape : ShapeView) (limits : LimitsView) (book : Book)
@@ -68,21 +72,27 @@ pub trait Migrate<T: PageStore> {
 
         // It has begun: page 0 of the new store says that it is not finished.
         ensures begun { IfOk result (λ db. db.begun ≡ true) }
+        // The new database has not failed.
         ensures lives { IfOk result (λ db. db.failed ≡ false) }
+        // Over faithful stores page 0 of the new store as written says that it is not finished.
         ensures pages { IfOk result (λ db. IsTrue (S.seen old.old).is_faithful
             → IsTrue (T.seen new).is_faithful → HasPages db) }
 
         // Page 0 comes first.
         ensures first { IfErr result (λ back. IsTrue (S.seen old.old).is_faithful → ComesFirst
             (old_first_fault (S.seen old.old).count (stored_payload (S.seen old.old) 0)) back.1) }
+        // A faithful store of version 1 that is migrated has a page 0 without a fault.
         ensures finished { IfOk result (λ db. IsTrue (S.seen old.old).is_faithful
             → old_first_fault (S.seen old.old).count (stored_payload (S.seen old.old) 0) ≡ None) }
 
         // The store of version 1 stays as it is; of the other this is left.
         ensures stays { Stays (S.seen old.old) (S.seen old.new) }
+        // The new store's count of faults never falls.
         ensures faults { IfOk result (λ db. (T.seen new).faults ≤ db.index.cache.store.faults) }
+        // The new store has no page, an unfinished page 0, or page 0 alone, whose write failed.
         ensures left { IfErr result (λ back. IsTrue (S.seen old.old).is_faithful
             → IsTrue (T.seen new).is_faithful → IsLeftOver (T.seen new) (T.seen back.0)) }
+        // `Store` is returned only if a store failed, and `StoreFull` only if the new one is full.
         ensures caused { IfErr result (λ back. IsMigratingFault (S.seen old.old) (S.seen old.new)
             (T.seen new) (T.seen back.0) back.1) };
 }
