@@ -48,6 +48,7 @@ pub fn database<S: PageStore>(
     is_new: bool,
     cache_pages: u32,
 ) -> Result<Db<S>, (S, OpenFault)>
+    // The cache has room for a page.
     requires { 0 < cache_pages }
     // A store that has a page, or of which none is to be made, is opened, be what it holds sound or not; any other is made
     // an empty database, which has page 0 alone, and is synced, or is handed back.
@@ -57,8 +58,12 @@ pub fn database<S: PageStore>(
     ensures kept { IfOk result (λ db. IsTrue (S.seen store).is_faithful
         → (shape : ShapeView) (limits : LimitsView) (book : Book)
         → HoldsBook (S.seen store) shape limits book → HasBook shape limits book db) }
+    // Over a faithful store page 0 agrees with whether the database has begun.
     ensures pages { IfOk result (λ db. IsTrue (S.seen store).is_faithful → HasPages db) }
+    // Over a faithful store a database that has not begun is at rest: its pages keep all that it
+    // knows.
     ensures idle { IfOk result (λ db. IsTrue (S.seen store).is_faithful → IsIdle db) }
+    // It has not failed.
     ensures lives { IfOk result (λ db. db.failed ≡ false) }
 {
     if is_new && store.len() == 0 {
@@ -153,6 +158,7 @@ pub fn answer<'a, S: PageStore, O: Output>(
     // nothing is sent.
     ensures over { RunsOver S.seen O.seen database files.now out.old out.new
         (lines_of script.now) result.1 result.2 (S.seen result.0) }
+    // `Store` is returned only if the store failed.
     ensures caused { IfOk database (λ db. IsErrOf result.1 (Fault.Run RunFault.Store)
         → Faulted (store_of db) (S.seen result.0)) }
 {
