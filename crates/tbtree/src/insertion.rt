@@ -372,18 +372,25 @@ pub fn insert<S: PageStore>(
     ensures joins { tree.old.spent ≡ false → IsTrue cache.old.store.is_faithful
         → Joins (pages_of_cache cache.old) (pages_of_cache cache.new) tree.old tree.new
         place.old place.new leg result }
+    // The tree keeps its shape.
     ensures shape { tree.new.shape ≡ tree.old.shape }
 
     // What is left of the cache, over any pages.
     ensures passes { Passes cache.old cache.new }
+    // After `Ok` the cache counts all pages of the store, if it did before.
     ensures length { OnOk result (KeepsLength cache.old cache.new) }
+    // `Store` is returned only if the store failed, `StoreFull` only if it is full, and a damaged
+    // page has no payload.
     ensures caused { tree.old.spent ≡ false → IfErr result (RefusesWrite cache.old cache.new) }
+    // After `Ok` at most twice the root's height and four pages were asked for.
     ensures asked { OnOk result (cache.new.asked
         ≤ cache.old.asked + (2 * (tree.new.levels - 1) + 4)) }
 
     // A refusal is for good.
     ensures works { OnOk result (tree.new.spent ≡ false) }
+    // After an error the tree is spent.
     ensures spent { OnErr result (tree.new.spent ≡ true) }
+    // A spent tree returns `Spent`, and nothing changes.
     ensures was_spent { tree.old.spent ≡ true → (result ≡ Err TreeFault.Spent)
         × (tree.new ≡ tree.old) × (place.new ≡ place.old) × (cache.new ≡ cache.old) }
 {

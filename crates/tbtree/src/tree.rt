@@ -22,10 +22,13 @@ pub struct TbTree {
 impl TbTree {
     /// A tree without legs. It has no page, so it stands over any pages that are all sealed and have a page 0.
     pub fn new(shape: Shape) -> TbTree
+        // It has this shape, no page and no level, and is not spent.
         ensures value { result ≡ empty_tree shape }
+        // Over sealed pages with a page 0 it stands for no legs.
         ensures stands { (pages : Pages LegView BoxView) → 0 < pages.count
             → ((p : ℕ) → p < pages.count → pages.at p ≢ None)
             → Stands pages result [] (λ _. []) }
+        // Each feature has the place of one without legs.
         ensures places { (feature : ℕ) → IsPlace result [] (λ _. []) feature no_place }
     {
         TbTree {
