@@ -34,19 +34,26 @@ impl<F: ByteFile> FileStore<F> {
     pub fn new(mut file: F) -> Result<FileStore<F>, StoreFault>
     where
         F: Drop,
+        // If the file tells its bytes, the store is faithful and has exactly their whole pages.
         ensures pages { IfOk result (λ s. IfSome (F.bytes file)
             (λ xs. ⟦<FileStore<F> as PageStore>⟧.seen s
             ≡ record (whole_pages xs) { faults = F.refusals file; has_lost = F.has_lost file })) }
+        // It may have 2^32 - 1 pages.
         ensures most { IfOk result (λ s.
             (⟦<FileStore<F> as PageStore>⟧.seen s).most ≡ 2 ^ 32 - 1) }
+        // Its count of faults is the file's count of refusals.
         ensures faults { IfOk result (λ s.
             (⟦<FileStore<F> as PageStore>⟧.seen s).faults ≡ F.refusals file) }
+        // Any page counts as unsynced.
         ensures unsynced { IfOk result (λ s.
             (⟦<FileStore<F> as PageStore>⟧.seen s).unsynced ≡ Others) }
+        // A sync of it has failed if one of the file has.
         ensures lost { IfOk result (λ s.
             (⟦<FileStore<F> as PageStore>⟧.seen s).has_lost ≡ F.has_lost file) }
+        // A file of 2^32 pages or more is refused.
         ensures too_long { IfSome (F.bytes file)
             (λ xs. 2 ^ 32 ≤ length xs / 4096 → IsErr result) }
+        // A file that tells its bytes, and has fewer pages, is never refused.
         ensures opens { IfSome (F.bytes file)
             (λ xs. length xs / 4096 < 2 ^ 32 → IsOk result) }
     {
@@ -71,12 +78,16 @@ impl<F: FileExt + OpenFile + Drop> FileStore<SystemFile<F>> {
         rt: &R,
         path: &str,
     ) -> Result<FileStore<SystemFile<F>>, StoreFault>
+        // It may have 2^32 - 1 pages.
         ensures most { IfOk result (λ s.
             (⟦<FileStore<SystemFile<F>> as PageStore>⟧.seen s).most ≡ 2 ^ 32 - 1) }
+        // No fault was counted.
         ensures faults { IfOk result (λ s.
             (⟦<FileStore<SystemFile<F>> as PageStore>⟧.seen s).faults ≡ 0) }
+        // Any page counts as unsynced.
         ensures unsynced { IfOk result (λ s.
             (⟦<FileStore<SystemFile<F>> as PageStore>⟧.seen s).unsynced ≡ Others) }
+        // No sync of it has failed.
         ensures lost { IfOk result (λ s.
             (⟦<FileStore<SystemFile<F>> as PageStore>⟧.seen s).has_lost ≡ false) }
     {

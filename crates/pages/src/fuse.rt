@@ -29,9 +29,13 @@ impl<S: PageStore> Fuse<S> {
     /// A store that passes `calls` calls and fails the next one, and, unless only `once`, all
     /// later ones.
     pub fn new(store: S, calls: u64, once: bool) -> Fuse<S>
+        // The store below is the one that was given.
         ensures store { inner result ≡ store }
+        // It passes that many calls.
         ensures left { left_of result ≡ Some calls }
+        // It knows whether to fail one call or all later ones.
         ensures once { is_once result ≡ once }
+        // It has the pages of the store below, with no fault counted and no failed sync.
         ensures seen { ⟦<Fuse<S> as PageStore>⟧.seen result
             ≡ record (S.seen store) { faults = 0; has_lost = false } }
     {

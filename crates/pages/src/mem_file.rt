@@ -26,7 +26,9 @@ fn overwrite(bytes: &mut [u8], start: usize, buf: &[u8])
 impl MemFile {
     /// A file that holds these bytes.
     pub fn new(bytes: Vec<u8>) -> MemFile
+        // It tells its bytes, which are these.
         ensures bytes { ⟦<MemFile as ByteFile>⟧.bytes result ≡ Some bytes.items }
+        // It has refused nothing.
         ensures refusals { ⟦<MemFile as ByteFile>⟧.refusals result ≡ 0 }
     {
         MemFile {

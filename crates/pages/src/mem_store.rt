@@ -45,8 +45,11 @@ impl MemStore {
 
     /// Changes a byte of a page as written, as a damaged disk would.
     pub fn set_byte(&mut self, page: u32, place: usize, value: u8)
+        // There is a page of that number.
         requires exists { page < (⟦<MemStore as PageStore>⟧.seen self.old).count }
+        // The place is in a page.
         requires within { place < 4096 }
+        // The page has that byte there, and nothing else changes.
         ensures { ⟦<MemStore as PageStore>⟧.seen self.new
             ≡ with_byte page place value (⟦<MemStore as PageStore>⟧.seen self.old) }
     {

@@ -27,7 +27,9 @@ impl Refusals {
 
     /// Counts one more.
     pub fn add(&mut self)
+        // One more is counted, up to 2^64 - 1.
         ensures counted { self.new ≡ min (self.old + 1) (2 ^ 64 - 1) }
+        // The count never falls.
         ensures later { self.old ≤ self.new }
     {
         self.calls = self.calls.saturating_add(1);
@@ -35,9 +37,13 @@ impl Refusals {
 
     /// The answer of a call as it is, which is counted where it is a refusal.
     pub fn count<T, E>(&mut self, answer: Result<T, E>) -> Result<T, E>
+        // It returns what it was given.
         ensures same { result ≡ answer }
+        // An error is counted, up to 2^64 - 1.
         ensures counted { OnErr result (self.new ≡ min (self.old + 1) (2 ^ 64 - 1)) }
+        // `Ok` is not counted.
         ensures refuses_none { OnOk result (self.new ≡ self.old) }
+        // The count never falls.
         ensures later { self.old ≤ self.new }
     {
         if answer.is_err() {
