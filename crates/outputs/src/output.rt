@@ -21,17 +21,25 @@ pub trait Output {
 
     /// Takes all the bytes. Where it is refused it took a front of them.
     fn send(&mut self, bytes: &[u8]) -> Result<(), OutputFault>
+        // After `Ok` it took all the bytes, in order.
         ensures sent { OnOk result
             (Appends (seen self.old).contents (seen self.new).contents bytes.now) }
+        // After `Ok` no refusal was counted.
         ensures refuses_none { OnOk result ((seen self.new).refusals ≡ (seen self.old).refusals) }
+        // If there was a byte, it is not flushed.
         ensures unflushed { 0 < length bytes.now → (seen self.new).is_flushed ≡ false }
+        // After an error it took a prefix of the bytes, perhaps none.
         ensures part { OnErr result ((n : ℕ) × Appends (seen self.old).contents
             (seen self.new).contents (take n bytes.now)) }
+        // An error is counted as a refusal.
         ensures cause { OnErr result (HasRefused (seen self.old) (seen self.new)) };
 
     /// Passes on what it kept for a while of the bytes that it took.
     fn flush(&mut self) -> Result<(), OutputFault>
+        // It takes no byte, and drops none.
         ensures stays { Keeps (seen self.old).contents (seen self.new).contents }
+        // After `Ok` it is flushed, and no refusal was counted.
         ensures flushed { OnOk result (IsFlushed (seen self.old) (seen self.new)) }
+        // An error is counted as a refusal.
         ensures cause { OnErr result (HasRefused (seen self.old) (seen self.new)) };
 }
