@@ -178,13 +178,17 @@ pub fn join(
     ensures joined { IfOk result (λ by. (book : Book) → StandsFor tracks.now book
         → book.head ≡ option_copied head.entry
         → IsJoinedBy limits.now book file.now by) }
+    // The legs are those that the definition of joining gives the file.
     ensures legs { IfOk result (λ by. (book : Book) → StandsFor tracks.now book
         → book.head ≡ option_copied head.entry
         → joined limits.now book file.now ≡ Ok by.legs) }
+    // They may follow the book's legs, one after another.
     ensures follow { IfOk result (λ by. (book : Book) → StandsFor tracks.now book
         → CanFollowInTurn book.legs by.legs) }
+    // With the file the book has these legs at the end of its own.
     ensures book_legs { IfOk result (λ by. (book : Book) → StandsFor tracks.now book
         → (with_file book file.now).legs ≡ book.legs ++ by.legs) }
+    // With the file the book has the records' attribute values at the end of its rows.
     ensures book_rows { OnOk result ((book : Book)
         → (with_file book file.now).rows ≡ book.rows ++ map (λ r. r.attributes) file.now.records) }
 
