@@ -200,8 +200,11 @@ pub fn close<S: PageStore>(
 
 /// The store of an index that is at rest, as it stands; nothing is written.
 pub fn rest<S: PageStore>(index: TreeIndex<S>) -> S
+    // It is the store below the cache, as it stands.
     ensures store { S.seen result ≡ index.cache.store }
+    // It has no more pages than it may, and fewer than 2^32.
     ensures lawful { IsLawful index.cache.store }
+    // A page that is not changed has the payload that the page as written seals.
     ensures settled { IsSettled index.cache }
 {
     let cache = index.into_cache();

@@ -352,13 +352,21 @@ fn write_chain<S: PageStore>(
 
 /// Writes all that is changed to the store, and syncs it.
 pub fn write_all<S: PageStore>(cache: &mut PageCache<S>) -> Result<(), CatalogueFault>
+    // After `Ok` no page is changed, and the store's pages seal the payloads.
     ensures written { OnOk result (IsWritten cache.new) }
+    // After `Ok` every page is synced, and no sync of the store ever failed.
     ensures synced { OnOk result (IsSynced cache.new.store) }
+    // No payload changes, on an error too.
     ensures stays { KeepsPayloads cache.old cache.new }
+    // The store has as many pages as before.
     ensures length { SameLength cache.old cache.new }
+    // No page is asked for.
     ensures asked { cache.new.asked ≡ cache.old.asked }
+    // No page that was not changed is written.
     ensures reads { OnlyReads cache.old cache.new }
+    // If memory runs out, the cache is as it was.
     ensures memory { IsErrOf result CatalogueFault.Memory → cache.new ≡ cache.old }
+    // It fails only if memory runs out, or the store failed.
     ensures caused { IfErr result (IsNotWritten cache.old cache.new) }
 {
     match cache.flush() {
