@@ -100,8 +100,8 @@ impl<S: PageStore> TreeIndex<S> {
     ///
     /// Refused are a spent index, and what the cache refuses.
     pub fn mark(&mut self) -> Result<(), IndexFault>
-        // The legs stay. After `Ok` page 0 of a faithful store, as written, says that it is not finished.
-        // Where no page was changed, an error has written none but page 0.
+        // The legs stay. After `Ok` page 0 of a faithful store, as written, says that it is not
+        // finished. Where no page was changed, an error has written none but page 0.
         ensures starts { Starts words self.old self.new result }
         // A sound index fails only if memory runs out or the store fails, and a spent one always.
         ensures refusals { Refusals words self.old self.new result }
