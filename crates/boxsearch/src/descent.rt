@@ -154,7 +154,7 @@ pub fn search<S: PageStore>(
         → (legs : List LegView) (pages : ℕ → List ℕ)
         → Stands (pages_of_cache cache.old) tree.now legs pages
         → GivesRead result (λ found. found.items ≡ legs_in_box query.now legs) }
-    // Over such pages a search asks for the root, and for each other page whose box meets, once.
+    // Over such pages it asks once for the root, and once for each other block whose box meets.
     ensures asked { IsTrue cache.old.store.is_faithful
         → (legs : List LegView) (pages : ℕ → List ℕ)
         → Stands (pages_of_cache cache.old) tree.now legs pages
@@ -184,7 +184,7 @@ pub fn search<S: PageStore>(
     ensures named { IsTrue cache.old.store.is_faithful
         → IfErr result (IfNamed (IsOffWay query.now (pages_of_cache cache.old) tree.now.root
         tree.now.levels)) }
-    // Over any pages a search that succeeds asks for each page that it meets, once.
+    // Over any pages a search that succeeds asks once for each page that it meets.
     ensures met_asked { IsTrue cache.old.store.is_faithful
         → OnOk result (RisesBy cache.old.asked cache.new.asked
         (met_count (meets query.now) (pages_of_cache cache.old) tree.now.root tree.now.levels)) }

@@ -180,7 +180,7 @@ pub fn trajectory<S: PageStore>(
     ensures found { IsTrue cache.old.store.is_faithful → (legs : List LegView)
         → HasFeature (pages_of_cache cache.old) shape.now place.now feature legs
         → GivesRead result (λ found. found.items ≡ legs_of feature legs) }
-    // Over such pages it asks for each leaf of the feature, once.
+    // Over such pages it asks once for each leaf of the feature.
     ensures asked { IsTrue cache.old.store.is_faithful → (legs : List LegView)
         → HasFeature (pages_of_cache cache.old) shape.now place.now feature legs
         → OnOk result (RisesBy cache.old.asked cache.new.asked

@@ -98,9 +98,10 @@ pub trait LegIndex: Listed {
         // has to be.
         ensures told { MatchResult result (λ legs. Self.tells self.old (InBox query.now) legs.items)
             (λ fault. Denies Self.Listed self.old (InBox query.now) fault) }
-        // A sound index asks for exactly the pages that the list of legs says.
+        // A sound index asks for exactly as many pages as the list of legs gives.
         ensures asks { OnOk result (Asks Self.Listed self.old self.new (search_cost query.now)) }
-        // The list stays, sound where it was. No page that was not changed is changed or written.
+        // The list stays, and a sound index stays sound. If no page was changed, none is changed or
+        // written.
         ensures leaves { Leaves Self.Listed self.old self.new }
         // A sound index fails only if memory runs out or the store fails, and a spent one always.
         ensures refusals { Refusals Self.Listed self.old self.new result };
@@ -115,9 +116,10 @@ pub trait LegIndex: Listed {
         ensures told { MatchResult result
             (λ legs. Self.tells self.old (OfFeature feature None) legs.items)
             (λ fault. Denies Self.Listed self.old (OfFeature feature None) fault) }
-        // A sound index asks for exactly the pages that the list of legs says.
+        // A sound index asks for exactly as many pages as the list of legs gives.
         ensures asks { OnOk result (Asks Self.Listed self.old self.new (track_cost feature)) }
-        // The list stays, sound where it was. No page that was not changed is changed or written.
+        // The list stays, and a sound index stays sound. If no page was changed, none is changed or
+        // written.
         ensures leaves { Leaves Self.Listed self.old self.new }
         // A sound index fails only if memory runs out or the store fails, and a spent one always.
         ensures refusals { Refusals Self.Listed self.old self.new result };
@@ -145,7 +147,8 @@ pub trait LegIndex: Listed {
         // than the period starts.
         ensures asks { OnOk result (AsksAtMost Self.Listed self.old self.new
             (track_in_bound feature period.now)) }
-        // The list stays, sound where it was. No page that was not changed is changed or written.
+        // The list stays, and a sound index stays sound. If no page was changed, none is changed or
+        // written.
         ensures leaves { Leaves Self.Listed self.old self.new }
         // A sound index fails only if memory runs out or the store fails, and a spent one always.
         ensures refusals { Refusals Self.Listed self.old self.new result };

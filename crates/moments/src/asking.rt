@@ -50,7 +50,7 @@ pub fn stays<S: PageStore>(
     // page that is named is one that was met and is not what it is to be there, or the first one
     // that was met beyond as many as the store has.
     ensures says { IfOk result (λ stays. AreTold words db.old rect.now period.now stays.items) }
-    // A sound database asks for exactly the pages of a search of the rectangle over the period.
+    // A sound database asks for exactly as many pages as a search of the rectangle over the period.
     ensures asks { OnOk result (Asks words db.old db.new
         (search_cost (box_over rect.now period.now))) }
 

@@ -75,7 +75,7 @@ pub record CommandCall {I : Type 0} (g : Ghosts I) (files : List (List ℕ × Li
   pub says : IfOk result (λ text. IsToldAnswer g old files command text.items)
   -- a page that a question's error names was met and is not what it has to be there, or is page 0
   pub named : IfErr result (NamesBy g old command)
-  -- a question of a sound database asks for no pages but those that the list of legs allows
+  -- a sound database asks for as many pages as the list of legs gives, or at most its bound
   pub asks : OnOk result (QuestionAsks g old new command)
   -- limits and shape stay, and no count falls
   pub later : IsLater g old new

@@ -39,7 +39,7 @@ impl<S: PageStore> Db<S> {
         // Be the database sound or not, they are picked of the legs that the pages that were met say.
         ensures says { IfOk result (λ legs.
             ArePickedOf words self.old predicate rect.now period.now legs.items) }
-        // A sound database asks for exactly the pages of a search of the predicate's box.
+        // A sound database asks for exactly as many pages as a search of the predicate's box.
         ensures asks { OnOk result (Asks words self.old self.new
             (search_cost (box_near predicate rect.now period.now))) }
         // The book, and all else that is known, stay as they were.
