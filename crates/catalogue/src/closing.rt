@@ -186,8 +186,11 @@ pub fn close<S: PageStore>(
         ⊎ HoldsIndexButFirst (S.seen result.0) catalogue.now index) }
     ensures ordered { OnErr result.1 (IsMarked index.cache
         → IsUnfinishedStore (S.seen result.0) ⊎ IsSyncedButFirst (S.seen result.0)) }
+    // It is the same store, and its count of faults did not fall.
     ensures keeps { Keeps index.cache.store (S.seen result.0) }
+    // It has no more pages than it may, and fewer than 2^32.
     ensures lawful { IsLawful (S.seen result.0) }
+    // `Store` is returned only if the store failed, and `StoreFull` only if it is full.
     ensures caused { IfErr result.1 (IsClosingFault index.cache.store (S.seen result.0)) }
 {
     let result = save_and_finish(alloc, catalogue, &mut index);

@@ -260,7 +260,8 @@ pub fn check<S: PageStore>(
     // Page 0 then says unfinished if the database has begun, and finished if not.
     ensures says { OnOk result (IsTrue index.old.cache.store.is_faithful
         → SaysState begun (payload_of index.new.cache 0)) }
-    // What passes is all that a check asks: seals, chains of leaves, ordinals, features and tree.
+    // After `Ok` the pages are all that a check asks: seals, chains of leaves, ordinals, features
+    // and tree.
     ensures whole { OnOk result (IsTrue index.old.cache.store.is_faithful
         → IsChecked (pages_of_cache index.old.cache) index.old.tree rows index.old.legs
         index.old.places tracks.now.tracks) }
