@@ -100,9 +100,7 @@ impl<S: PageStore> PageCache<S> {
         // The cache counts all pages of the store, if it did before.
         ensures length { OnOk result (self.old.count ≡ self.old.store.count
             → self.new.count ≡ self.new.store.count) }
-        // The store has as many pages as before, or one more, on an error too.
         ensures grows { MayGrow self.old self.new }
-        // After an error no payload has changed.
         ensures refused { OnErr result (KeepsPayloads self.old self.new) }
         // One ask is counted.
         ensures asks { AsksOnce self.old self.new }
@@ -130,9 +128,7 @@ impl<S: PageStore> PageCache<S> {
         // The cache counts all pages of the store, if it did before.
         ensures length { OnOk result (self.old.count ≡ self.old.store.count
             → self.new.count ≡ self.new.store.count) }
-        // The store has as many pages as before, or one more, on an error too.
         ensures grows { MayGrow self.old self.new }
-        // After an error no payload has changed.
         ensures refused { OnErr result (KeepsPayloads self.old self.new) }
         // One ask is counted.
         ensures asks { AsksOnce self.old self.new }
@@ -160,9 +156,7 @@ impl<S: PageStore> PageCache<S> {
         // The cache counts all pages of the store, if it did before.
         ensures length { OnOk result (self.old.count ≡ self.old.store.count
             → self.new.count ≡ self.new.store.count) }
-        // The store has as many pages as before, or one more, on an error too.
         ensures grows { MayGrow self.old self.new }
-        // After an error no payload has changed.
         ensures refused { OnErr result (KeepsPayloads self.old self.new) }
         // One ask is counted.
         ensures asks { AsksOnce self.old self.new }

@@ -207,20 +207,17 @@ pub fn migrate<S: PageStore, T: PageStore>(
         → (c : CatalogueView) (tree : TbTree) (places : List Place)
         → IsKeptOld (stored_payload (S.seen old.old)) (S.seen old.old).count c tree places
         → IsLegFault back.1) }
-    // If the chains of all features are whole too, no page stops it.
     ensures whole { IfErr result (λ back. IsTrue (S.seen old.old).is_faithful
         → IsTrue (T.seen new).is_faithful
         → (c : CatalogueView) (tree : TbTree) (places : List Place)
         → IsKeptOld (stored_payload (S.seen old.old)) (S.seen old.old).count c tree places
         → AreWhole (S.seen old.old) c tree places → IsSavingStop back.1) }
-    // If the pages keep no catalogue, a page that is called damaged has no payload.
     ensures damaged { IfErr result (λ back. IsTrue (S.seen old.old).is_faithful
         → IsTrue (T.seen new).is_faithful
         → ((c : CatalogueView) (tree : TbTree) (places : List Place)
         → IsKeptOld (stored_payload (S.seen old.old)) (S.seen old.old).count c tree places → ⊥)
         → IsTrulyDamaged (S.seen old.old).is_faithful
         (stored_payload (S.seen old.old)) (S.seen old.old).count back.1) }
-    // If the pages keep no catalogue, a page that is named is the one at which reading it stops.
     ensures named { IfErr result (λ back. IsTrue (S.seen old.old).is_faithful
         → IsTrue (T.seen new).is_faithful
         → ((c : CatalogueView) (tree : TbTree) (places : List Place)

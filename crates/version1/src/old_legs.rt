@@ -305,7 +305,6 @@ pub fn take_old_legs<S: PageStore, I: LegIndex>(
     // Why it is refused.
     ensures works { IfErr result (λ fault. IsTrue (S.seen old.old).is_faithful
         → I.is_sound index.old → I.content index.old ≡ [] → fault ≢ IndexFault.Spent) }
-    // `Store` is returned only if the old store or the index's store failed.
     ensures store { IsErrOf result IndexFault.Store
         → Faulted (S.seen old.old) (S.seen old.new)
         ⊎ HasRisen (I.faults index.old) (I.faults index.new) }
