@@ -20,7 +20,6 @@ IsEndBy moment leg period Edge = (IsMilli moment leg → ⊥) × (IsMilli moment
 abbrev pub IsBegunBy : PeriodView → Stay → End → Type 0
 IsBegunBy period stay end = IsEndBy stay.enters stay.leg.t0 period.start end
 
--- what a stay ends by, in a period
 abbrev pub IsEndedBy : PeriodView → Stay → End → Type 0
 IsEndedBy period stay end = IsEndBy stay.leaves stay.leg.t1 period.end end
 

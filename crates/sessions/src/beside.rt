@@ -93,7 +93,6 @@ pub fn run_on_copy<'a, F: Folder, O: Output>(
     files: &Files,
     out: &mut O,
 ) -> Result<(), Fault<'a>>
-    // The cache has room for a page.
     requires { 0 < how.cache_pages }
 
     // What was sent is exactly the text of the run over the book that the store held, or the empty
@@ -115,13 +114,11 @@ pub fn run_on_copy<'a, F: Folder, O: Output>(
         ≡ min (F.copy_calls folder.old + 1) (2 ^ 64 - 1) }
     // No copy is left, as far as the system lets it be taken away.
     ensures gone { F.has_copy folder.new ≡ false }
-    // After `Ok` the folder refused no call.
     ensures refuses_none { OnOk result (F.refusals folder.new ≡ F.refusals folder.old) }
 
     // Where it is refused the name stands for what it stood for, all along, and what was sent is
     // the front of that text.
     ensures stays { OnErr result (F.held folder.new ≡ F.held folder.old) }
-    // After an error what was sent is a prefix of that text.
     ensures sent { OnErr result (IfSome (F.held folder.old)
         (λ past. (shape : ShapeView) (limits : LimitsView) (book : Book)
         → BeginsWith how.is_new (store_in past) shape limits book

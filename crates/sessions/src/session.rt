@@ -48,7 +48,6 @@ pub fn database<S: PageStore>(
     is_new: bool,
     cache_pages: u32,
 ) -> Result<Db<S>, (S, OpenFault)>
-    // The cache has room for a page.
     requires { 0 < cache_pages }
     // A store that has a page, or of which none is to be made, is opened, be what it holds sound or not; any other is made
     // an empty database, which has page 0 alone, and is synced, or is handed back.
@@ -158,7 +157,6 @@ pub fn answer<'a, S: PageStore, O: Output>(
     // nothing is sent.
     ensures over { RunsOver S.seen O.seen database files.now out.old out.new
         (lines_of script.now) result.1 result.2 (S.seen result.0) }
-    // `Store` is returned only if the store failed.
     ensures caused { IfOk database (λ db. IsErrOf result.1 (Fault.Run RunFault.Store)
         → Faulted (store_of db) (S.seen result.0)) }
 {
