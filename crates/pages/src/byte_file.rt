@@ -17,15 +17,14 @@ pub trait ByteFile {
     /// nothing counts as synced.
     ghost is_synced: { Self → Bool };
 
-    /// How often it was refused to say its length, to read or write bytes, or to make them last. It never falls; 2^64 - 1
-    /// stands for any greater number.
+    /// How many calls failed. The count never falls. 2^64 - 1 stands for any greater number.
     ghost refusals: { Self → ℕ };
 
-    /// Whether it was ever refused to make last what was written. A system may then forget what it did not write, and
-    /// answer the next time that all is well; so it is not read, written or synced again.
+    /// Whether a sync ever failed. The system may then forget what it did not write, and report
+    /// success the next time. So the file is not read, written or synced again.
     ghost has_lost: { Self → Bool };
 
-    /// How many bytes there are, which a file that tells its bytes does not refuse to say.
+    /// How many bytes there are. A file that tells its bytes never fails here.
     fn len(&mut self) -> io::Result<u64>
         // It is the number of bytes, if the file tells them.
         ensures value { IfOk result (λ n. IfSome (bytes self.old) (λ xs. n ≡ length xs)) }
@@ -64,8 +63,8 @@ pub trait ByteFile {
         // The count of refusals never falls.
         ensures later { refusals self.old ≤ refusals self.new };
 
-    /// Writes bytes from a place on, which may be the file's end. A refusal leaves any bytes
-    /// there, and no other byte changes.
+    /// Writes bytes from a place on, which may be the file's end. An error leaves any bytes there,
+    /// and no other byte changes.
     fn write_at(&mut self, place: u64, buf: &[u8]) -> io::Result<()>
         // If the file tells its bytes, the place is at its end at most.
         requires { IfSome (bytes self.old) (λ xs. place ≤ length xs) }
@@ -86,7 +85,7 @@ pub trait ByteFile {
         // The count of refusals never falls.
         ensures later { refusals self.old ≤ refusals self.new };
 
-    /// Makes what was written last, as on a disk. It is refused wherever it was refused before.
+    /// Syncs what was written to the disk. After one error every later read, write and sync fails.
     fn sync(&mut self) -> io::Result<()>
         // The bytes stay.
         ensures stays { bytes self.new ≡ bytes self.old }

@@ -14,9 +14,9 @@ use std::rt::Files;
 
 /// A store in a file: page n is the bytes from 4,096 n to 4,096 n + 4,095.
 ///
-/// It is faithful where the file tells its bytes. Each page is read and written by one call of the
-/// file, and it fails only where the file refuses one, which counts as a fault. What the file held
-/// before may be unsynced, and nothing is once its own `sync` has answered `Ok`.
+/// It is faithful if the file tells its bytes. Each page is read and written by one call of the
+/// file. It fails only if that call fails, which counts as a fault. What the file held before may
+/// be unsynced, until the first `sync` that returns `Ok`.
 #[derive(Drop)]
 pub struct FileStore<F: ByteFile = SystemFile<File>> {
     file: F,
@@ -28,9 +28,10 @@ pub struct FileStore<F: ByteFile = SystemFile<File>> {
 }
 
 impl<F: ByteFile> FileStore<F> {
-    /// The store of a file's whole pages, of at most 2^32 - 1 pages: a rest of less than a page is
-    /// no page, and a file of more pages is refused, as is one that does not tell its length. Any
-    /// page may be unsynced.
+    /// The store of a file's whole pages. A rest of less than a page is no page. Any page may be
+    /// unsynced.
+    ///
+    /// It fails if the file has 2^32 pages or more, or its length is not known.
     pub fn new(mut file: F) -> Result<FileStore<F>, StoreFault>
     where
         F: Drop,
@@ -72,8 +73,10 @@ impl<F: ByteFile> FileStore<F> {
 }
 
 impl<F: FileExt + OpenFile + Drop> FileStore<SystemFile<F>> {
-    /// The store in the file at a path, which is made, empty, where there is none; any page may be
-    /// unsynced. Refused is a file that the system does not open or that has 2^32 pages or more.
+    /// The store in the file at a path. If there is none, an empty one is made. Any page may be
+    /// unsynced.
+    ///
+    /// It fails if the system does not open the file, or it has 2^32 pages or more.
     pub fn open<R: Files<File = F>>(
         rt: &R,
         path: &str,

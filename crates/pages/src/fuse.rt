@@ -9,9 +9,9 @@ use crate::store::{PageStore, StoreFault};
 /// A store over another one that fails once some calls of `read`, `write` and `sync` have passed,
 /// to try what stands above it.
 ///
-/// Each failure counts as a fault, also one of the store below. A `write` that it fails leaves a
-/// page of zero bytes where there is one, and adds none. Once it has failed a `sync`, it fails each later
-/// one. It is faithful where the store below is.
+/// Each failure counts as a fault, also one of the store below. A `write` that it fails leaves zero
+/// bytes in a page that is there, and adds none. After a failed `sync` every later one fails. It is
+/// faithful if the store below is.
 #[derive(Drop)]
 pub struct Fuse<S> {
     store: S,
@@ -19,7 +19,7 @@ pub struct Fuse<S> {
     left: Option<u64>,
     once: bool,
     faults: Refusals,
-    /// Whether a sync was refused.
+    /// Whether a sync failed.
     has_lost: bool,
 }
 

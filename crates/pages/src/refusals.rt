@@ -1,9 +1,9 @@
-//! How often calls were refused.
+//! How many calls failed.
 ghost use Rattle.std.specs.Prelude.{◌≡◌, ◌≤◌, ◌+◌, ◌-◌, ◌^◌, min, OnErr, OnOk};
 
 use std::marker::Model;
 
-/// How often calls were refused. It never falls; 2^64 - 1 stands for any greater number.
+/// How many calls failed. The count never falls. 2^64 - 1 stands for any greater number.
 #[derive(Drop, Debug)]
 pub struct Refusals {
     calls: u64,
@@ -35,7 +35,7 @@ impl Refusals {
         self.calls = self.calls.saturating_add(1);
     }
 
-    /// The answer of a call as it is, which is counted where it is a refusal.
+    /// Returns the result of a call as it is, and counts it if it is an error.
     pub fn count<T, E>(&mut self, answer: Result<T, E>) -> Result<T, E>
         // It returns what it was given.
         ensures same { result ≡ answer }

@@ -9,7 +9,7 @@ use std::os::unix::fs::FileExt;
 use std::rt::Files;
 
 /// A file of the system. No contract says which bytes it holds, nor that `sync` puts them on the
-/// disk: that it does is trusted. Once that was refused, each call is that reads, writes or syncs.
+/// disk: that it does is trusted. After a failed sync every read, write and sync fails.
 #[derive(Drop)]
 pub struct SystemFile<F = File> {
     file: F,
@@ -17,7 +17,7 @@ pub struct SystemFile<F = File> {
     has_lost: bool,
 }
 
-/// What is answered of a file that was refused a sync.
+/// The error of a file after a failed sync.
 fn lost() -> io::Result<()>
     ensures { IsErr result }
 {

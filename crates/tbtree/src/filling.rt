@@ -53,10 +53,11 @@ fn put_all<S: PageStore>(
     Ok(())
 }
 
-/// Puts legs of one feature into the tree, one after another, at the place of the feature: what
-/// fills its last leaf, and then each new leaf. The last leaf, and the pages above it, are looked at
-/// and widened once for all the legs that it takes; a leaf that is made is added with all its legs.
-/// Any refusal leaves the tree spent, and a spent tree is refused by `Spent`.
+/// Puts legs of one feature into the tree, one after another, at the place of the feature: first
+/// into its last leaf, then into new leaves. The last leaf, and the pages above it, are widened
+/// once for all the legs that it takes. A new leaf is added with all its legs.
+///
+/// Any error leaves the tree spent. A spent tree returns `Spent`.
 pub fn insert_all<S: PageStore>(
     tree: &mut TbTree,
     cache: &mut PageCache<S>,

@@ -354,10 +354,12 @@ pub(crate) fn put<S: PageStore>(
     into_last(cache, tree, place, legs)
 }
 
-/// Puts a leg into the tree, at the place of its feature. A root that is not there is `Malformed`, and so is page 0 where a
-/// root is to be put over it, and the last leaf of a place that has legs and names none, or has none and names one. A last
-/// leaf that is not there, behind which one is to be made, is `Malformed` before that is made. Any refusal leaves the tree
-/// spent, and a spent tree is refused by `Spent`.
+/// Puts a leg into the tree, at the place of its feature.
+///
+/// `Malformed` names a root that is not there, and page 0 if a root is to be put over it. It names
+/// the last leaf of a place if the place has legs and names none, or has none and names one. A last
+/// leaf that is not there is named before a new one is made behind it. Any error leaves the tree
+/// spent. A spent tree returns `Spent`.
 pub fn insert<S: PageStore>(
     tree: &mut TbTree,
     cache: &mut PageCache<S>,

@@ -8,8 +8,8 @@ ghost use Rattle.tbtree.specs.Stands.{empty_tree, no_place};
 
 use crate::shape::Shape;
 
-/// A tree: the page of its root and how many levels it has (both 0 without a leg), how many leaves, its shape, and
-/// whether an insertion was refused.
+/// A tree: the page of its root and how many levels it has (both 0 without a leg), how many leaves,
+/// its shape, and whether an insertion failed.
 #[derive(Clone, Copy, PartialEq, Eq, Debug)]
 pub struct TbTree {
     pub root: u32,
