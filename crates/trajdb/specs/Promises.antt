@@ -50,11 +50,13 @@ pub record LoadCall {I : Type 0} (g : Ghosts I) (old new : CoreView I) (bytes : 
   pub refused : IfErr result (λ fault. IsRefused fault → new ≡ old)
   -- an accepted file begins the database, and nothing else does
   pub begun : OnOk result (new.begun ≡ true)
-  -- page 0 of an index over a faithful store is marked then, sound or not
+  -- page 0 of a faithful store then says that it is not finished, whether the database is sound or
+  -- not
   pub marks : OnOk result (g.is_faithful old.index → g.is_marked new.index)
   -- an error begins no database
   pub idle : OnErr result (new.begun ≡ old.begun)
-  -- what is left of the pages
+  -- a begun database keeps page 0 marked; before that no page as written changes, except page 0 if
+  -- the store fails
   pub pages : KeepsPages g old new
   -- a failed database does nothing
   pub was_failed : old.failed ≡ true
@@ -70,8 +72,7 @@ pub record CommandCall {I : Type 0} (g : Ghosts I) (files : List (List ℕ × Li
   pub becomes : OnOk result (Becomes g old new (book_then old.limits files old.book command))
   -- a command that returns `Ok` leaves a database that has not failed
   pub lives : OnOk result (new.failed ≡ false)
-  -- be the database sound or not, an answer is what the pages that were met say, and a page that a question names is one
-  -- that it met and is not what it is to be there, or page 0
+  -- any database answers by what the pages that it met say, and by nothing else
   pub says : IfOk result (λ text. IsToldAnswer g old files command text.items)
   -- a page that a question's error names was met and is not what it has to be there, or is page 0
   pub named : IfErr result (NamesBy g old command)
@@ -79,7 +80,7 @@ pub record CommandCall {I : Type 0} (g : Ghosts I) (files : List (List ℕ × Li
   pub asks : OnOk result (QuestionAsks g old new command)
   -- limits and shape stay, and no count falls
   pub later : IsLater g old new
-  -- all but a `load` of a file that is there leave the book; where that load is refused, the database is failed
+  -- every command but a `load` of a file that is there leaves the book as it was
   pub question : (Loads files command → ⊥) → LeavesBook g old new
   -- after an error the book is as it was, or the database has failed
   pub refused : OnErr result (new.failed ≡ false → LeavesBook g old new)
@@ -109,28 +110,28 @@ pub record RunCall {I O : Type 0} (g : Ghosts I) (shown : O → OutputView)
   pub sound : OnOk result (IsSound g old → IsSound g new)
   -- after `Ok` the database has not failed
   pub lives : OnOk result (new.failed ≡ false)
-  -- be the database sound or not: what was sent is the answers to lines, one after another, each by what the pages say
-  -- that were met
+  -- any database sent the answers to all lines, each by what the pages that it met say
   pub says : OnOk result (TellsRun g files (shown out).contents (shown out').contents old new lines)
   -- if the output fails, a prefix of such answers was sent, all but the last one whole
   pub says_cut : IsErrOf result RunFault.Output
       → TellsCut g files (shown out).contents (shown out').contents old new lines
-  -- where the output fails
+  -- if the output fails, a sound database is as after some lines, and a prefix of their answers was
+  -- sent
   pub output : IsErrOf result RunFault.Output → IsSound g old
       → IsCut files (shown out).contents (shown out').contents old new lines
   -- a sound database stays sound if the output fails
   pub cut_sound : IsErrOf result RunFault.Output → IsSound g old → IsSound g new
   -- the database has not failed if the output fails
   pub cut_lives : IsErrOf result RunFault.Output → new.failed ≡ false
-  -- it is said to fail only where it refused a call; where the run is answered it refused none, and was flushed behind the
-  -- last answer; and so it was where the run stops at a line, or it refused a call
+  -- `Output` is returned only if the output refused a call
   pub output_caused : IsErrOf result RunFault.Output → HasRefused (shown out) (shown out')
   -- after `Ok` the output refused no call, and is flushed
   pub flushed : OnOk result (IsFlushed (shown out) (shown out'))
   -- if the run stops at a line, the answers before are flushed, unless the output refused a call
   pub flushed_before : IfErr result (λ fault. IsNotOutput fault → old.failed ≡ false
       → IsTrue (shown out').is_flushed ⊎ HasRefused (shown out) (shown out'))
-  -- where the run stops at a line
+  -- if the run stops at a line, a sound database is as after the lines before, or has failed; their
+  -- answers were sent whole
   pub refused : IfErr result (λ e. IsNotOutput e → old.failed ≡ false → IsSound g old
       → Stops files (shown out).contents (shown out').contents old new lines)
   -- a sound database at which a run stops stays sound, unless it has failed
@@ -232,8 +233,8 @@ pub record CloseCall (db : DbView) (left : Store)
   pub failed : db.failed ≡ true → (result ≡ Err RunFault.Failed) × (left ≡ db.index.cache.store)
   -- it is the same store, and its count of faults did not fall
   pub keeps : Keeps db.index.cache.store left
-  -- what a load that failed leaves is refused as not finished, or is the store that was there before, but for page 0
-  -- where the store failed
+  -- after a failed load the store is refused as not finished, or is the one that was there before,
+  -- but for page 0 if the store failed
   pub safe : db.failed ≡ true → (was : Store) → IsSafe was db → IsSafeStore was left
   -- `Store` is returned only if the store failed, `StoreFull` only if it is full, and `Failed` only
   -- of a failed database
@@ -256,8 +257,7 @@ pub record CheckCall (old new : DbView) (result : Result Report RunFault) : Type
   -- `Failed` is returned only of a database that failed, or whose index is spent
   pub works : IsErrOf result RunFault.Failed
       → (old.failed ≡ true) ⊎ (words.is_spent old.index ≡ true)
-  -- the book stays, and each page has the payload that it had; once it has passed, all that was changed is written, and
-  -- nothing is where nothing was changed
+  -- the book, and all else that is known, stay as they were
   pub leaves : LeavesBook words old new
   -- no page has another payload than before
   pub payloads : IsTrue old.index.cache.store.is_faithful → (page : ℕ)

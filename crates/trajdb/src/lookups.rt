@@ -36,7 +36,7 @@ impl<S: PageStore> Db<S> {
         ensures found { IfOk result (λ legs. IsSoundDb self.old
             → Picks (HoldsOfLeg predicate rect.now period.now) self.old.book.legs legs.items) }
 
-        // Be the database sound or not, they are picked of the legs that the pages that were met say.
+        // Any database picks them from the legs of the pages that it met.
         ensures says { IfOk result (λ legs.
             ArePickedOf words self.old predicate rect.now period.now legs.items) }
         // A sound database asks for exactly as many pages as a search of the predicate's box.
@@ -64,14 +64,14 @@ impl<S: PageStore> Db<S> {
         self.core.legs_for(alloc, predicate, rect, period)
     }
 
-    /// The name of the feature of a number; `None` where there is none.
+    /// The name of the feature of a number; `None` if there is none.
     pub fn name(&self, feature: u32) -> Option<&str>
         ensures { option_copied result ≡ slice_get self.now.book.names feature }
     {
         self.core.tracks.name(feature)
     }
 
-    /// What the first file said of all; `None` where no file was accepted.
+    /// What the first file said of all files; `None` if no file was accepted.
     pub fn head(&self) -> Option<&BookHead>
         ensures { option_copied result ≡ self.now.book.head }
     {
