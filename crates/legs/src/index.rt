@@ -7,7 +7,7 @@ use std::alloc::{AllocError, AllocFailed};
 use thiserror::Error;
 use timebase::Period;
 
-/// Why an index did not answer.
+/// The errors of an index.
 #[derive(Clone, Copy, PartialEq, Eq, Debug, Error)]
 pub enum IndexFault {
     /// Memory ran out.
@@ -22,18 +22,18 @@ pub enum IndexFault {
     /// There is no room for another page.
     #[error("the store is full")]
     StoreFull,
-    /// An earlier `add` was refused; or this one is, of a leg whose feature is above the next one.
+    /// An earlier `add` failed, or the leg's feature is above the next one.
     #[error("the index is spent")]
     Spent,
 }
 
 /// An index of legs, seen as the list of its legs in accepted order.
 ///
-/// A refused `add` leaves an index spent: it answers `Spent` to every later call but
-/// `len`, `spent` and `asked`, and stays as it is. Any other refusal leaves the list as it was.
+/// An `add` that fails leaves the index spent. Every later call but `len`, `spent` and `asked` then
+/// returns `Spent`, and changes nothing. Any other error leaves the list as it was.
 ///
-/// A question is answered by what the pages say, whoever wrote them, and by nothing else: where a page that is met is
-/// not what it is to be there, it is `Damaged`, with that page.
+/// A question returns what the pages say, whoever wrote them, and nothing else. If a page that it
+/// meets is not what it has to be there, it returns `Damaged` with that page.
 pub trait LegIndex: Listed {
     ghost use Rattle.std.specs.Prelude.{ℕ, ℤ, None, ◌≤ℤ◌, ◌≡◌, ◌≢◌, ◌↔◌, ◌∷◌, [], true, false, length, All, OnOk, IfOk, MatchResult};
     ghost use Rattle.std.specs.List.{Contains};
@@ -51,7 +51,7 @@ pub trait LegIndex: Listed {
         // It is the number that the index keeps.
         ensures counted { result ≡ Self.counted self.now };
 
-    /// Whether an `add` was refused.
+    /// Whether an `add` failed.
     fn spent(&self) -> bool
         ensures { result ≡ Self.is_spent self.now };
 
@@ -59,9 +59,9 @@ pub trait LegIndex: Listed {
     fn asked(&self) -> u64
         ensures { result ≡ Self.asked self.now };
 
-    /// Puts a leg at the end of the list. The leg's ordinal is to be `len`, its feature at most the number of
-    /// features so far, and its start not before the end of that feature's last leg. Of any other leg, and of an index that
-    /// is not sound, nothing is promised but that the call returns.
+    /// Puts a leg at the end of the list. The leg may follow if its ordinal is `len`, its feature
+    /// at most the number of features so far, and its start not before the end of that feature's
+    /// last leg. For any other leg, and for an index that is not sound, only safety is promised.
     fn add(&mut self, leg: Leg) -> Result<(), IndexFault>
         // A sound index stays sound, with the leg at the end of its list, if the leg may follow.
         ensures added { OnOk result (Grows Self.Listed self.old self.new (leg ∷ [])) }
@@ -124,9 +124,9 @@ pub trait LegIndex: Listed {
         // A sound index fails only if memory runs out or the store fails, and a spent one always.
         ensures refusals { Refusals Self.Listed self.old self.new result };
 
-    /// The legs of a feature that have a moment in a period, in accepted order; of these at least those that a sieve
-    /// keeps. Once it is answered it is known which of the feature's leaves meet a period that starts no earlier, and
-    /// only these are asked for.
+    /// The legs of a feature that have a moment in a period, in accepted order; of these at least
+    /// those that a sieve keeps. After it the index knows which of the feature's leaves meet a
+    /// period that starts no earlier, and reads only these.
     fn track_in(
         &mut self,
         feature: u32,

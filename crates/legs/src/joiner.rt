@@ -54,7 +54,7 @@ impl Joined {
 
 /// Joins a file whose text has no fault to a book, record by record.
 ///
-/// Behind the first record with a joining fault nothing more is joined. Where memory runs out the
+/// After the first record with a joining fault nothing more is joined. If memory runs out, the
 /// joiner is of no more use.
 #[derive(Drop)]
 pub struct FileJoiner<'a> {

@@ -163,10 +163,10 @@ pub(crate) fn check_head(first: Option<&BookHead>, head: &Head) -> Result<(), Jo
 /// it, or the first joining fault. `head` is what the book keeps of the head of the first accepted
 /// file, if there is one.
 ///
-/// A file is refused where its CRS or its dimension (`F9`, at its `@stboundedby` record) or its
-/// columns (`F10`, at its `@columns` record) are not those of the first accepted file, and then at
-/// its first record that starts before its feature's last leg ends (`F18`), or with which there are
-/// more legs (`F19`) or features (`F20`) than the limits allow.
+/// A file is refused if its CRS or its dimension (`F9`, at its `@stboundedby` record) or its
+/// columns (`F10`, at its `@columns` record) are not those of the first accepted file. Else it is
+/// refused at its first record that starts before its feature's last leg ends (`F18`), or with
+/// which there are more legs (`F19`) or features (`F20`) than the limits allow.
 pub fn join(
     alloc: Global,
     head: Option<&BookHead>,

@@ -215,8 +215,8 @@ impl Tracks {
         }
     }
 
-    /// Takes a file into the tracks that was joined to their book: they then stand for the book
-    /// with that file. They are as before where memory runs out.
+    /// Takes a file that was joined to the book of the tracks. They then stand for the book with
+    /// that file. If memory runs out, they are as before.
     pub fn accept(&mut self, joined: &Joined) -> Result<(), AllocError>
         // The tracks then stand for the book with the file.
         ensures ok { OnOk result ((limits : LimitsView) (book : Book) (file : File)
@@ -240,7 +240,7 @@ impl Tracks {
         Ok(())
     }
 
-    /// Adds a feature with its track, where its name is not there yet, and says whether it was new.
+    /// Adds a feature with its track if its name is not there yet, and returns whether it was new.
     pub fn add(&mut self, name: String, track: Track) -> Result<bool, AllocError>
         // A new feature has the last number, and its legs are counted.
         ensures added { IfOk result (λ new. new ≡ true
@@ -269,7 +269,7 @@ impl Tracks {
         Ok(true)
     }
 
-    /// Sets the number of rows, where there are no more than legs, and says whether it did.
+    /// Sets the number of rows if there are no more than legs, and returns whether it did.
     pub fn set_rows(&mut self, rows: u64) -> bool
         // It succeeds exactly if there are no more rows than legs.
         ensures fits { result ≡ nat_le rows self.old.legs }

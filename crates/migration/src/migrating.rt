@@ -1,10 +1,10 @@
-//! `Db::migrate`: a database of version 1 is brought over.
+//! `Db::migrate`: migrates a database of version 1.
 use pages::PageStore;
 use std::alloc::Global;
 use std::hash::RandomState;
 use trajdb::{Db, OpenFault};
 
-/// Bringing a database of version 1 over into a new store: with it `Db::migrate` is a call of
+/// Migrates a database of version 1 into a new store. With this trait `Db::migrate` is a call of
 /// [`Db`].
 pub trait Migrate<T: PageStore> {
     ghost use Rattle.std.specs.Prelude.{◌≡◌, ◌<◌, ◌≤◌, None, IsTrue, IfErr, IfOk, false, true};
@@ -22,24 +22,25 @@ pub trait Migrate<T: PageStore> {
     ghost use Rattle.register.specs.Saving.{IsSavingStop};
     ghost use Rattle.trajdb.specs.Lasting.{HasBook};
 
-    /// Brings the database of a finished store of version 1 over into an empty store, with a cache of
-    /// at most that many pages, at least 1: the same legs, names, attribute values, base, coordinate
-    /// reference system, columns and limits, in two dimensions. A leaf takes as many legs as before,
-    /// but 50 at most; an inner page takes as many entries. Names and legs are hashed with the keys,
-    /// which a stranger who chooses the names of a file is not to know.
+    /// Migrates the database of a finished store of version 1 into an empty store: the same legs,
+    /// names, attribute values, base, coordinate reference system, columns and limits, in two
+    /// dimensions. The cache holds at most that many pages, at least 1. A leaf takes as many legs
+    /// as before, but 50 at most; an inner page takes as many entries. Names and legs are hashed
+    /// with the keys, which a stranger who chooses the names of a file is not to know.
     ///
-    /// The store of version 1 is lent: it is read, each page by its seal, and never written. The
-    /// legs are put in 65,536 at a time; of them are kept in memory 64 bytes or so a leaf, 8 bytes a leg
-    /// while the chains are walked, and then the legs of at most one leaf a feature and those that
-    /// wait. What is said of memory no clause says.
+    /// The store of version 1 is read, each page by its seal, and never written. The legs are put
+    /// in 65,536 at a time. In memory are about 64 bytes a leaf, and 8 bytes a leg while the chains
+    /// are walked. Then there are the legs of at most one leaf a feature, and those that wait. No
+    /// clause says what memory is taken.
     ///
-    /// Of page 0 of the lent store it is said first that it is not there (`Malformed`), is damaged, is
-    /// no header (`Malformed`), has another version than 1, is of a store that was not finished, or of
-    /// one in another state (`Malformed`); then the first page that is damaged, or malformed, as met;
-    /// where the leaves of the features are not whole, `Damaged` is the page at which the walk along
-    /// them fails, or page 0 where all of them do not have the legs that are to be. `StoreFull` is
-    /// the new store. Where it is refused the new store is handed back: without pages, with a page 0
-    /// that says that it is not finished, or with page 0 alone, whose write failed.
+    /// What is wrong with page 0 of the old store comes first, in this order: it is not there
+    /// (`Malformed`), is damaged, is no header (`Malformed`), has another version than 1, says
+    /// unfinished, or has another state (`Malformed`). Then comes the first page that is damaged or
+    /// malformed. If the leaves of a feature are not whole, `Damaged` names the page at which the
+    /// walk along them fails, or page 0 if all of them do not have the legs that they should.
+    ///
+    /// `StoreFull` is the new store's. On an error the new store is handed back: without pages,
+    /// with a page 0 that says that it is not finished, or with page 0 alone, whose write failed.
     fn migrate<S: PageStore>(
         alloc: Global,
         keys: RandomState,

@@ -47,8 +47,8 @@ impl GrowingRows {
         }
     }
 
-    /// Puts a value behind those of the row that is begun. After a refusal, for want of memory, all
-    /// are refused; the rows, and the values so far, are as before.
+    /// Puts a value behind those of the row that is begun. If memory runs out, the rows, and the
+    /// values so far, are as before, and every later call fails.
     pub fn push_value(&mut self, value: &str) -> Result<(), AllocError>
         // After `Ok` the value is the last one of the row that is begun.
         ensures pushed { OnOk result (self.new ≡ with_value self.old value.now) }
