@@ -2,7 +2,8 @@
 
 `crate::function`: `clause`, `clause` cites clauses of a function; behind a comma or a semicolon a name alone is one of
 the same crate, or of the same type. `crate::module`: `test` cites tests, `crate`: `some-edit` must-fail edits, and
-`tools/NAME`: `test_name` a test of a tool. A path from the top of the repository cites a file, and a link another page.
+`PATH`: `name` a test of a file, be it Python or Rattle. A path from the top of the repository cites a file, and a link
+another page.
 """
 import re
 from dataclasses import dataclass, field
@@ -132,7 +133,7 @@ class Reader:
 
     def cite_of(self, target, name):
         if target.file:
-            if not re.search(rf"def {re.escape(name)}\b", target.file.read_text()):
+            if not has_test(target.file, name):
                 self.fault(f"{target.said} has no test {name}")
         elif target.functions:
             if not any(name in function.clauses | function.conditions for function in target.functions):
@@ -158,6 +159,12 @@ class Reader:
         if not (self.root / said.split()[0].rstrip("/")).exists():
             self.fault(f"there is no file {said}")
         return 1
+
+
+def has_test(path, name):
+    """Whether a file has a test of that name."""
+    head = r"#\[test\]\s+fn" if path.suffix == ".rt" else "def"
+    return bool(re.search(rf"{head} {re.escape(name)}\b", path.read_text()))
 
 
 def anchors(text):

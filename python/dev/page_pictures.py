@@ -1,4 +1,4 @@
-"""Makes the pictures of docs/PAGE.md anew, in a headless Chromium: python3 python/dev/page_pictures.py PROGRAM"""
+"""Makes the pictures of docs/user/PAGE.md anew, in a headless Chromium: python3 python/dev/page_pictures.py PROGRAM"""
 
 import subprocess
 import sys

@@ -19,6 +19,15 @@ SVG = "{http://www.w3.org/2000/svg}"
 LINE = re.compile(r"^(M[-0-9. ]+([LHVhv][-0-9. ]+|Z)+)+$")
 
 
+def ends_of(paths):
+    """The least and the greatest x of paths of lines to the right, absolute or relative."""
+    found = []
+    for sign, words in re.findall("([MLHhl])([-0-9. ]+)", " ".join(paths)):
+        number = float(words.split()[0])
+        found.append(number if sign in "MLH" else found[-1] + number)
+    return min(found), max(found)
+
+
 class Drawn(Case):
     H = (
         "@stboundedby,local,{},0 0,1 1,2020-01-01T00:00:00+01:00,2020-01-02T00:00:00Z,{}\n"
@@ -172,7 +181,7 @@ class Pictures(Drawn):
 
     def test_a_question_by_its_number(self):
         self.write("a", self.H.format("2D", "sec") + "x,0,10,0 0 1 1,q\ny,0,10,0 1 1 0,q\n")
-        ask = "0 0 1 1 2020-01-01T00:00:00Z 2020-01-02T00:00:00Z"
+        ask = "0 0 1 1 2019-12-31T23:00:00Z 2020-01-02T00:00:00Z"
         self.write("s", f"load a\n# who?\nfeatures ever {ask}\n\nlegs  enters {ask}\nlegs x\n")
         self.write("b", "ok 1\n2,2,2\nok 2\nx\ny\nok 1\ny,0,10,0 1 1 0,q\nrefused Q3\n")
         words = ["a", "--answer", "b", "--script", "s", "--question"]
@@ -185,6 +194,22 @@ class Pictures(Drawn):
             self.assertIn("box", [it.get("class") for it in whole.iter()])
         said = self.ends("draw", *words, "5", "-o", "c", status=1)
         self.assertEqual(said, "draw: there is no answer 5; there are 4\n")
+
+    def test_a_track_is_cut_to_the_period_of_its_question(self):
+        # x goes from 0 to 40 in forty seconds, and the question is of the seconds from 12 to 25.
+        head = self.H.format("2D", "sec").replace("+01:00", "Z")
+        self.write("a", head + "".join(f"x,{at},{at + 10},{at} 0 {at + 10} 0,q\n" for at in range(0, 40, 10)))
+        self.write("s", "load a\nfeatures ever 0 -1 40 1 2020-01-01T00:00:12Z 2020-01-01T00:00:25Z\n")
+        self.write("b", "ok 1\n4,4,1\nok 1\nx\n")
+        words = ["a", "--answer", "b", "--script", "s", "--question", "2", "--view", "0", "-20", "40", "20"]
+        # The plot is as wide as 40 units: the ink goes from 12 to 25.
+        for more, first, last in [([], 12, 25), (["--whole"], 0, 40)]:
+            whole, _ = self.draw(*words, *more)
+            paths = [path.get("d") for path in whole.iter(SVG + "path") if path.get("class") == "ink"]
+            wide = float(next(whole.iter(SVG + "clipPath")).find(SVG + "rect").get("width"))
+            begin, end = ends_of(paths)
+            self.assertAlmostEqual(begin / wide * 40, first, delta=0.1)
+            self.assertAlmostEqual(end / wide * 40, last, delta=0.1)
 
     def test_the_base_is_that_of_the_store(self):
         """The store took the second file first; its base is its start, not the first file's."""

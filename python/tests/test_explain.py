@@ -599,3 +599,4 @@ class Explained(Case):
         self.assertEqual(self.shown("run", "-q", "store", "script.txt"), (answer, ""))
         _, shown = self.shown("check", "absent")
         self.assertIn("there was no file absent: an empty one was made", shown)
+        self.assertEqual(self.shown("check", "-q", "other"), ("", "mftb: store malformed\r\n"))

@@ -18,9 +18,11 @@ test ! -e wrong
 """
 RT = """#!/bin/sh
 mkdir -p out
+echo "$*" >>../../builds
 printf '#!/bin/sh\\necho proved $*\\n' >out/mftb
 chmod +x out/mftb
 """
+AVX2 = "flags : fpu abm avx avx2 bmi1 bmi2 f16c fma movbe\n"
 
 
 class Answering(unittest.TestCase):
@@ -43,11 +45,12 @@ class Answering(unittest.TestCase):
         for path in (self.source, self.root / "crates.txt"):
             os.utime(path, (time.time() + seconds,) * 2)
 
-    def answer(self, proof=None):
+    def answer(self, proof=None, words=("a", "b")):
         about = {key: it for key, it in os.environ.items() if key != "MFTB_PROOF"}
         about["PATH"] = f"{self.root / 'bin'}:{about['PATH']}"
+        about["MFTB_CPUINFO"] = str(self.root / "cpuinfo")
         about |= {"MFTB_PROOF": proof} if proof else {}
-        return subprocess.run([self.root / "mftb", "a", "b"], env=about, capture_output=True, text=True)
+        return subprocess.run([self.root / "mftb", *words], env=about, capture_output=True, text=True)
 
     def proofs(self):
         begun = self.root / "proofs"
@@ -107,3 +110,21 @@ class Answering(unittest.TestCase):
         self.alter(5)
         self.answer("wait")
         self.assertEqual(self.proofs(), 2)
+
+    def test_the_build_is_for_the_processor_and_says_which(self):
+        (self.root / "cpuinfo").write_text(AVX2)
+        self.answer("wait")
+        self.assertEqual((self.root / "builds").read_text(), "run --cpu=x86-64-v3 -- --help\n")
+        ended = self.answer("wait", ["--version"])
+        self.assertEqual(ended.stdout, "proved --version\n")
+        self.assertEqual(ended.stderr, "mftb: proved; built for processors with AVX2\n")
+
+    def test_a_lesser_processor_is_told_so_and_gets_a_build_of_its_own(self):
+        (self.root / "cpuinfo").write_text(AVX2)
+        self.answer("wait")
+        (self.root / "cpuinfo").write_text("flags : fpu avx\n")
+        ended = self.answer("wait")
+        self.assertEqual(ended.stdout, "proved a b\n")
+        self.assertIn("built for processors with AVX2, and this one has none", ended.stderr)
+        self.assertEqual((self.root / "builds").read_text().splitlines()[1], "run -- --help")
+        self.assertEqual(self.answer("wait", ["--version"]).stderr, "mftb: proved; built for all x86-64 processors\n")

@@ -13,7 +13,7 @@ from mftb.page.data import Head, Legs
 from mftb.page.reading import Period
 from mftb.texts import Refused
 
-# What `write` answers to the example of docs/SCRIPT.md.
+# What `write` answers to the example of docs/user/SCRIPT.md.
 WRITTEN = """ok 7
 @stboundedby,urn:x-ogc:def:crs:EPSG:6.6:4326,2D,10 1,12 3,2012-01-17T12:33:41.000Z,2012-01-17T12:36:51.000Z,sec
 @columns,mfidref,trajectory,state,xsd:token,type code,xsd:integer

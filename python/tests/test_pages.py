@@ -10,7 +10,7 @@ COMMAND = re.compile(
     r"^    ((?:cd |grep |printf |echo |\.\./\.\./\.\./(?:tools/|mftb )).*|for (?:.*\n)+?    done)$", re.M
 )
 # Pages whose commands are run.
-PAGES = [*(ROOT / "docs" / "user" / f"{name}.md" for name in ("START", "FEEDS")), ROOT / "docs" / "DAILY.md"]
+PAGES = [ROOT / "docs" / "user" / f"{name}.md" for name in ("START", "FEEDS", "DAILY")]
 # What needs answers of the program.
 ASKS = re.compile(r"^\.\./\.\./\.\./mftb|/table|/daily|--store|--answer found")
 

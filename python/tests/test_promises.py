@@ -41,9 +41,28 @@ fn it_is_so(rt: HostRuntime) {
 PAGE = """\
 # Promises
 
-- The first is so | `low::first`: `value`; `Thing::second` (its clause) | proved
-- It is shown | `low::tests`: `it_is_so` | tested
-- A wrong body | `low`: `wrong-body` | refused
+- The first is so (`low::first`: `value`; `Thing::second` (its clause)).
+- It is shown (`low::tests`: `it_is_so`).
+- A wrong body (`low`: `wrong-body`).
+
+## What is trusted
+
+| What | By whom |
+|---|---|
+| The kit | you |
+
+## What is only tested
+
+| What | Test |
+|---|---|
+| It is so | `crates/low/src/tests.rt`: `it_is_so` |
+| All of it | `tools/all`, by hand |
+
+## Errors
+
+| Call | Error |
+|---|---|
+| `first` | none |
 """
 OWN = """\
 # low
@@ -114,11 +133,12 @@ TOPS = {
     "crates/trajdb/README.md": "# trajdb\n",
 }
 FILES = {
-    "README.md": "# It\n\nSee [the promises](docs/PROMISES.md#promises) and `crates/low/src/lib.rt`.\n",
+    "README.md": "# It\n\nSee [the promises](docs/proof/PROMISES.md#promises) and `crates/low/src/lib.rt`.\n",
     "CONTRIBUTING.md": "# Picking it up\n",
-    "docs/PROMISES.md": PAGE,
+    "docs/proof/PROMISES.md": PAGE,
     "docs/proof/THEOREM.md": "# The theorem\n",
     "crates/low/README.md": OWN,
+    "tools/all": "#!/bin/sh\n",
     "crates/low/src/lib.rt": SOURCE,
     "crates/low/src/tests.rt": TESTS,
     "crates/low/must-fail/wrong-body.edit": "file: src/lib.rt\n",
@@ -157,7 +177,7 @@ class Promises(Case):
 
     def page(self, old, new):
         self.assertIn(old, PAGE)
-        return self.said(**{"docs/PROMISES.md": PAGE.replace(old, new)})
+        return self.said(**{"docs/proof/PROMISES.md": PAGE.replace(old, new)})
 
     def made(self, name):
         return (self.folder / "docs" / name).read_text()
@@ -167,19 +187,36 @@ class Promises(Case):
 
     def test_a_clause_that_is_not_there(self):
         said = self.page("`low::first`: `value`", "`low::first`: `value`, `valve`")
-        self.assertEqual(said, ["docs/PROMISES.md:3: low::first has no clause valve"])
+        self.assertEqual(said, ["docs/proof/PROMISES.md:3: low::first has no clause valve"])
 
     def test_a_function_that_is_not_there_and_where_one_is(self):
         said = self.page("`low::first`: `value`;", "`low::second`: `value`; `low::first`: `value`;")
-        self.assertEqual(said, ["docs/PROMISES.md:3: there is no low::second; there is low::Thing::second"])
+        self.assertEqual(said, ["docs/proof/PROMISES.md:3: there is no low::second; there is low::Thing::second"])
 
     def test_a_test_that_is_not_there(self):
-        said = self.page("`it_is_so`", "`it_is_not_so`")
-        self.assertEqual(said, ["docs/PROMISES.md:4: low::tests has no it_is_not_so"])
+        said = self.page("`low::tests`: `it_is_so`", "`low::tests`: `it_is_not_so`")
+        self.assertEqual(said, ["docs/proof/PROMISES.md:4: low::tests has no it_is_not_so"])
+
+    def test_what_is_only_tested_names_a_test(self):
+        told = "docs/proof/PROMISES.md:17: 'It is so' is said to be tested, and names no test"
+        for named in ("", "by hand", "`crates/low/src/tests.rt`", "`low::first`: `value`"):
+            self.assertEqual(self.page("`crates/low/src/tests.rt`: `it_is_so`", named), [told])
+
+    def test_what_is_only_tested_names_a_test_that_is_there(self):
+        said = self.page("`crates/low/src/tests.rt`: `it_is_so`", "`crates/low/src/lib.rt`: `first`")
+        self.assertEqual(said, ["docs/proof/PROMISES.md:17: crates/low/src/lib.rt has no test first"])
+        said = self.page("`crates/low/src/tests.rt`", "`crates/low/src/tosts.rt`")
+        self.assertEqual(said, ["docs/proof/PROMISES.md:17: there is no file crates/low/src/tosts.rt"])
+        said = self.page("`tools/all`", "`tools/none`")
+        self.assertEqual(said, ["docs/proof/PROMISES.md:18: there is no file tools/none"])
+
+    def test_a_page_without_that_table(self):
+        said = self.page("## What is only tested", "## What is tested")
+        self.assertEqual(said, ["docs/proof/PROMISES.md:0: has no table of what is only tested"])
 
     def test_an_edit_that_is_not_there(self):
         said = self.page("`wrong-body`", "`wronger-body`")
-        self.assertEqual(said, ["docs/PROMISES.md:5: low has no must-fail edit wronger-body"])
+        self.assertEqual(said, ["docs/proof/PROMISES.md:5: low has no must-fail edit wronger-body"])
 
     def test_a_crate_without_a_page(self):
         (self.folder / "crates" / "high" / "src").mkdir(parents=True)
@@ -198,13 +235,13 @@ class Promises(Case):
         self.assertEqual(self.said(**{"crates/low/README.md": OWN.replace("let a = first(3);", apart)}), [])
 
     def test_a_file_and_a_link_that_are_not_there(self):
-        text = "# It\n\nSee `crates/low/src/tost.rt`, [them](docs/PROMISES.md#none)\nand [it](docs/NONE.md).\n"
+        text = "# It\n\nSee `crates/low/src/tost.rt`, [them](docs/proof/PROMISES.md#none)\nand [it](docs/NONE.md).\n"
         said = self.said(**{"README.md": text})
         self.assertEqual(
             said,
             [
                 "README.md:3: there is no file crates/low/src/tost.rt",
-                "README.md:3: docs/PROMISES.md has no heading none",
+                "README.md:3: docs/proof/PROMISES.md has no heading none",
                 "README.md:4: the link docs/NONE.md leads nowhere",
             ],
         )
@@ -293,6 +330,14 @@ class Promises(Case):
 
 
 class Words(Case):
+    def gate(self, *texts):
+        """The status and the last lines, of pages of these texts alone."""
+        for number, text in enumerate(texts):
+            self.write(f"page{number}.md", text)
+        ended = run("words", "--gate", str(self.folder), folder=self.folder)
+        _, _, said = ended.stdout.partition("in all\n")
+        return ended.returncode, said.replace(f"{self.folder}/", "")
+
     def test_words_and_long_sentences(self):
         long = "This " + "goes on " * 13 + "far.\n"
         ended = run("words", str(ROOT / "CONTRIBUTING.md"), folder=self.folder)
@@ -307,3 +352,20 @@ class Words(Case):
             ],
             [3, 3, 3],
         )
+
+    def test_the_gate_passes_pages_at_its_limits(self):
+        long = "It is " + "so " * 38 + "\n\nNo more.\n\nNor less.\n"
+        self.assertEqual(self.gate(long, "w " * 18 + "\n"), (0, "short enough\n"))
+
+    def test_the_gate_names_a_long_sentence_and_a_long_mean(self):
+        status, said = self.gate("It is so.\n\nIt is " + "so " * 39 + "\n", "w " * 19 + "\n")
+        self.assertEqual(status, 1)
+        told = ["page0.md has a mean of 22.0 words", "page1.md has a mean of 19.0 words", "page0.md:3 has 41 words"]
+        self.assertEqual(said.splitlines(), [*told, "too long: 3 faults"])
+
+    def test_the_gate_counts_all_pages_together(self):
+        text = "Two words.\n\n" * 8000
+        self.assertEqual(self.gate(text, text), (0, "short enough\n"))
+        status, said = self.gate(text, text + "More.\n")
+        self.assertEqual(status, 1)
+        self.assertEqual(said, "all pages have 32001 words, and at most 32000 may be\ntoo long: 1 faults\n")

@@ -1,4 +1,4 @@
-"""docs/PYTHON.md: its code runs as it stands, and its table names what is there."""
+"""docs/user/PYTHON.md: its code runs as it stands, and its table names what is there."""
 import contextlib
 import importlib.util
 import io
@@ -12,7 +12,7 @@ from unittest import mock
 import mftb
 from common import BUILT, FEEDS, ROOT, Case, has_info
 
-PAGE = (ROOT / "docs" / "PYTHON.md").read_text()
+PAGE = (ROOT / "docs" / "user" / "PYTHON.md").read_text()
 
 
 class Page(Case):

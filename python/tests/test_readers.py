@@ -39,6 +39,32 @@ class Readers(Case):
         made = self.made("from_ais", self.write("a", text.replace("\n", "\r\n")))
         self.assertEqual(made.splitlines()[2:], ["1,0,1,2 1 2 1"])
 
+    def test_several_jobs_make_the_same_of_the_same_lines(self):
+        chance, lines = random.Random(4), []
+        for n in range(35_000):
+            second, name = n // 10, chance.choice(["SHIP", '"A, B"', "", '"A\nB"' if n % 900 == 0 else "X"])
+            place = chance.choice(["91,181", "north,1"]) if n % 500 == 0 else f"{n % 50 / 7000:.5f},{n % 90 / 7000:.5f}"
+            clock = f"2024-06-03T{second // 3600:02}:{second // 60 % 60:02}:{second % 60:02}"
+            lines.append(f"{n % 10},{clock},{place},0,{name}\n")
+        # From the middle on a day is told again, so that features go back in time.
+        self.write("a", US + "".join(lines[:20_000] + lines[:9000] + lines[20_000:]))
+        self.write("b", US + "".join(lines))
+        words = ["--columns", "VesselName", "--skip-bad", "--max-speed", "off"]
+        said = self.ends("from_ais", *words, "a", "-o", "one", "--state", "ends")
+        self.assertEqual(self.ends("from_ais", *words, "--jobs", "3", "a", "-o", "three"), said)
+        self.assertEqual(self.read("three"), self.read("one"))
+        self.assertIn("goes back in time", said)
+        later = [*words, "--after", "ends", "--from", "2024-06-03T00:10:00Z", "b"]
+        said = self.ends("from_ais", *later, status=1)
+        self.assertIn("already loaded?", said)
+        self.assertEqual(self.ends("from_ais", *later, "--jobs", "2", status=1), said)
+
+    def test_what_stops_several_jobs_is_said_with_its_line(self):
+        self.write("a", US + "1,2024-06-03T09:00:00,1,2,0,A\n" * 12_000 + "1,today,1,2,0,A\n")
+        said = self.ends("from_ais", "--jobs", "2", "a", status=1)
+        self.assertIn("a line 12002: BaseDateTime 'today' is no instant", said)
+        self.assertIn("from 1 to 256", self.ends("from_ais", "--jobs", "0", "a", status=2))
+
     def test_line_ends_within_a_value(self):
         text = US + '1,2024-06-03T09:00:00,1,2,0,"A\rB"\n1,2024-06-03T09:00:01,1,2,0,"A\nB"\n'
         made = self.made_bytes("from_ais", "--columns", "VesselName", self.write("a", text))

@@ -13,7 +13,7 @@ class Walk(Case):
     @unittest.skipUnless(BUILT.exists(), "tools/unproved has made no build yet")
     def test_the_walk_prints_what_the_page_says(self):
         text = (ROOT / "README.md").read_text()
-        commands = re.search(r"(?:^    .*\n)+", text, flags=re.M)[0]
+        commands = re.search(r"^    mkdir walk(?:.*\n    )*.*\n", text, flags=re.M)[0]
         (self.folder / "mftb").symlink_to(ROOT / "mftb")
         about = {**os.environ, "MFTB_PROOF": "none"}
         ended = subprocess.run(["bash", "-euc", commands], cwd=self.folder, capture_output=True, text=True, env=about)

@@ -105,7 +105,7 @@ class Errors(Case):
 
 @unittest.skipUnless(has_info(), "tools/unproved has made no build yet")
 class Standard(Case):
-    """The example of the standard, whose answers docs/SCRIPT.md and the manual pages work out."""
+    """The example of the standard, whose answers docs/user/SCRIPT.md and the manual pages work out."""
 
     @classmethod
     def setUpClass(cls):

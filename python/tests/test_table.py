@@ -63,9 +63,16 @@ class Tables(Case):
         self.assertEqual(features[2]["properties"]["gear"], "down")
         self.assertNotIn("x0", features[0]["properties"])
 
+    def test_a_track_has_the_legs_of_the_period(self):
+        ask = "features ever 0 0 11 10 2024-06-03T09:00:12Z 2024-06-03T09:00:15Z"
+        self.table("store", "script", "day.csv", status=3)
+        for words, places in ([], [[10, 0], [10, 5]]), (["--whole"], [[0, 0], [10, 0], [10, 5]]):
+            text = self.table("store", "--ask", ask, "--format", "geojson", *words)
+            self.assertEqual(json.loads(text)["features"][0]["geometry"]["coordinates"], places)
+
     def test_wkt_and_a_file_a_question(self):
         self.table("store", "script", "day.csv", "--format", "wkt", "--split", "all", status=3)
-        names, first, *_ = csv.reader((self.folder / "all" / "question-3.csv").open())
+        names, first, *_ = csv.reader(io.StringIO(self.read("all/question-3.csv")))
         self.assertEqual(names[5:], ["wkt", "speed", "gear"])
         self.assertEqual(first[5], "LINESTRING (0 0, 10 0)")
         self.assertEqual(

@@ -15,6 +15,7 @@ of_cache (cache.Damaged n) = index.Damaged n
 of_cache cache.StoreFull = index.StoreFull
 of_cache cache.Memory = index.Memory
 
+-- how an index reports a fault of its tree: a malformed page is damaged
 abbrev pub of_tree : TreeFault → IndexFault
 of_tree (tree.Cache fault) = of_cache fault
 of_tree (tree.Malformed n) = index.Damaged n

@@ -45,6 +45,7 @@ abbrev pub tells : IndexView → Question → List LegView → Type 0
 tells i question legs =
     IsTrue i.cache.store.is_faithful → Tells (pages_of_cache i.cache) i.tree i.places question legs
 
+-- the page at which its pages do not answer a question; any page where its store is not faithful
 abbrev pub denies : IndexView → Question → ℕ → Type 0
 denies i question page =
     IsTrue i.cache.store.is_faithful → Denies (pages_of_cache i.cache) i.tree i.places question page

@@ -18,6 +18,7 @@ abbrev pub open_with : List Open → ℕ → ℕ → List Open
 open_with ends feature made =
     if feature == length ends then ends ++ record { filled = 0; leaf = made } ∷ [] else ends
 
+-- the last leaf of a feature; of a new one, a leaf with that number and no leg
 abbrev pub open_at : List Open → ℕ → ℕ → Open
 open_at ends feature made =
     slice_index_or (open_with ends feature made) feature (record { filled = 0; leaf = made })

@@ -154,6 +154,7 @@ pub fn search<S: PageStore>(
         → (legs : List LegView) (pages : ℕ → List ℕ)
         → Stands (pages_of_cache cache.old) tree.now legs pages
         → GivesRead result (λ found. found.items ≡ legs_in_box query.now legs) }
+    // Over such pages it asks once for the root, and once for each other block whose box meets.
     ensures asked { IsTrue cache.old.store.is_faithful
         → (legs : List LegView) (pages : ℕ → List ℕ)
         → Stands (pages_of_cache cache.old) tree.now legs pages
@@ -167,17 +168,23 @@ pub fn search<S: PageStore>(
     ensures met { IsTrue cache.old.store.is_faithful
         → IfOk result (λ found. IsInOrder (legs_met leg_boxes (meets query.now)
         (pages_of_cache cache.old) tree.now.root tree.now.levels) found.items) }
+    // Legs of one ordinal come in the order in which their pages are met.
     ensures stable { IsTrue cache.old.store.is_faithful
         → IfOk result (λ found. found.items ≡ stable_by_ordinal (legs_met leg_boxes
         (meets query.now) (pages_of_cache cache.old) tree.now.root tree.now.levels)) }
+    // It succeeds only if every page that it meets is what the tree expects there.
     ensures way { IsTrue cache.old.store.is_faithful
         → OnOk result (IsWay query.now (pages_of_cache cache.old) tree.now.root tree.now.levels) }
+    // If every page is, it fails only if memory runs out or the store fails.
     ensures only { tree.now.spent ≡ false → IsTrue cache.old.store.is_faithful
         → IsWay query.now (pages_of_cache cache.old) tree.now.root tree.now.levels
         → IfErr result MayRefuseRead }
+    // A page that is named is the first that is not what the tree expects, or the first beyond the
+    // count.
     ensures named { IsTrue cache.old.store.is_faithful
         → IfErr result (IfNamed (IsOffWay query.now (pages_of_cache cache.old) tree.now.root
         tree.now.levels)) }
+    // Over any pages a search that succeeds asks once for each page that it meets.
     ensures met_asked { IsTrue cache.old.store.is_faithful
         → OnOk result (RisesBy cache.old.asked cache.new.asked
         (met_count (meets query.now) (pages_of_cache cache.old) tree.now.root tree.now.levels)) }
@@ -185,8 +192,12 @@ pub fn search<S: PageStore>(
     // Over any store.
     ensures spent { tree.now.spent ≡ true
         → (result ≡ Err TreeFault.Spent) × (cache.new ≡ cache.old) }
+    // No payload changes, and no page more is changed or written.
     ensures reads { OnlyReads cache.old cache.new }
+    // `Store` is returned only if the store failed, and a page that is called damaged has no
+    // payload.
     ensures caused { tree.now.spent ≡ false → IfErr result (RefusesRead cache.old cache.new) }
+    // It asks for no more pages than there are.
     ensures most { cache.new.asked ≤ cache.old.asked + cache.old.count }
 {
     if tree.spent {

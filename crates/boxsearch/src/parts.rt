@@ -78,7 +78,9 @@ impl<S: PageStore> TreeIndex<S> {
 
     /// Gives the places away, for as long as its cache is lent to who needs both; `put_places` brings them back.
     pub fn take_places(&mut self) -> Vec<Place>
+        // It returns the places of all features.
         ensures taken { result.items ≡ self.old.places }
+        // Until they come back the index has no place, and knows no leaf's span.
         ensures rest { self.new ≡ record self.old { places = []; known = [] } }
     {
         self.known = Vec::new(self.alloc);
@@ -95,7 +97,10 @@ impl<S: PageStore> TreeIndex<S> {
 
     /// The cache of its pages, for what is kept in pages beside those of the tree.
     pub fn cache_mut(&mut self) -> &mut PageCache<S>
+        // What is done to the cache is done to the index's cache. What was known of leaves' spans
+        // is forgotten.
         ensures* lends { sem 𝓛 (LendsCache S.row S.PageStore self.entry result) }
+        // It is the index's cache, as it is now.
         ensures value { result.now ≡ self.old.cache }
     {
         self.known = Vec::new(self.alloc);
@@ -105,8 +110,10 @@ impl<S: PageStore> TreeIndex<S> {
 
 /// What holds of an index beside whose tree pages are written, for the proofs of a caller. It does nothing.
 pub fn laws()
+    // If the tree's pages say what they said, the index has the same legs.
     ensures content { (index : IndexView) (cache : Cache) (known : List (List LeafSpan))
         → IsBeside index.cache cache → content (with_cache index cache known) ≡ content index }
+    // If the tree's pages say what they said, a sound index stays sound.
     ensures sound { (index : IndexView) (cache : Cache) (known : List (List LeafSpan))
         → IsBeside index.cache cache → IsSound index → IsSound (with_cache index cache known) }
 
@@ -126,14 +133,17 @@ pub fn laws()
 
     // There is a page 0, which has a payload.
     ensures some_page { (index : IndexView) → IsSound index → 0 < index.cache.count }
+    // That page has a payload.
     ensures page_0 { (index : IndexView) → IsSound index → payload_of index.cache 0 ≢ None }
 
     // The numbers of an index are those of its pages, and each place counts the legs of its feature.
     ensures bounds { (index : IndexView) → IsSound index
         → length (content index) ≤ 2 ^ 31 → IsBounded index }
+    // The place of a feature counts the feature's legs.
     ensures counts { (index : IndexView) → IsSound index → (feature : ℕ) (place : Place)
         → slice_get index.places feature ≡ Some place
         → place.legs ≡ count_by (is_of feature) (content index) }
+    // The places together count all legs.
     ensures total { (index : IndexView) → IsSound index
         → sum_by (λ (place : Place). place.legs) index.places ≡ length (content index) }
 {

@@ -76,8 +76,11 @@ impl<S: PageStore> TreeIndex<S> {
     /// An index without legs over the pages of a cache. It is sound where the store is faithful, has a page 0, all its
     /// pages are sealed, and the cache counts all of them.
     pub fn new(alloc: Global, cache: PageCache<S>, shape: Shape) -> TreeIndex<S>
+        // It has this cache, a tree without pages, and no place.
         ensures value { result ≡ new_index cache shape }
+        // It has no legs.
         ensures empty { content result ≡ [] }
+        // It is sound over a faithful store with a page 0, if all pages are sealed and counted.
         ensures sound { IsTrue cache.store.is_faithful → 0 < cache.count
             → AreHeld (pages_of_cache cache) → cache.count ≡ cache.store.count → IsSound result }
     {
@@ -97,7 +100,10 @@ impl<S: PageStore> TreeIndex<S> {
     ///
     /// Refused are a spent index, and what the cache refuses.
     pub fn mark(&mut self) -> Result<(), IndexFault>
+        // The legs stay. After `Ok` page 0 of a faithful store, as written, says that it is not
+        // finished. Where no page was changed, an error has written none but page 0.
         ensures starts { Starts words self.old self.new result }
+        // A sound index fails only if memory runs out or the store fails, and a spent one always.
         ensures refusals { Refusals words self.old self.new result }
 
         // Page 0 as written says that the store is not finished.
@@ -116,16 +122,23 @@ impl<S: PageStore> TreeIndex<S> {
     ///
     /// Refused are a spent index, want of memory, and a store that fails.
     pub fn flush(&mut self) -> Result<(), IndexFault>
+        // After `Ok` no page is changed, and the store's pages seal the payloads.
         ensures written { OnOk result (IsWritten self.new.cache) }
+        // After `Ok` every page is synced, and no sync of the store ever failed.
         ensures synced { OnOk result (IsSynced self.new.cache.store) }
 
         // Nothing else changes.
         ensures same { self.new ≡ with_cache self.old self.new.cache self.new.known }
+        // No payload changes, and no page that was not changed is written.
         ensures reads { OnlyReads self.old.cache self.new.cache }
+        // The index tells the same legs, sound where it was, and spent where it was.
         ensures leaves { Leaves words self.old self.new }
+        // No page is asked for.
         ensures asked { self.new.cache.asked ≡ self.old.cache.asked }
 
+        // A sound index fails only if memory runs out or the store fails, and a spent one always.
         ensures refusals { Refusals words self.old self.new result }
+        // An index that is not spent fails only if memory runs out or the store fails.
         ensures works { IfErr result (λ fault. self.old.tree.spent ≡ false → MayRefuse fault) }
     {
         if self.tree.spent {
@@ -137,7 +150,9 @@ impl<S: PageStore> TreeIndex<S> {
 
     /// How many pages its cache counts.
     pub fn page_count(&self) -> u32
+        // It is the cache's count of pages.
         ensures value { result ≡ self.now.cache.count }
+        // A page that is not changed has the payload that the page as written seals.
         ensures settled { IsSettled self.now.cache }
     {
         self.cache.count()

@@ -186,8 +186,11 @@ pub fn close<S: PageStore>(
         ⊎ HoldsIndexButFirst (S.seen result.0) catalogue.now index) }
     ensures ordered { OnErr result.1 (IsMarked index.cache
         → IsUnfinishedStore (S.seen result.0) ⊎ IsSyncedButFirst (S.seen result.0)) }
+    // It is the same store, and its count of faults did not fall.
     ensures keeps { Keeps index.cache.store (S.seen result.0) }
+    // It has no more pages than it may, and fewer than 2^32.
     ensures lawful { IsLawful (S.seen result.0) }
+    // `Store` is returned only if the store failed, and `StoreFull` only if it is full.
     ensures caused { IfErr result.1 (IsClosingFault index.cache.store (S.seen result.0)) }
 {
     let result = save_and_finish(alloc, catalogue, &mut index);
@@ -200,8 +203,11 @@ pub fn close<S: PageStore>(
 
 /// The store of an index that is at rest, as it stands; nothing is written.
 pub fn rest<S: PageStore>(index: TreeIndex<S>) -> S
+    // It is the store below the cache, as it stands.
     ensures store { S.seen result ≡ index.cache.store }
+    // It has no more pages than it may, and fewer than 2^32.
     ensures lawful { IsLawful index.cache.store }
+    // A page that is not changed has the payload that the page as written seals.
     ensures settled { IsSettled index.cache }
 {
     let cache = index.into_cache();

@@ -71,14 +71,18 @@ pub fn open<S: PageStore>(
     store: S,
     cache_pages: usize,
 ) -> Result<(Catalogue, TreeIndex<S>), (S, CatalogueFault)>
+    // The cache has room for a page.
     requires { 0 < cache_pages }
+    // Over a faithful store the index is at rest: its pages as written keep this catalogue.
     ensures rest { IfOk result (λ r. IsTrue (S.seen store).is_faithful → IsAtRest r.0 r.1) }
+    // Its cache holds at most that many pages.
     ensures capacity { IfOk result (λ r. r.1.cache.capacity ≡ cache_pages) }
 
     // A store whose pages hold a book is opened, and gives that book.
     ensures book { IfOk result (λ r. IsTrue (S.seen store).is_faithful
         → (shape : ShapeView) (limits : LimitsView) (book : Book)
         → HoldsBook (S.seen store) shape limits book → AnswersBook shape limits book r.0 r.1) }
+    // A store that holds a book is refused only if memory runs out or the store fails.
     ensures holds { IfErr result (λ back. IsTrue (S.seen store).is_faithful
         → (shape : ShapeView) (limits : LimitsView) (book : Book)
         → HoldsBook (S.seen store) shape limits book → IsStop back.1) }
@@ -92,12 +96,15 @@ pub fn open<S: PageStore>(
     // Page 0 comes first.
     ensures first { IfErr result (λ back. IsTrue (S.seen store).is_faithful
         → ComesFirst (first_fault (S.seen store).count (stored_payload (S.seen store) 0)) back.1) }
+    // A faithful store that is opened has a page 0 without a fault.
     ensures finished { IfOk result (λ r. IsTrue (S.seen store).is_faithful
         → first_fault (S.seen store).count (stored_payload (S.seen store) 0) ≡ None) }
 
     // The store stays as it is.
     ensures stored { IfOk result (λ r. Stays (S.seen store) r.1.cache.store) }
+    // A store that is handed back is as it was.
     ensures back { IfErr result (λ back. Stays (S.seen store) (S.seen back.0)) }
+    // `Store` is returned only if the store failed, and `StoreFull` never.
     ensures caused { IfErr result (λ back. IsReadingFault (S.seen store) (S.seen back.0) back.1) }
 
     // A page that is said to be damaged is so, and is the first that is met; pages that are said to be

@@ -28,6 +28,7 @@ pub fn laws()
     ensures finished_state { (c : CatalogueView) (index : IndexView)
         → IsTrue index.cache.store.is_faithful → IsSettled index.cache → IsAtRest c index
         → SaysState false (payload_of index.cache 0) }
+    // If page 0 is marked, it is the header of an unfinished store.
     ensures marked_state { (cache : Cache) → IsSettled cache → IsMarked cache
         → SaysState true (payload_of cache 0) }
 
@@ -35,8 +36,10 @@ pub fn laws()
     // where it is opened.
     ensures marked { (cache : Cache) → IsMarked cache → cache.count ≡ cache.store.count
         → IsLawful cache.store → IsUnfinishedStore cache.store }
+    // An unfinished store has a page 0.
     ensures there { (s : Store) → IsUnfinishedStore s → IsTrue s.is_faithful → IsLawful s
         → 0 < s.count }
+    // Opening an unfinished store reports `Unfinished`.
     ensures unfinished { (s : Store) → IsUnfinishedStore s → 0 < s.count
         → first_fault s.count (stored_payload s 0) ≡ Some CatalogueFault.Unfinished }
 {

@@ -27,23 +27,34 @@ pub fn save<S: PageStore>(
     catalogue: &Catalogue,
     index: &mut TreeIndex<S>,
 ) -> Result<(), CatalogueFault>
+    // Nothing of the index changes but its cache, and what it knows of leaves.
     ensures same { index.new ≡ with_cache index.old index.new.cache index.new.known }
+    // Page 0 and a chain of pages then say exactly this catalogue, the tree and the places.
     ensures saved { OnOk result (IsTrue index.old.cache.store.is_faithful
         → Says (payload_of index.new.cache) index.new.cache.count catalogue.now index.new.tree
         index.new.places) }
+    // If there are few enough features and rows, each row with all its values, everything fits into
+    // the text.
     ensures whole { OnOk result (IsCatalogue catalogue.now
         → IsWhole (contents_of catalogue.now index.new.places)) }
+    // Page 0 begins as it did: finished or not.
     ensures front { OnOk result (IsTrue index.old.cache.store.is_faithful
         → 0 < index.old.cache.count → KeepsFront index.old.cache index.new.cache) }
+    // After an error page 0 has the payload that it had.
     ensures first { OnErr result (IsTrue index.old.cache.store.is_faithful
         → 0 < index.old.cache.count → payload_of index.new.cache 0 ≡ payload_of index.old.cache 0) }
+    // If page 0 was not changed, it is as it was written.
     ensures first_written { IsTrue index.old.cache.store.is_faithful → 0 < index.old.cache.count
         → is_changed index.old.cache 0 ≡ false
         → page_of index.new.cache 0 ≡ page_of index.old.cache 0 }
+    // After an error page 0 is not changed, unless it was.
     ensures first_unmarked { OnErr result (0 < index.old.cache.count
         → is_changed index.old.cache 0 ≡ false → is_changed index.new.cache 0 ≡ false) }
+    // It succeeds only if there is a page 0.
     ensures some { OnOk result (0 < index.old.cache.count) }
+    // The cache is the same one, no page goes, and no count falls.
     ensures later { Continues index.old.cache index.new.cache }
+    // The pages of the tree say what they said, on an error too.
     ensures tree { SparesTree index.old.cache index.new.cache }
     ensures others { SparesOthers index.old.cache index.new.cache }
     ensures unreadable { SparesUnreadable index.old.cache index.new.cache }
@@ -57,10 +68,16 @@ pub fn save<S: PageStore>(
         → HasNoRoom index.old.cache.count index.old.cache.store.most
         (catalogue_text (contents_of catalogue.now index.new.places)) pages }
     ensures beside { OnOk result (IsBeside index.old.cache index.new.cache) }
+    // After `Ok` no page but page 0 is changed.
     ensures written { OnOk result (IsWrittenButFirst index.new.cache) }
+    // After `Ok` every page that was written is synced.
     ensures synced { OnOk result (NoneUnsynced index.new.cache.store) }
+    // After `Ok` the index has the same legs.
     ensures content { OnOk result (content index.new ≡ content index.old) }
+    // After `Ok` a sound index is sound.
     ensures sound { OnOk result (IsSound index.old → IsSound index.new) }
+    // With a page 0, and few features and rows, it fails only if memory runs out, or the store
+    // fails or is full.
     ensures only { HasFew catalogue.now → IsTrue index.old.cache.store.is_faithful
         → 0 < index.old.cache.count → payload_of index.old.cache 0 ≢ None
         → IfErr result IsSavingStop }

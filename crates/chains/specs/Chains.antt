@@ -18,12 +18,14 @@ legs_in (Some (Some (AnInner page))) = []
 legs_in (Some None) = []
 legs_in None = []
 
+-- the page of the leaf before a leaf; 0 for any other page
 abbrev pub previous_of : {L B : Type 0} → Option (Option (Node L B)) → ℕ
 previous_of (Some (Some (ALeaf leaf))) = leaf.previous
 previous_of (Some (Some (AnInner page))) = 0
 previous_of (Some None) = 0
 previous_of None = 0
 
+-- the feature of a leaf; 0 for any other page
 abbrev pub feature_of : {L B : Type 0} → Option (Option (Node L B)) → ℕ
 feature_of (Some (Some (ALeaf leaf))) = leaf.feature
 feature_of (Some (Some (AnInner page))) = 0
@@ -108,6 +110,7 @@ chain_fault nodes period shape feature place =
 abbrev pub chain_legs : Pages LegView BoxView → Option PeriodView → ShapeView → Place → List LegView
 chain_legs nodes period shape place = walk nodes period (div_ceil place.legs shape.leaf) place.last
 
+-- how many leaves of the chain are read
 abbrev pub chain_cost : Pages LegView BoxView → Option PeriodView → ShapeView → Place → ℕ
 chain_cost nodes period shape place =
     walked nodes period (div_ceil place.legs shape.leaf) place.last

@@ -35,11 +35,13 @@ pub record IsLiveAt (period : PeriodView) (legs : List LegView) (i : ℕ) : Type
   pub is : slice_get legs i ≡ Some leg
   pub live : is_live period leg ≡ true
 
+-- the first leg that is live in a period has that number, or no leg is live
 abbrev pub IsFirstLive : PeriodView → List LegView → Option ℕ → Type 0
 IsFirstLive period legs None = filter (is_live period) legs ≡ []
 IsFirstLive period legs (Some i) =
     IsLiveAt period legs i × (filter (is_live period) (take i legs) ≡ [])
 
+-- the last leg that is live in a period has that number, or no leg is live
 abbrev pub IsLastLive : PeriodView → List LegView → Option ℕ → Type 0
 IsLastLive period legs None = filter (is_live period) legs ≡ []
 IsLastLive period legs (Some i) =

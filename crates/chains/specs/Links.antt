@@ -32,6 +32,7 @@ abbrev pub is_placed : ℕ → ℕ → Spot → Bool
 is_placed previous page spot =
     cond (spot.before == 0) ((previous == 0) && (page == spot.first)) (not (previous == 0))
 
+-- whether a leaf's head and its count of legs are the chain's at that spot
 abbrev pub head_fits : LeafHead → ℕ → Link → Spot → Bool
 head_fits head count link spot =
     (head.feature == link.feature)
@@ -42,6 +43,7 @@ head_fits head count link spot =
 abbrev pub head_of : {L : Type 0} → LeafView L → LeafHead
 head_of leaf = record { feature = leaf.feature; previous = leaf.previous; next = leaf.next }
 
+-- whether a leaf is the chain's at that spot
 unfoldable pub fits : {L : Type 0} → LeafView L → Link → Spot → Bool
 fits leaf link spot = head_fits (head_of leaf) (length leaf.legs) link spot
 

@@ -172,6 +172,7 @@ pub fn trajectory<S: PageStore>(
     place: &Place,
     spans: &mut Vec<LeafSpan>,
 ) -> Result<Vec<Leg>, ChainFault>
+    // What the caller knows of the chain's last leaves is true.
     requires known { IsTrue cache.old.store.is_faithful
         → IsKnown (pages_of_cache cache.old) shape.now feature place.now spans.old.items }
 
@@ -179,6 +180,7 @@ pub fn trajectory<S: PageStore>(
     ensures found { IsTrue cache.old.store.is_faithful → (legs : List LegView)
         → HasFeature (pages_of_cache cache.old) shape.now place.now feature legs
         → GivesRead result (λ found. found.items ≡ legs_of feature legs) }
+    // Over such pages it asks once for each leaf of the feature.
     ensures asked { IsTrue cache.old.store.is_faithful → (legs : List LegView)
         → HasFeature (pages_of_cache cache.old) shape.now place.now feature legs
         → OnOk result (RisesBy cache.old.asked cache.new.asked
@@ -188,12 +190,15 @@ pub fn trajectory<S: PageStore>(
     // if not for want of memory or a store that failed.
     ensures chain { IsTrue cache.old.store.is_faithful
         → OnOk result (IsPlaceChain (pages_of_cache cache.old) None shape.now feature place.now) }
+    // It returns exactly the legs of that chain, in order.
     ensures legs { IsTrue cache.old.store.is_faithful
         → IfOk result (λ found. found.items
         ≡ chain_legs (pages_of_cache cache.old) None shape.now place.now) }
+    // If the pages are the chain, it fails only if memory runs out or the store fails.
     ensures only { IsTrue cache.old.store.is_faithful
         → IsPlaceChain (pages_of_cache cache.old) None shape.now feature place.now
         → IfErr result MayRefuseRead }
+    // If each page has a payload, no page is called damaged.
     ensures malformed { IsTrue cache.old.store.is_faithful
         → AreHeld (pages_of_cache cache.old) → IfErr result MayRefuseHeld }
 
@@ -202,9 +207,11 @@ pub fn trajectory<S: PageStore>(
     ensures whole { IsTrue cache.old.store.is_faithful
         → OnOk result (chain_fault (pages_of_cache cache.old) None shape.now feature place.now
         ≡ None) }
+    // A page that an error names is that first one.
     ensures named { IsTrue cache.old.store.is_faithful
         → IfErr result (IsNamed (pages_of_cache cache.old)
         (chain_fault (pages_of_cache cache.old) None shape.now feature place.now)) }
+    // It asks for at most one page for each leaf of the chain.
     ensures within { IsTrue cache.old.store.is_faithful
         → OnOk result (RisesAtMost cache.old.asked cache.new.asked
         (chain_cost (pages_of_cache cache.old) None shape.now place.now)) }
@@ -241,6 +248,7 @@ pub fn trajectory_in<S: PageStore>(
     sieve: &Sieve,
     spans: &mut Vec<LeafSpan>,
 ) -> Result<Vec<Leg>, ChainFault>
+    // What the caller knows of the chain's last leaves is true.
     requires known { IsTrue cache.old.store.is_faithful
         → IsKnown (pages_of_cache cache.old) shape.now feature place.now spans.old.items }
 
@@ -250,6 +258,8 @@ pub fn trajectory_in<S: PageStore>(
         → HasFeature (pages_of_cache cache.old) shape.now place.now feature legs
         → GivesRead result (λ found. IsSieved sieve.now period.now
         (live_legs_of feature period.now legs) found.items) }
+    // Over such pages it asks for at most one leaf more than those with a leg that ends
+    // no earlier than the period starts.
     ensures asked { IsTrue cache.old.store.is_faithful → (legs : List LegView)
         → HasFeature (pages_of_cache cache.old) shape.now place.now feature legs
         → OnOk result (RisesAtMost cache.old.asked cache.new.asked
@@ -260,13 +270,17 @@ pub fn trajectory_in<S: PageStore>(
     ensures chain { IsTrue cache.old.store.is_faithful
         → OnOk result (IsPlaceChain (pages_of_cache cache.old) (Some period.now) shape.now feature
         place.now) }
+    // Of the chain's legs that are live in the period, it returns those that the sieve keeps, and
+    // perhaps others.
     ensures legs { IsTrue cache.old.store.is_faithful
         → IfOk result (λ found. IsSieved sieve.now period.now
         (chain_legs (pages_of_cache cache.old) (Some period.now) shape.now place.now)
         found.items) }
+    // If the pages are the chain, it fails only if memory runs out or the store fails.
     ensures only { IsTrue cache.old.store.is_faithful
         → IsPlaceChain (pages_of_cache cache.old) (Some period.now) shape.now feature place.now
         → IfErr result MayRefuseRead }
+    // If each page has a payload, no page is called damaged.
     ensures malformed { IsTrue cache.old.store.is_faithful
         → AreHeld (pages_of_cache cache.old) → IfErr result MayRefuseHeld }
 
@@ -275,9 +289,11 @@ pub fn trajectory_in<S: PageStore>(
     ensures whole { IsTrue cache.old.store.is_faithful
         → OnOk result (chain_fault (pages_of_cache cache.old) (Some period.now) shape.now feature
         place.now ≡ None) }
+    // A page that an error names is that first one.
     ensures named { IsTrue cache.old.store.is_faithful
         → IfErr result (IsNamed (pages_of_cache cache.old)
         (chain_fault (pages_of_cache cache.old) (Some period.now) shape.now feature place.now)) }
+    // It asks for at most one page for each leaf back to the one that starts before the period.
     ensures within { IsTrue cache.old.store.is_faithful
         → OnOk result (RisesAtMost cache.old.asked cache.new.asked
         (chain_cost (pages_of_cache cache.old) (Some period.now) shape.now place.now)) }

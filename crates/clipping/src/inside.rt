@@ -33,8 +33,12 @@ fn is_across(a: i64, b: i64, least: i64, most: i64, s: i64, d: i64) -> bool
 
 /// Whether a leg is inside a rectangle, edges included, at one of its moments.
 pub fn inside_at(leg: &Leg, rect: &Rect, at: Ms) -> bool
+    // The leg has started by then.
     requires started { leg.now.t0 ≤ℤ at }
+    // The leg has not ended before.
     requires lasts { at ≤ℤ leg.now.t1 }
+    // It is true exactly if the leg's position at that millisecond is in the rectangle, edges
+    // included.
     ensures { IsTrue result ↔ IsInside leg.now rect.now at 1 }
 {
     let part = at.millis() - leg.t0.millis();

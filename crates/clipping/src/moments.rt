@@ -18,7 +18,9 @@ fn ends(leg: &Leg, period: &Period) -> (Ms, Ms)
 
 /// The first and the last moment of a leg in a period; `None` where it has none.
 pub fn live(leg: &Leg, period: &Period) -> Option<(Ms, Ms)>
+    // It is the later of the two starts and the earlier of the two ends.
     ensures ends { result ≡ live_ends leg.now period.now }
+    // There are such moments exactly if some fraction of a millisecond is in both.
     ensures moment { IsSome result ↔ HasMoment leg.now period.now }
 {
     let (start, end) = ends(leg, period);

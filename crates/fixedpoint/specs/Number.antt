@@ -18,6 +18,7 @@ has_sign text = (slice_index text 0 == 43) || is_negative text
 abbrev pub unsigned_text : List ℕ → List ℕ
 unsigned_text text = if has_sign text then drop 1 text else text
 
+-- the byte is a decimal point
 abbrev pub is_point : ℕ → Bool
 is_point c = c == 46
 
@@ -25,6 +26,7 @@ is_point c = c == 46
 abbrev pub whole_part : List ℕ → List ℕ
 whole_part text = before_first is_point (unsigned_text text)
 
+-- what stands behind the first point
 abbrev pub fraction_part : List ℕ → List ℕ
 fraction_part text = after_first is_point (unsigned_text text)
 
@@ -46,6 +48,7 @@ unfoldable pub magnitude : ℕ → List ℕ → List ℕ → ℕ
 magnitude units whole fraction =
     rounded units (length fraction) (digits_value 10 (whole ++ fraction))
 
+-- a number of that magnitude, below 0 or not
 abbrev pub signed : Bool → ℕ → ℤ
 signed negative m = if negative then neg_ℤ (pos m) else pos m
 

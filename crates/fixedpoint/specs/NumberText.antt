@@ -15,6 +15,7 @@ pointed s p r = if r == 0 then [] else 46 ∷ fraction_digits s p r
 abbrev pub plain_text : ℕ → ℕ → List ℕ
 plain_text s n = decimal (n / 10 ^ s) ++ pointed s (10 ^ s) (n % 10 ^ s)
 
+-- `-` in front of a number below 0
 abbrev pub sign_text : ℤ → List ℕ
 sign_text (pos n) = []
 sign_text (negsuc n) = 45 ∷ []

@@ -84,7 +84,9 @@ impl Coord {
 
     /// How many units of 10^-7 it is.
     pub fn units(self) -> i64
+        // It is the coordinate, as a whole number.
         ensures value { result ≡ self }
+        // It is in the range of coordinates.
         ensures range { IsInRange self }
     {
         self.units
@@ -125,7 +127,9 @@ impl Offset {
 
     /// How many milliseconds it is.
     pub fn millis(self) -> i64
+        // It is the offset, as a whole number.
         ensures value { result ≡ self }
+        // It is in the range of offsets.
         ensures range { IsInRange self }
     {
         self.millis
@@ -137,7 +141,9 @@ impl Offset {
 /// `Shape` where the text is not a number text, `Range` where the number, rounded to the nearest unit
 /// of 10^-7, is greater than 100000000 in magnitude.
 pub fn read_coord(text: &str) -> Result<Coord, NumberFault>
+    // It is what the definition of a coordinate's text gives: the value, or why there is none.
     ensures value { result ≡ coord_of text.now }
+    // No whole number of units is nearer to the text's number. A half is rounded away from zero.
     ensures nearest { IfOk result (IsNearest (10 ^ 7) text.now) }
 {
     let units = reading::read_number(text, COORD)?;
@@ -149,7 +155,10 @@ pub fn read_coord(text: &str) -> Result<Coord, NumberFault>
 /// `Shape` where the text is not a number text, `Range` where the number, rounded to the nearest
 /// millisecond, is greater than 1000000000000 s in magnitude.
 pub fn read_offset(text: &str) -> Result<Offset, NumberFault>
+    // It is what the definition of an offset's text gives: the value, or why there is none.
     ensures value { result ≡ offset_of text.now }
+    // No whole number of milliseconds is nearer to the text's number. A half is rounded away from
+    // zero.
     ensures nearest { IfOk result (IsNearest (10 ^ 3) text.now) }
 {
     let millis = reading::read_number(text, SECOND)?;
@@ -161,7 +170,10 @@ pub fn read_offset(text: &str) -> Result<Offset, NumberFault>
 /// `Shape` where the text is not a number text, `Range` where the number, rounded to the nearest
 /// millisecond, is greater than 1000000000000 s in magnitude.
 pub fn read_minutes(text: &str) -> Result<Offset, NumberFault>
+    // It is what the definition of a text in minutes gives: the value, or why there is none.
     ensures value { result ≡ minutes_of text.now }
+    // No whole number of milliseconds is nearer to the text's number. A half is rounded away from
+    // zero.
     ensures nearest { IfOk result (IsNearest 60000 text.now) }
 {
     let millis = reading::read_number(text, MINUTE)?;
@@ -171,12 +183,16 @@ pub fn read_minutes(text: &str) -> Result<Offset, NumberFault>
 /// Appends the shortest exact decimal text of a coordinate: no `+`, no `-0`, no trailing zero behind
 /// the point, no point without digits behind it, at least one digit before it.
 pub fn push_coord(out: &mut Vec<u8>, coord: Coord) -> Result<(), Memory>
+    // It appends exactly the text of the coordinate.
     ensures ok { OnOk result (out.new.items ≡ out.old.items ++ coord_text coord) }
+    // If memory runs out, nothing was appended.
     ensures err { OnErr result (out.new.items ≡ out.old.items) }
 
     // The text that is appended.
     ensures exact { WritesExactly 7 coord (coord_text coord) }
+    // No shorter text of the form says the same number.
     ensures shortest { IsShortest 7 coord (coord_text coord) }
+    // It reads back as the same coordinate.
     ensures reads_back { coord_of (coord_text coord) ≡ Ok coord }
 {
     printing::push_number(out, coord.units, 7)
@@ -184,12 +200,16 @@ pub fn push_coord(out: &mut Vec<u8>, coord: Coord) -> Result<(), Memory>
 
 /// Appends the shortest exact decimal text of an offset, in seconds, in the form of `push_coord`.
 pub fn push_offset(out: &mut Vec<u8>, offset: Offset) -> Result<(), Memory>
+    // It appends exactly the text of the offset.
     ensures ok { OnOk result (out.new.items ≡ out.old.items ++ offset_text offset) }
+    // If memory runs out, nothing was appended.
     ensures err { OnErr result (out.new.items ≡ out.old.items) }
 
     // The text that is appended.
     ensures exact { WritesExactly 3 offset (offset_text offset) }
+    // No shorter text of the form says the same number.
     ensures shortest { IsShortest 3 offset (offset_text offset) }
+    // It reads back as the same offset.
     ensures reads_back { offset_of (offset_text offset) ≡ Ok offset }
 {
     printing::push_number(out, offset.millis, 3)

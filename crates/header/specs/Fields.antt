@@ -47,6 +47,7 @@ pub record SaysLimits (bytes : List ℕ) (limits : LimitsView) : Type 0 where
 abbrev pub root_of : Payload → ℕ
 root_of payload = number_at 4 32 payload.bytes
 
+-- the first page of the catalogue's text that a payload names
 abbrev pub first_of : Payload → ℕ
 first_of payload = number_at 4 44 payload.bytes
 

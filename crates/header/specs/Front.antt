@@ -23,6 +23,7 @@ unfinished_front = record { version = 2; state = 0 }
 abbrev pub finished_front : Front
 finished_front = record { version = 2; state = 1 }
 
+-- whether a kind of payload is that of page 0
 abbrev pub is_header : Kind → Bool
 is_header Header = true
 is_header Leaf = false

@@ -52,7 +52,9 @@ fn number(bytes: &[u8], place: usize) -> u32
 /// What a header says at its beginning; `None` where a payload is no header, or has not the letters.
 #[tactic(auto, unfolding(crate::specs::Front::front_of))]
 pub fn front_of(payload: &Payload) -> Option<Front>
+    // It is what the payload's kind and first bytes say.
     ensures value { result ≡ front_of payload.now }
+    // If there is one, the first twelve bytes are exactly the letters, this version and this state.
     ensures bytes { IfSome result (λ front. take 12 payload.now.bytes ≡ front_bytes front) }
 {
     let bytes = &payload.bytes;

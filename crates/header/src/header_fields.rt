@@ -50,12 +50,18 @@ fn put_bytes(bytes: &mut [u8], fields: &Fields)
 
 /// Makes page 0 say these, and leaves all else in it as it was.
 pub fn put_fields(payload: &mut Payload, fields: &Fields)
+    // It writes the bytes of the fields behind the first twelve, and changes nothing else.
     ensures put { payload.new
         ≡ record payload.old { bytes = put 12 (fields_bytes fields.now) payload.old.bytes } }
+    // The fields always fit: shape and limits are in range, and each number has room.
     ensures fits { FitsFields fields.now × IsShape fields.now.shape × IsLimits fields.now.limits }
+    // Page 0 then says exactly these fields.
     ensures has { HasFields payload.new fields.now }
+    // The first twelve bytes stay.
     ensures front { take 12 payload.new.bytes ≡ take 12 payload.old.bytes }
+    // All bytes behind the fields stay.
     ensures rest { drop 60 payload.new.bytes ≡ drop 60 payload.old.bytes }
+    // The kind of the page stays.
     ensures kind { payload.new.kind ≡ payload.old.kind }
 {
     put_bytes(&mut payload.bytes, fields);
@@ -75,8 +81,11 @@ fn shape_in(bytes: &[u8]) -> Option<Shape>
 
 /// The limits that page 0 says; none where they are out of range.
 pub fn limits_in(bytes: &[u8]) -> Option<Limits>
+    // The bytes are those of a payload.
     requires { length bytes.now ≡ 4056 }
+    // The limits that it returns are those that the bytes say.
     ensures some { IfSome result (λ limits. SaysLimits bytes.now limits) }
+    // It returns none only if the bytes say no limits that are in range.
     ensures none { result ≡ None → (limits : LimitsView) → IsLimits limits
         → SaysLimits bytes.now limits → ⊥ }
 {
@@ -87,9 +96,12 @@ pub fn limits_in(bytes: &[u8]) -> Option<Limits>
 
 /// What page 0 says; none where the shape or the limits are out of range.
 pub fn fields_of(payload: &Payload) -> Option<Fields>
+    // The fields that it returns are exactly those that page 0 says.
     ensures some { IfSome result (λ fields. HasFields payload.now fields) }
+    // Their shape and limits are in range, and each number has room.
     ensures fits { IfSome result (λ fields. FitsFields fields × IsShape fields.shape
         × IsLimits fields.limits) }
+    // It returns none only if page 0 says no fields that are in range.
     ensures none { result ≡ None → (fields : Fields) → IsShape fields.shape → IsLimits fields.limits
         → FitsFields fields → HasFields payload.now fields → ⊥ }
 {

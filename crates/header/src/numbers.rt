@@ -9,7 +9,9 @@ fn eight_zeros() -> [u8; 8] {
 
 /// The number of eight bytes.
 pub fn u64_of(bytes: &[u8]) -> u64
+    // There are eight bytes.
     requires { length bytes.now ≡ 8 }
+    // They are the number, big-endian.
     ensures { big_bytes 8 result ≡ bytes.now }
 {
     let mut array = eight_zeros();
@@ -24,7 +26,9 @@ fn four_zeros() -> [u8; 4] {
 
 /// The number of four bytes.
 pub fn u32_of(bytes: &[u8]) -> u32
+    // There are four bytes.
     requires { length bytes.now ≡ 4 }
+    // They are the number, big-endian.
     ensures { big_bytes 4 result ≡ bytes.now }
 {
     let mut array = four_zeros();
@@ -34,7 +38,9 @@ pub fn u32_of(bytes: &[u8]) -> u32
 
 /// The number of two bytes.
 pub fn u16_of(bytes: &[u8]) -> u16
+    // There are two bytes.
     requires { length bytes.now ≡ 2 }
+    // They are the number, big-endian.
     ensures { big_bytes 2 result ≡ bytes.now }
 {
     let mut array = [0; 2];

@@ -54,6 +54,7 @@ module _ {X : Type 0} (key : X → ℕ) (m : ℕ) where
   alone : (y : X) → take (suc m) (y ∷ []) ≡ y ∷ []
   alone y = ap (λ l. y ∷ l) (take_all m [] (omega arith))
 
+  -- an element more in what was filled before
   pub runs_after-push : (before xs : List X) (y : X)
       → runs_after key (suc m) before (xs ++ y ∷ [])
       ≡ map (grown key (suc m) y) (runs_after key (suc m) before xs)
@@ -80,6 +81,7 @@ module _ {X : Type 0} (key : X → ℕ) (m : ℕ) where
         | false ↦ on
       ])
 
+-- an element more in a list
 pub runs-push : {X : Type 0} (key : X → ℕ) (n : ℕ) (xs : List X) (y : X) → 0 < n
     → runs key n (xs ++ y ∷ []) ≡ map (grown key n y) (runs key n xs) ++ begun key n xs y
 runs-push key zero xs y h = absurd (omega arith)
@@ -151,10 +153,12 @@ module _ {X : Type 0} (key : X → ℕ) (m : ℕ) where
         | false ↦ λ b. on
       ]) refl
 
+-- what holds of each element holds of all
 pub all_pass : {X : Type 0} (xs : List X) → filter (λ _. true) xs ≡ xs
 all_pass [] = refl
 all_pass (x ∷ xs) = ap (λ l. x ∷ l) (all_pass xs)
 
+-- how many elements there are of which something always holds
 pub count_all : {X : Type 0} (xs : List X) → count_by (λ _. true) xs ≡ length xs
 count_all xs = sym (length-filter (λ _. true) xs) ∙ ap length (all_pass xs)
 

@@ -4,6 +4,7 @@ use Rattle.std.specs.Prelude.{ℕ, ◌*◌, ◌%◌, ◌^◌, ◌==◌, Bool, co
 use Rattle.std.specs.List.{filter}
 
 module _ {X : Type 0} (key : X → ℕ) (n : ℕ) where
+  -- two keys are the same
   abbrev pub same : X → X → Bool
   same x y = key y == key x
 
@@ -47,6 +48,7 @@ level inner k rs = groups (inner ^ k) rs
 abbrev pub block : {X : Type 0} → ℕ → ℕ → List X → List X
 block n j xs = take n (drop (j * n) xs)
 
+-- the elements of lists, one list after another
 abbrev pub joined : {X : Type 0} → List (List X) → List X
 joined [] = []
 joined (xs ∷ xss) = xs ++ joined xss

@@ -59,6 +59,7 @@ with_record book r =
       rows = book.rows ++ r.attributes ∷ [];
     }
 
+-- the book with records, one after another
 abbrev pub with_records : Book → List RecordView → Book
 with_records book records = fold with_record book records
 
@@ -115,6 +116,7 @@ record_faults limits book (r ∷ records) =
     map (λ code. (code, r.number)) (faults_of limits book r)
     ++ record_faults limits (with_record book r) records
 
+-- two columns have the same name and the same type
 abbrev pub same_column : Column → Column → Bool
 same_column a b = bytes_eq a.name b.name && bytes_eq a.kind b.kind
 
@@ -123,6 +125,7 @@ abbrev pub same_columns : List Column → List Column → Bool
 same_columns first second =
     (length first == length second) && list_all (λ p. same_column p.0 p.1) (zip first second)
 
+-- two dimensions are the same
 abbrev pub same_dimension : Dimension → Dimension → Bool
 same_dimension Two Two = true
 same_dimension Two Three = false

@@ -16,6 +16,7 @@ pub record IsRect (rect : RectView) : Type 0 where
   pub x : rect.x_min ≤ℤ rect.x_max
   pub y : rect.y_min ≤ℤ rect.y_max
 
+-- the rectangle between two corners
 abbrev pub rect_of : ℤ → ℤ → ℤ → ℤ → RectView
 rect_of x1 y1 x2 y2 = record { x_min = x1; y_min = y1; x_max = x2; y_max = y2 }
 
@@ -76,6 +77,7 @@ everything =
 abbrev pub intervals_meet : ℤ → ℤ → ℤ → ℤ → Bool
 intervals_meet a b c d = int_le a d && int_le c b
 
+-- the intervals of x and of y of two boxes each meet
 abbrev pub meet_in_plane : BoxView → BoxView → Bool
 meet_in_plane p q =
     intervals_meet p.x_min p.x_max q.x_min q.x_max && intervals_meet p.y_min p.y_max q.y_min q.y_max

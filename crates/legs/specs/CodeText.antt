@@ -3,6 +3,7 @@ use Rattle.std.specs.Prelude.{ℕ, List, codes}
 use Rattle.legs.specs.declared.joining.JoinCode.{JoinCode}
 use Rattle.legs.specs.declared.joining.JoinCode.TheVariants.{F9, F10, F18, F19, F20}
 
+-- the code of a joining fault, as it is printed
 abbrev pub code_text : JoinCode → List ℕ
 code_text F9 = codes "F9"
 code_text F10 = codes "F10"

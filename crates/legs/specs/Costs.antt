@@ -14,6 +14,7 @@ pub record ShapeView : Type 0 where
   pub leaf : ℕ
   pub inner : ℕ
 
+-- the feature of a leg, by which legs are put into leaves
 abbrev pub leg_feature : LegView → ℕ
 leg_feature leg = leg.feature
 
@@ -22,6 +23,7 @@ abbrev pub leaves_of : ShapeView → List LegView → List (List LegView)
 leaves_of shape legs = leaves leg_feature shape.leaf legs
 
 module _ {L B : Type 0} (s : Boxes L B) (meets : B → Bool) where
+  -- there is a box, and it meets
   abbrev pub some_meets : Option B → Bool
   some_meets None = false
   some_meets (Some b) = meets b

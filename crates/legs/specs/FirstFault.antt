@@ -16,6 +16,7 @@ IsFirstOf Memory codes number = Unit {0}
 IsFirstOf (Refused code at) codes number =
     (at ≡ number) × ((others : List JoinCode) × (codes ≡ code ∷ others))
 
+-- the first code of a list, if any
 abbrev pub first_code : List JoinCode → Option JoinCode
 first_code [] = None
 first_code (code ∷ codes) = Some code

@@ -9,10 +9,12 @@ use Rattle.std.proofs.lemmas.Option.{slice_get_within, slice_get-get_or, get_or_
 use Rattle.legs.specs.Blocks.{runs_after, groups, block, joined}
 use Rattle.legs.specs.BlockLemmas.{step_of_multiple, count_all, all_pass}
 
+-- a value is not none
 pub some_none : {Y : Type 0} (y : Y) → Some y ≡ None → ⊥
 some_none {Y} y e =
     subst (λ (o : Option Y). elim o as (λ _. Type 0) [ Some _ ↦ Unit {0} | None ↦ ⊥ ]) e tt
 
+-- two values are the same where they are so as `Some`
 pub some_same : {Y : Type 0} (x y : Y) → Some x ≡ Some y → x ≡ y
 some_same {Y} x y e = ap (λ (o : Option Y). elim o as (λ _. Y) [ Some z ↦ z | None ↦ x ]) e
 
@@ -82,15 +84,18 @@ module _ {X : Type 0} where
   group_at (suc m) xs j h =
       group_after m [] xs 0 j (j * suc m) (mod-eq_of_lt (omega arith)) (omega arith) (omega arith)
 
+  -- group j of a list is its block j, if that begins within the list
   pub group_is : (n : ℕ) (xs : List X) (j : ℕ) → 0 < n → j * n < length xs
       → slice_get (groups n xs) j ≡ Some (block n j xs)
   group_is n xs j h l =
       group_at n xs j h ∙ ap (λ b. cond b (Some (block n j xs)) None) (lt-ltb _ _ l)
 
+  -- there is a group j if block j begins within the list
   pub group_within : (n : ℕ) (xs : List X) (j : ℕ) → 0 < n → j * n < length xs
       → j < length (groups n xs)
   group_within n xs j h l = slice_get_within (groups n xs) j _ (group_is n xs j h l)
 
+  -- and only then
   pub group_beyond : (n : ℕ) (xs : List X) (j : ℕ) → 0 < n → j < length (groups n xs)
       → j * n < length xs
   group_beyond n xs j h l =
@@ -137,6 +142,7 @@ module _ {X : Type 0} where
       ∙ take_all n (drop (j * n) xs ++ y ∷ []) (omega (arith, w, r))
       ∙ ap (λ l. l ++ y ∷ []) (sym (take_all n (drop (j * n) xs) (omega (arith, d, r))))
 
+  -- an element at the end changes no block but the last
   pub block_push-other : (n : ℕ) (xs : List X) (y : X) (j : ℕ) → 0 < n → j ≢ length xs / n
       → block n j (xs ++ y ∷ []) ≡ block n j xs
   block_push-other n xs y j h e =
@@ -165,6 +171,7 @@ module _ {X : Type 0} where
   take-set_below (suc n) (x ∷ xs) zero v = refl
   take-set_below (suc n) (x ∷ xs) (suc i) v = ap (λ l. x ∷ l) (take-set_below n xs i v)
 
+  -- an element that is changed is changed in its block
   pub block_set-at : (n : ℕ) (xs : List X) (i : ℕ) (v : X)
       → block n (i / n) (set xs i v) ≡ set (block n (i / n) xs) (i % n) v
   block_set-at n xs i v =
@@ -172,6 +179,7 @@ module _ {X : Type 0} where
       ∙ ap (take n) (drop-set-add (i / n * n) xs (i % n) v)
       ∙ take-set_below n (drop (i / n * n) xs) (i % n) v
 
+  -- and in no other block
   pub block_set-other : (n : ℕ) (xs : List X) (i : ℕ) (v : X) (j : ℕ) → 0 < n → j ≢ i / n
       → block n j (set xs i v) ≡ block n j xs
   block_set-other n xs i v j h e =
@@ -198,6 +206,7 @@ module _ {X : Type 0} where
   get-take (suc n) (x ∷ xs) zero h = refl
   get-take (suc n) (x ∷ xs) (suc i) h = get-take n xs i (omega (arith, h))
 
+  -- an element behind the first n, by its number in the whole list
   pub get-drop : (n : ℕ) (xs : List X) (i k : ℕ) → n + i ≡ k
       → slice_get (drop n xs) i ≡ slice_get xs k
   get-drop zero xs i k h = ap (slice_get xs) (omega (arith, h))
@@ -205,6 +214,7 @@ module _ {X : Type 0} where
   get-drop (suc n) (x ∷ xs) i zero h = absurd (omega (arith, h))
   get-drop (suc n) (x ∷ xs) i (suc k) h = get-drop n xs i k (omega (arith, h))
 
+  -- an element of a block, by its number in the whole list
   pub get-block : (n : ℕ) (xs : List X) (i : ℕ) → 0 < n
       → slice_get (block n (i / n) xs) (i % n) ≡ slice_get xs i
   get-block n xs i h =
@@ -227,6 +237,7 @@ module _ {X : Type 0} where
   take_add (suc a) b (suc k) [] e = sym (take_all b [] (omega arith))
   take_add (suc a) b (suc k) (x ∷ l) e = ap (λ r. x ∷ r) (take_add a b k l (omega (arith, e)))
 
+  -- the elements of c groups from group j on are those of that stretch of the list
   pub joined_blocks : (c m j : ℕ) (xs : List X) → 0 < m
       → joined (take c (drop j (groups m xs))) ≡ take (c * m) (drop (j * m) xs)
   joined_blocks zero m j xs h = let z : 0 ≡ 0 * m =

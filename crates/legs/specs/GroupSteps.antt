@@ -12,6 +12,7 @@ use Rattle.std.specs.Prelude.{min}
 use Rattle.legs.specs.GroupLemmas.{some_none, some_same, slot, group_at, group_is, group_within, group_beyond, joined_blocks, same_by_get}
 
 module _ {X : Type 0} where
+  -- to leave out n elements and then s is to leave out both at once
   pub drop_drop : (n s : ℕ) (xs : List X) → drop (n + s) xs ≡ drop s (drop n xs)
   drop_drop zero s xs = let e : 0 + s ≡ s = omega arith in ap (λ k. drop k xs) e
   drop_drop (suc n) s [] = drop_all (suc n + s) [] (omega arith) ∙ sym (drop_all s [] (omega arith))
@@ -46,12 +47,14 @@ module _ {X : Type 0} where
           (let e : suc i * n ≡ n + i * n = omega arith in ap (λ k. slot n k xs) e) ∙ slot_later n
           (i * n) xs ∙ sym (group_at n (drop n xs) i h)
 
+  -- a group that is there is the block of its number
   pub group_below : (n : ℕ) (xs : List X) (j : ℕ) → 0 < n → j < length (groups n xs)
       → slice_get (groups n xs) j ≡ Some (block n j xs)
   group_below n xs j h l =
       group_at n xs j h ∙ ap (λ b. cond b (Some (block n j xs)) None)
       (lt-ltb _ _ (group_beyond n xs j h l))
 
+  -- nothing has no groups
   pub no_groups : (n : ℕ) (xs : List X) → 0 < n → length xs ≡ 0 → groups n xs ≡ []
   no_groups n [] h l = refl
   no_groups n (x ∷ xs) h l = absurd (omega (arith, l))
@@ -63,6 +66,7 @@ module _ {X : Type 0} where
       (let g = ap length (groups_step n xs h k) in omega (arith, g, l))) (λ k. omega
       (arith, k)) (cases_lt 0 (length xs))
 
+  -- where there is a group there is an element
   pub from_some : (n : ℕ) (xs : List X) → 0 < n → 0 < length (groups n xs) → 0 < length xs
   from_some n xs h l =
       ⊎_elim (λ k. k)
@@ -82,6 +86,7 @@ module _ {X : Type 0} where
       (no_groups n (drop (suc i * n) xs) h (length-drop (suc i * n) xs ∙ omega (arith, l))))
       (cases_lt 0 (length xs))
 
+  -- the first i groups are those of the first i blocks
   pub groups_take : (i n : ℕ) (xs : List X) → 0 < n
       → take i (groups n xs) ≡ groups n (take (i * n) xs)
   groups_take zero n xs h = let e : 0 ≡ 0 * n = omega arith in ap (λ k. groups n (take k xs)) e
@@ -198,6 +203,7 @@ run_some {X} key m b (x ∷ xs) i e =
       | false ↦ λ e. run_some key m (b ++ x ∷ []) xs i e
     ]) e
 
+-- no group is empty
 pub filled_groups : {X : Type 0} (n : ℕ) (xs : List X) → 0 < n → (i : ℕ)
     → slice_get (groups n xs) i ≡ Some [] → ⊥
 filled_groups zero xs h i e = absurd (omega (arith, h))

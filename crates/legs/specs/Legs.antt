@@ -58,6 +58,7 @@ pub record IsStep (step : StepView) : Type 0 where
   pub y1 : IsInRange step.y1
   pub z1 : IsInRange step.z1
 
+-- the step between two positions at two moments
 abbrev pub step_between : ℤ → ℤ → Position → Position → StepView
 step_between t0 t1 from to =
     record {
@@ -116,6 +117,7 @@ leg_of ordinal feature row step =
 abbrev pub first_moment : LegView → PeriodView → ℤ
 first_moment leg period = int_max leg.t0 period.start
 
+-- the last moment of a leg in a period: the earlier of the two ends
 abbrev pub last_moment : LegView → PeriodView → ℤ
 last_moment leg period = int_min leg.t1 period.end
 

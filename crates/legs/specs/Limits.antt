@@ -17,5 +17,6 @@ pub record IsLimits (limits : LimitsView) : Type 0 where
   pub some_features : 1 ≤ limits.features
   pub few_features : limits.features ≤ most
 
+-- limits of so many legs and features
 abbrev pub limits_of : ℕ → ℕ → LimitsView
 limits_of legs features = record { legs = legs; features = features }

@@ -19,6 +19,7 @@ pub record InnerView (B : Type 0) : Type 0 where
   pub level : ℕ
   pub entries : List (EntryView B)
 
+-- a node of a tree: a leaf of legs or an inner page of entries
 pub data Node (L B : Type 0) : Type 0 where
   ALeaf : LeafView L → Node L B
   AnInner : InnerView B → Node L B
@@ -77,6 +78,7 @@ module _ {L B : Type 0} (s : Boxes L B) where
   cover_all [] = None
   cover_all (b ∷ bs) = both s (Some b) (cover_all bs)
 
+  -- the least box of a node's legs or entries; none if it has none
   abbrev pub cover_of_page : Node L B → Option B
   cover_of_page (ALeaf l) = hull s l.legs
   cover_of_page (AnInner x) = cover_all (map (λ e. e.bounds) x.entries)

@@ -8,6 +8,7 @@ pub record ListView : Type 0 where
   pub legs : List LegView
   pub spent : Bool
 
+-- a leg that stands where there is none
 abbrev pub no_leg : LegView
 no_leg = record {
   ordinal = 0;

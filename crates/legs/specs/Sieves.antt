@@ -45,11 +45,13 @@ pub leaves_none : (May : LegView → Type 0) (legs : List LegView) → LeavesOut
 leaves_none May [] = refl
 leaves_none May (leg ∷ legs) = inl (legs, refl, leaves_none May legs)
 
+-- all legs are what any sieve keeps, or more
 pub sieved_self : (sieve : Sieve) (period : PeriodView) (legs : List LegView)
     → IsSieved sieve period legs legs
 sieved_self sieve period legs =
     record { of = leaves_none (MayGo sieve period) legs; first = refl; last = refl }
 
+-- so are legs that are the same list
 pub sieved_same : (sieve : Sieve) (period : PeriodView) (all some : List LegView) → some ≡ all
     → IsSieved sieve period all some
 sieved_same sieve period all some e =

@@ -37,7 +37,9 @@ impl Rect {
 
     /// The rectangle between two corners; `None` where `x1` is above `x2` or `y1` above `y2`.
     pub fn new(x1: Coord, y1: Coord, x2: Coord, y2: Coord) -> Option<Rect>
+        // There is one exactly if neither `x1` is above `x2` nor `y1` above `y2`.
         ensures some { IsSome result ↔ ((x1 ≤ℤ x2) × (y1 ≤ℤ y2)) }
+        // It has these corners.
         ensures value { IfSome result (λ rect. rect ≡ rect_of x1 y1 x2 y2) }
     {
         if x1 <= x2 && y1 <= y2 {
@@ -146,7 +148,9 @@ impl Box3 {
     /// The greatest box. It meets the box of every leg.
     #[tactic(auto, unfolding(crate::specs::Boxes::everything))]
     pub fn everything() -> Box3
+        // It is the box with the greatest and the least bounds.
         ensures value { result ≡ everything }
+        // It meets the box of every lawful leg.
         ensures meets { (leg : LegView) → IsLeg leg → boxes_meet (box_of leg) result ≡ true }
     {
         Box3 {
@@ -161,7 +165,9 @@ impl Box3 {
 
     /// Whether the intervals of x, of y and of time of two boxes each meet; bounds that touch meet.
     pub fn meets(&self, other: &Box3) -> bool
+        // It is true if the intervals of x, of y and of time each meet.
         ensures value { result ≡ boxes_meet self.now other.now }
+        // That is so exactly if the two boxes share a point.
         ensures point { IsTrue result ↔ ShareAPoint self.now other.now }
     {
         self.meets_in_plane(other)
@@ -177,7 +183,9 @@ impl Box3 {
 
     /// The least box that holds two boxes.
     pub fn cover(&self, other: &Box3) -> Box3
+        // Each of its bounds is the outer one of the two.
         ensures value { result ≡ cover_of self.now other.now }
+        // It holds both boxes, and no smaller box does.
         ensures least { IsCover result self.now other.now }
     {
         Box3 {

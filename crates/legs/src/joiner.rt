@@ -54,7 +54,7 @@ impl Joined {
 
 /// Joins a file whose text has no fault to a book, record by record.
 ///
-/// Behind the first record with a joining fault nothing more is joined. Where memory runs out the
+/// After the first record with a joining fault nothing more is joined. If memory runs out, the
 /// joiner is of no more use.
 #[derive(Drop)]
 pub struct FileJoiner<'a> {
@@ -92,8 +92,10 @@ impl<'a> FileJoiner<'a> {
 
     /// No record is joined yet.
     pub fn new(alloc: Global, tracks: &'a Tracks, limits: &Limits) -> FileJoiner<'a>
+        // It has joined no record to the book for which the tracks stand.
         ensures joining { (book : Book) → StandsFor tracks.now book
             → IsJoining limits.now result book [] }
+        // It has counted no record.
         ensures counted { HasCounted result [] }
     {
         FileJoiner {
@@ -106,9 +108,11 @@ impl<'a> FileJoiner<'a> {
 
     /// Joins the next record.
     pub fn join(&mut self, record: &Record) -> Result<(), AllocError>
+        // It has joined this record behind those before, or knows the first fault.
         ensures joining { OnOk result ((limits : LimitsView) (book : Book)
             (records : List RecordView) → IsJoining limits self.old book records
             → IsJoining limits self.new book (records ++ «record».now ∷ [])) }
+        // It has counted this record behind those before, unless it knows a fault.
         ensures counted { OnOk result ((records : List RecordView) → HasCounted self.old records
             → HasCounted self.new (records ++ «record».now ∷ [])) }
     {
@@ -129,12 +133,15 @@ impl<'a> FileJoiner<'a> {
     /// fault: those of the head come first. `first` is what the book keeps of the head of the first
     /// accepted file, if there is one.
     pub fn finish(self, first: Option<&BookHead>, head: &Head) -> Result<Joined, JoinFault>
+        // What it returns is what joins the file of that head and of these records to the book.
         ensures joined { IfOk result (λ by. (limits : LimitsView) (book : Book)
             (records : List RecordView) → IsJoining limits self.entry book records
             → book.head ≡ option_copied first.entry
             → IsJoinedBy limits book (file_of head.now records) by) }
+        // Whatever the tracks say, it has the names of the records, and their number.
         ensures counted { IfOk result (λ by. (records : List RecordView)
             → HasCounted self.entry records → IsCounted records by) }
+        // An error is the first joining fault of that file, unless memory ran out.
         ensures refused { IfErr result (λ fault. (limits : LimitsView) (book : Book)
             (records : List RecordView) → IsJoining limits self.entry book records
             → book.head ≡ option_copied first.entry

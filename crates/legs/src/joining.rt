@@ -163,10 +163,10 @@ pub(crate) fn check_head(first: Option<&BookHead>, head: &Head) -> Result<(), Jo
 /// it, or the first joining fault. `head` is what the book keeps of the head of the first accepted
 /// file, if there is one.
 ///
-/// A file is refused where its CRS or its dimension (`F9`, at its `@stboundedby` record) or its
-/// columns (`F10`, at its `@columns` record) are not those of the first accepted file, and then at
-/// its first record that starts before its feature's last leg ends (`F18`), or with which there are
-/// more legs (`F19`) or features (`F20`) than the limits allow.
+/// A file is refused if its CRS or its dimension (`F9`, at its `@stboundedby` record) or its
+/// columns (`F10`, at its `@columns` record) are not those of the first accepted file. Else it is
+/// refused at its first record that starts before its feature's last leg ends (`F18`), or with
+/// which there are more legs (`F19`) or features (`F20`) than the limits allow.
 pub fn join(
     alloc: Global,
     head: Option<&BookHead>,
@@ -178,13 +178,17 @@ pub fn join(
     ensures joined { IfOk result (λ by. (book : Book) → StandsFor tracks.now book
         → book.head ≡ option_copied head.entry
         → IsJoinedBy limits.now book file.now by) }
+    // The legs are those that the definition of joining gives the file.
     ensures legs { IfOk result (λ by. (book : Book) → StandsFor tracks.now book
         → book.head ≡ option_copied head.entry
         → joined limits.now book file.now ≡ Ok by.legs) }
+    // They may follow the book's legs, one after another.
     ensures follow { IfOk result (λ by. (book : Book) → StandsFor tracks.now book
         → CanFollowInTurn book.legs by.legs) }
+    // With the file the book has these legs at the end of its own.
     ensures book_legs { IfOk result (λ by. (book : Book) → StandsFor tracks.now book
         → (with_file book file.now).legs ≡ book.legs ++ by.legs) }
+    // With the file the book has the records' attribute values at the end of its rows.
     ensures book_rows { OnOk result ((book : Book)
         → (with_file book file.now).rows ≡ book.rows ++ map (λ r. r.attributes) file.now.records) }
 

@@ -92,7 +92,9 @@ impl Leg {
         to: Position,
         row: u32,
     ) -> Option<Leg>
+        // There is one exactly if it starts before it ends.
         ensures some { IsSome result ↔ (t0 <ℤ t1) }
+        // It has exactly these numbers, moments and positions.
         ensures value { IfSome result (λ leg. leg
             ≡ leg_of ordinal feature row (step_between t0 t1 from to)) }
     {
@@ -103,7 +105,9 @@ impl Leg {
     /// Whether the leg has a moment in a period: a fraction n / d of milliseconds, between the later of the two
     /// starts and the earlier of the two ends.
     pub fn is_live(&self, period: &Period) -> bool
+        // It is true if the later start is no later than the earlier end.
         ensures value { result ≡ is_live period.now self.now }
+        // That is so exactly if some moment of the leg is in the period.
         ensures moments { IsTrue result ↔ HasMoment self.now period.now }
     {
         let first = self.t0.millis().max(period.start().millis());

@@ -31,7 +31,9 @@ impl Limits {
 
     /// Limits of that many legs and features; `None` where one of them is 0 or above 2^31.
     pub fn new(legs: u64, features: u32) -> Option<Limits>
+        // There are such limits exactly if both numbers are in range.
         ensures some { IsSome result ↔ IsLimits (limits_of legs features) }
+        // They are these numbers.
         ensures value { IfSome result (λ limits. limits ≡ limits_of legs features) }
     {
         if legs == 0 || legs > MOST || features == 0 || u64::from(features) > MOST {
@@ -42,7 +44,9 @@ impl Limits {
 
     /// How many legs there may be.
     pub fn legs(self) -> u64
+        // It is the limit of legs.
         ensures value { result ≡ self.legs }
+        // Both limits are in range.
         ensures limits { IsLimits self }
     {
         self.legs
@@ -50,7 +54,9 @@ impl Limits {
 
     /// How many features there may be.
     pub fn features(self) -> u32
+        // It is the limit of features.
         ensures value { result ≡ self.features }
+        // Both limits are in range.
         ensures limits { IsLimits self }
     {
         self.features

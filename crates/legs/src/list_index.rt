@@ -71,7 +71,9 @@ impl ListIndex {
 
     /// An index without legs.
     pub fn new(alloc: Global) -> ListIndex
+        // It has no leg.
         ensures legs { result.legs ≡ [] }
+        // It is not spent.
         ensures lasts { result.spent ≡ false }
     {
         ListIndex {

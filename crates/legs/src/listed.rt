@@ -29,7 +29,7 @@ pub trait Listed {
     /// How many features it has a place for: each below that number.
     ghost features: { Self → ℕ };
 
-    /// An `add` was refused.
+    /// An `add` failed.
     ghost is_spent: { Self → Bool };
 
     /// How many faults of its store were counted. It never falls; 2^64 - 1 stands for any greater number.

@@ -118,7 +118,9 @@ impl Tracks {
     /// The tracks of a book without legs. Names are hashed with the keys, which a stranger who
     /// chooses the names of a file is not to know.
     pub fn new(alloc: Global, keys: RandomState) -> Result<Tracks, AllocError>
+        // They stand for the book without legs.
         ensures empty { IfOk result (λ tracks. StandsFor tracks empty_book) }
+        // They have no name, no track, no leg and no row.
         ensures none { IfOk result (λ tracks. tracks ≡ record {
           names = [];
           tracks = [];
@@ -157,7 +159,9 @@ impl Tracks {
 
     /// How many rows of attribute values there are.
     pub fn row_count(&self) -> u64
+        // It is the number of rows.
         ensures value { result ≡ self.now.rows }
+        // There are no more rows than legs.
         ensures few { self.now.rows ≤ self.now.legs }
     {
         self.rows
@@ -183,7 +187,9 @@ impl Tracks {
 
     /// The track of the feature of that number.
     pub fn track(&self, feature: u32) -> Option<Track>
+        // It is the track of the feature of that number, if there is one.
         ensures value { result ≡ slice_get self.now.tracks feature }
+        // There are as many tracks as names.
         ensures paired { length self.now.tracks ≡ length self.now.names }
     {
         self.tracks.get(feature as usize).copied()
@@ -192,10 +198,13 @@ impl Tracks {
     /// Whether the last leg of the feature of that number ends before a period, so that none of its
     /// legs has a moment in it.
     pub fn is_over(&self, feature: u32, period: &Period) -> bool
+        // It is true exactly if the feature's track ends before the period starts.
         ensures exact { IsTrue result ↔ IsOver self.now feature period.now }
+        // Then no leg of the feature is live in the period.
         ensures none { IsTrue result → (limits : LimitsView) (book : Book) → StandsFor self.now book
             → IsBook limits book → All IsLeg book.legs
             → live_legs_of feature period.now book.legs ≡ [] }
+        // If not, some leg of the feature ends no earlier than the period starts.
         ensures reached { result ≡ false → (book : Book) → StandsFor self.now book
             → feature < length book.names
             → reaches period.now (legs_of feature book.legs) ≡ true }
@@ -206,9 +215,10 @@ impl Tracks {
         }
     }
 
-    /// Takes a file into the tracks that was joined to their book: they then stand for the book
-    /// with that file. They are as before where memory runs out.
+    /// Takes a file that was joined to the book of the tracks. They then stand for the book with
+    /// that file. If memory runs out, they are as before.
     pub fn accept(&mut self, joined: &Joined) -> Result<(), AllocError>
+        // The tracks then stand for the book with the file.
         ensures ok { OnOk result ((limits : LimitsView) (book : Book) (file : File)
             → IsLimits limits → StandsFor self.old book
             → IsJoinedBy limits book file joined.now
@@ -218,6 +228,7 @@ impl Tracks {
             → IsLimits limits → IsBook limits book → HasWholeRows file
             → IsJoinedBy limits book file joined.now
             → IsBook limits (with_file book file)) }
+        // If memory runs out, they are as before.
         ensures err { OnErr result (self.new ≡ self.old) }
     {
         self.add_names(&joined.names)?;
@@ -229,8 +240,9 @@ impl Tracks {
         Ok(())
     }
 
-    /// Adds a feature with its track, where its name is not there yet, and says whether it was new.
+    /// Adds a feature with its track if its name is not there yet, and returns whether it was new.
     pub fn add(&mut self, name: String, track: Track) -> Result<bool, AllocError>
+        // A new feature has the last number, and its legs are counted.
         ensures added { IfOk result (λ new. new ≡ true
             → All (λ other. other ≢ string_bytes name) self.old.names
             × (self.new ≡ record {
@@ -239,9 +251,11 @@ impl Tracks {
               legs = min (self.old.legs + track.legs) (2 ^ 64 - 1);
               rows = self.old.rows;
             })) }
+        // A name that is there changes nothing.
         ensures there { IfOk result (λ new. new ≡ false
             → IsTrue (list_any (bytes_eq (string_bytes name)) self.old.names)
             × (self.new ≡ self.old)) }
+        // If memory runs out, the tracks are as before.
         ensures err { OnErr result (self.new ≡ self.old) }
     {
         if self.names.contains(name.as_str()) {
@@ -255,9 +269,11 @@ impl Tracks {
         Ok(true)
     }
 
-    /// Sets the number of rows, where there are no more than legs, and says whether it did.
+    /// Sets the number of rows if there are no more than legs, and returns whether it did.
     pub fn set_rows(&mut self, rows: u64) -> bool
+        // It succeeds exactly if there are no more rows than legs.
         ensures fits { result ≡ nat_le rows self.old.legs }
+        // If it does, that is the number of rows; if not, nothing changes.
         ensures set { self.new ≡ if result then record self.old { rows = rows } else self.old }
     {
         if rows > self.legs {

@@ -28,6 +28,7 @@ abbrev pub first_of : List (Code × Bool) → Option Code
 first_of [] = None
 first_of (c ∷ cs) = if c.1 then Some c.0 else first_of cs
 
+-- a step refuses a record by exactly that code, unless memory ran out
 abbrev pub RowFaultIs : RowFault → Option Code → Type 0
 RowFaultIs (row.Refused code) fault = fault ≡ Some code
 RowFaultIs row.Memory fault = Unit {0}

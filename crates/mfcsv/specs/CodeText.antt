@@ -3,6 +3,7 @@ use Rattle.std.specs.Prelude.{ℕ, List, codes}
 use Rattle.mfcsv.specs.declared.Code.{Code}
 use Rattle.mfcsv.specs.declared.Code.TheVariants.{F1, F2, F3, F4, F5, F6, F7, F8, F11, F12, F13, F14, F15, F16, F17}
 
+-- the code of a fault of a file, as it is printed
 abbrev pub code_text : Code → List ℕ
 code_text F1 = codes "F1"
 code_text F2 = codes "F2"

@@ -17,6 +17,7 @@ unfoldable pub has_wrong_fields : ℕ → Row → Bool
 has_wrong_fields columns row =
     nat_lt (length row) 4 || not (list_all is_empty (drop (4 + columns) row))
 
+-- the name is empty, or has more than 255 bytes
 unfoldable pub has_wrong_name : Row → Bool
 has_wrong_name row = is_empty (field row 0) || nat_lt 255 (length (field row 0))
 
@@ -25,6 +26,7 @@ unfoldable pub moment_read : Option Clock → List ℕ → Option ℤ
 moment_read clock text =
     option_and_then (λ (c : Clock). value_read (time_of c.unit c.start text)) clock
 
+-- one of the two time fields is not read as a moment
 abbrev pub lacks_moment : Option Clock → Row → Bool
 lacks_moment clock row =
     not (is_some (moment_read clock (field row 1)) && is_some (moment_read clock (field row 2)))
@@ -35,6 +37,7 @@ is_not_after (Some t0) (Some t1) = int_le t1 t0
 is_not_after (Some t0) None = false
 is_not_after None t1 = false
 
+-- both moments are read, and the end is not after the start
 abbrev pub ends_early : Option Clock → Row → Bool
 ends_early clock row =
     is_not_after (moment_read clock (field row 1)) (moment_read clock (field row 2))
@@ -43,9 +46,11 @@ ends_early clock row =
 abbrev pub coordinates : Row → List (List ℕ)
 coordinates row = words (field row 3)
 
+-- the text is read as a coordinate in range
 unfoldable pub is_coordinate : List ℕ → Bool
 is_coordinate text = is_some (value_read (coord_of text))
 
+-- one of these texts is no coordinate
 unfoldable pub has_wrong_coordinate : List (List ℕ) → Bool
 has_wrong_coordinate texts = not (list_all is_coordinate texts)
 
@@ -60,17 +65,20 @@ has_wrong_count (Some dimension) texts =
     (length texts == 0) || not (length texts % axes dimension == 0)
 has_wrong_count None texts = false
 
+-- the position of three coordinates, if all are read
 abbrev pub position_of : Option ℤ → Option ℤ → Option ℤ → Option Position
 position_of (Some x) (Some y) (Some z) = Some (record { x = x; y = y; z = z })
 position_of (Some x) (Some y) None = None
 position_of (Some x) None z = None
 position_of None y z = None
 
+-- a position in front of others, if all are read
 abbrev pub onto_positions : Option Position → Option (List Position) → Option (List Position)
 onto_positions (Some position) (Some positions) = Some (position ∷ positions)
 onto_positions (Some position) None = None
 onto_positions None positions = None
 
+-- the coordinate that a text says, if it is read
 abbrev pub coordinate_of : List ℕ → Option ℤ
 coordinate_of text = value_read (coord_of text)
 
@@ -105,6 +113,7 @@ is_too_short (Some t0) (Some t1) None = false
 is_too_short (Some t0) None positions = false
 is_too_short None t1 positions = false
 
+-- what is read has too few milliseconds for its legs
 abbrev pub lacks_time : Option Dimension → Option Clock → Row → Bool
 lacks_time dimension clock row =
     is_too_short (moment_read clock (field row 1)) (moment_read clock (field row 2))
@@ -130,6 +139,7 @@ record_with number columns row (Some t0) (Some t1) None = None
 record_with number columns row (Some t0) None positions = None
 record_with number columns row None t1 positions = None
 
+-- the record that a row says, if its moments and positions are read
 unfoldable pub record_of : ℕ → Option Dimension → Option Clock → ℕ → Row → Option RecordView
 record_of number dimension clock columns row =
     record_with number columns row (moment_read clock (field row 1))

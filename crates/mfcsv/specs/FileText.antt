@@ -35,6 +35,7 @@ abbrev pub count_in : Option ColumnsView → ℕ
 count_in (Some line) = length line.columns
 count_in None = 0
 
+-- how many attribute columns the header lines before a record have
 abbrev pub columns_before : HeadsView → ℕ
 columns_before heads = count_in heads.columns
 
@@ -72,6 +73,7 @@ pub record Line : Type 0 where
   pub heads : HeadsView
   pub row : Row
 
+-- a row with its number and the header lines before it
 abbrev pub line_of : ℕ → HeadsView → Row → Line
 line_of number heads row = record { number = number; heads = heads; row = row }
 
@@ -100,6 +102,7 @@ record_by Bounds line = None
 record_by Columns line = None
 record_by Other line = None
 
+-- the data record of a line, if it has one
 abbrev pub records_of : Line → List RecordView
 records_of line = option_to_list (record_by (kind_of line.row) line)
 
@@ -122,6 +125,7 @@ file_at (Some dimension) (Some start) bounds line records =
 file_at (Some dimension) None bounds line records = Err (F5, bounds.number)
 file_at None start bounds line records = Err (F4, bounds.number)
 
+-- a file of these header lines, which may be missing, and of these records
 abbrev pub file_with : Option BoundsView → Option ColumnsView → List RecordView
     → Result File (Code × ℕ)
 file_with (Some bounds) (Some line) records =
@@ -134,6 +138,7 @@ abbrev pub first_or : List (Code × ℕ) → Result File (Code × ℕ) → Resul
 first_or [] file = file
 first_or (fault ∷ faults) file = Err fault
 
+-- no header line was read
 abbrev pub no_heads : HeadsView
 no_heads = record { bounds = None; columns = None }
 

@@ -29,6 +29,7 @@ kind_of row =
     else if same_word (field row 0) (codes "@columns") then Columns
     else Other
 
+-- the row is an `@stboundedby` line
 abbrev pub is_bounds : Kind → Bool
 is_bounds Bounds = true
 is_bounds Skipped = false
@@ -36,6 +37,7 @@ is_bounds Columns = false
 is_bounds Other = false
 is_bounds Data = false
 
+-- the row is an `@columns` line
 abbrev pub is_columns : Kind → Bool
 is_columns Columns = true
 is_columns Skipped = false
@@ -43,6 +45,7 @@ is_columns Bounds = false
 is_columns Other = false
 is_columns Data = false
 
+-- the row is a data record
 abbrev pub is_data : Kind → Bool
 is_data Data = true
 is_data Skipped = false
@@ -58,6 +61,7 @@ is_repeated heads Skipped = false
 is_repeated heads Other = false
 is_repeated heads Data = false
 
+-- both header lines were read
 abbrev pub has_heads : HeadsView → Bool
 has_heads heads = is_some heads.bounds && is_some heads.columns
 
@@ -71,6 +75,7 @@ dimension_of text =
     if same_word text (codes "2d") then Some Two
     else (if same_word text (codes "3d") then Some Three else None)
 
+-- the dimension is neither `2D` nor `3D`
 unfoldable pub has_other_dimension : Row → Bool
 has_other_dimension row = not (is_some (dimension_of (field row 2)))
 
@@ -83,6 +88,7 @@ value_read (Err fault) = None
 unfoldable pub start_of : Row → Option ℤ
 start_of row = value_read (moment_of (field row 5))
 
+-- the start instant is not read as a moment
 abbrev pub lacks_start : Row → Bool
 lacks_start row = not (is_some (start_of row))
 
@@ -94,6 +100,7 @@ unit_of text =
     else if same_word text (codes "absolute") then Some Absolute
     else None
 
+-- the unit is none that files may have
 unfoldable pub has_other_unit : Row → Bool
 has_other_unit row = not (is_some (unit_of (field row 7)))
 
@@ -108,6 +115,7 @@ pairs [] = []
 pairs (name ∷ []) = record { name = name; kind = [] } ∷ []
 pairs (name ∷ kind ∷ rest) = record { name = name; kind = kind } ∷ pairs rest
 
+-- both the name and the type of a column are blank
 abbrev pub is_blank_column : Column → Bool
 is_blank_column column = is_empty column.name && is_empty column.kind
 
@@ -139,5 +147,6 @@ heads_by Skipped number heads row = heads
 heads_by Other number heads row = heads
 heads_by Data number heads row = heads
 
+-- the header lines that were read once this row was
 unfoldable pub heads_after : ℕ → HeadsView → Row → HeadsView
 heads_after number heads row = heads_by (kind_of row) number heads row

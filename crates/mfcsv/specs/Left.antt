@@ -40,11 +40,13 @@ text_at Over number heads rows = text_left number heads []
 text_at (Failed Memory) number heads rows = text_left number heads rows
 text_at (Failed (Refused code at)) number heads rows = Err (code, at)
 
+-- it is known that no record is left
 abbrev pub is_over : Stage → Bool
 is_over Reading = false
 is_over Over = true
 is_over (Failed fault) = false
 
+-- the fault that was returned, if one was
 abbrev pub told_by : Stage → Option FileFault
 told_by Reading = None
 told_by Over = None

@@ -55,6 +55,7 @@ abbrev pub MeetsNoText : List Row → Type 0
 MeetsNoText rows =
     (row : Row) × (rest : List Row) × (rows ≡ row ∷ rest) × (list_all is_utf8 row ≡ false)
 
+-- reading rows fails: one of them is no UTF-8, which is F1, or memory ran out
 abbrev pub FailsAt : RowFault → List Row → Type 0
 FailsAt (Refused code) rows = (code ≡ F1) × MeetsNoText rows
 FailsAt Memory rows = Unit {0}

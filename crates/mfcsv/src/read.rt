@@ -23,7 +23,10 @@ impl<T: Drop> From<AllocFailed<T>> for FileFault {
 /// Byte order marks at the very start are dropped. The records are read one at a time; nothing is
 /// kept of one but what the file has of it.
 pub fn read_file(alloc: Global, bytes: &[u8]) -> Result<File, FileFault>
+    // It returns exactly the file that the bytes say, or exactly its first fault, unless memory
+    // runs out.
     ensures text { Gives result (file_of_bytes bytes.now) }
+    // Each record has as many attribute values as there are columns.
     ensures rows { IfOk result HasWholeRows }
 {
     let mut reader = FileReader::new(alloc, bytes);

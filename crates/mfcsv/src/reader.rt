@@ -209,11 +209,14 @@ impl<'a> FileReader<'a> {
     /// # Errors
     /// The first fault of what is left, or want of memory.
     pub fn next_record(&mut self, alloc: Global) -> Result<Option<Record>, FileFault>
+        // It returns the first record of what is left, or none if none is left, or its first fault.
         ensures reads { ReadsRecord result self.old self.new }
+        // Each record lowers a number, so that reading ends.
         ensures fewer { IfOk result (λ found. IfSome found (λ _. self.new.most < self.old.most)) }
 
         // Once a fault is told, nothing else is.
         ensures told { IfErr result (λ fault. self.new.told ≡ Some fault) }
+        // A fault that was returned is returned again, and nothing changes.
         ensures stays { (fault : FileFault) → self.old.told ≡ Some fault
             → (result ≡ Err fault) × (self.new ≡ self.old) }
     {
@@ -245,11 +248,16 @@ impl<'a> FileReader<'a> {
     /// # Errors
     /// F8 at 0 where one of these is missing; a fault that was told.
     pub fn into_head(self) -> Result<Head, FileFault>
+        // Once all records are read, it is the head of the file, or the fault of a missing header
+        // line.
         ensures head { self.entry.is_over ≡ true → GivesHead result self.entry.text }
+        // Without a fault it is the head that the header lines make that were read so far.
         ensures so_far { self.entry.told ≡ None → GivesHead result
             (file_with self.entry.heads.bounds self.entry.heads.columns []) }
+        // Without a fault the only error is F8 of the whole file, as a header line is missing.
         ensures missing { self.entry.told ≡ None
             → IfErr result (λ fault. fault ≡ FileFault.Refused Code.F8 0) }
+        // A fault that was returned before is returned again.
         ensures told { (fault : FileFault) → self.entry.told ≡ Some fault → result ≡ Err fault }
     {
         let FileReader { unread, stage } = self;

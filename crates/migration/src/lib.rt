@@ -1,4 +1,4 @@
-//! A database of version 1 of the format is brought over into a new one.
+//! Migrates a database of version 1 of the format into a new one.
 #![tactic(auto)]
 
 mod migrating;

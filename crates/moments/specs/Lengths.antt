@@ -21,6 +21,7 @@ not_below_0 (negsuc n) = 0
 abbrev pub least_of : Visit → ℕ
 least_of visit = not_below_0 (micros_down visit.leaves -ℤ micros_up visit.enters)
 
+-- a visit's length with both moments rounded outwards, not below 0
 abbrev pub most_of : Visit → ℕ
 most_of visit = not_below_0 (micros_up visit.leaves -ℤ micros_down visit.enters)
 

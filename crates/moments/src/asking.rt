@@ -33,6 +33,7 @@ pub fn stays<S: PageStore>(
     rect: &Rect,
     period: &Period,
 ) -> Result<Vec<Stay>, RunFault>
+    // A sound database returns the stays of the legs of its book, each once, in order.
     ensures found { IfOk result (λ stays. IsSoundDb db.old
         → AreStays rect.now period.now db.old.book.legs stays.items) }
 
@@ -49,15 +50,21 @@ pub fn stays<S: PageStore>(
     // page that is named is one that was met and is not what it is to be there, or the first one
     // that was met beyond as many as the store has.
     ensures says { IfOk result (λ stays. AreTold words db.old rect.now period.now stays.items) }
+    // A sound database asks for exactly as many pages as a search of the rectangle over the period.
     ensures asks { OnOk result (Asks words db.old db.new
         (search_cost (box_over rect.now period.now))) }
 
     // What the index knew of the leaves of its features it knows afterwards.
     ensures leaves { LeavesBook words db.old db.new }
+    // A sound database fails only if memory runs out or the store fails, and says the latter only
+    // if it did.
     ensures refused { IfErr result (λ fault. db.old.failed ≡ false
         → IsRefused words db.old db.new fault) }
+    // Page 0 of a database that has begun stays marked; in one that has not, no page is changed.
     ensures pages { HasPages db.old → HasPages db.new }
+    // A database at rest stays at rest.
     ensures rests { IsIdle db.old → IsIdle db.new }
+    // If it is given up, its store is refused as unfinished, or is the one that was there before.
     ensures safe { (was : Store) → IsSoundDb db.old → HasPages db.old → IsSafe was db.old
         → IsSafe was db.new }
 

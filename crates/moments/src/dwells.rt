@@ -63,6 +63,7 @@ fn place_of(places: &BTreeMap<u32, usize>, dwells: &[Dwell], visit: &Visit) -> O
 
 /// How long each feature stays, in the order of the features' first visits.
 pub fn dwells_of(alloc: Global, visits: &[Visit]) -> Result<Vec<Dwell>, AllocError>
+    // Each feature of the visits has one dwell, with its visits counted and their lengths summed.
     ensures value { IfOk result (λ dwells. dwells.items ≡ dwells_of visits.now) }
 
     // The two sums are 2 microseconds a visit apart at most.

@@ -15,6 +15,8 @@ pub fn stays_of(
     rect: &Rect,
     period: &Period,
 ) -> Result<Vec<Stay>, AllocError>
+    // Each leg that is inside at some moment has one stay, in the order of the legs, and no other
+    // leg has one.
     ensures stays { IfOk result (λ stays. AreStays rect.now period.now legs.now stays.items) }
 
     // None ends before it begins.

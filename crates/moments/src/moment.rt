@@ -60,7 +60,9 @@ impl Moment {
 
     /// The numerator of the moment since a base, over the same denominator: in milliseconds, in lowest terms.
     pub fn since(self, base: Ms) -> i128
+        // It is the moment less the base, over the same denominator.
         ensures value { result ≡ self.num -ℤ base *ℤ pos self.den }
+        // With that denominator it is in lowest terms.
         ensures lowest { IsLowest result self.den }
     {
         self.num - base.millis() as i128 * self.den as i128
@@ -68,8 +70,11 @@ impl Moment {
 
     /// The moment in microseconds since 1970-01-01T00:00:00Z, rounded down.
     pub fn micros_down(self) -> i64
+        // It is the moment in microseconds, rounded down.
         ensures value { result ≡ micros_down self }
+        // No greater whole number of microseconds is at most the moment.
         ensures floor { IsFloor (pos 1000) self.num self.den result }
+        // It is below 2^58 in size.
         ensures small { unsigned_abs result < 2 ^ 58 }
 
         // The millisecond that it is in is a moment.
@@ -80,8 +85,11 @@ impl Moment {
 
     /// The moment in microseconds since 1970-01-01T00:00:00Z, rounded up.
     pub fn micros_up(self) -> i64
+        // It is the moment in microseconds, rounded up.
         ensures value { result ≡ micros_up self }
+        // No smaller whole number of microseconds is at least the moment.
         ensures ceiling { IsCeiling (pos 1000) self.num self.den result }
+        // It is below 2^58 in size.
         ensures small { unsigned_abs result < 2 ^ 58 }
 
         // The millisecond that it is in is a moment.

@@ -75,7 +75,9 @@ impl Visit {
 
     /// How long the visit lasts, in whole microseconds: at least the first number and at most the second.
     pub fn lasts(&self) -> (u64, u64)
+        // The first number is the visit with both moments rounded inwards, and not below 0.
         ensures least { result.0 ≡ least_of self.now }
+        // The second number is the visit with both moments rounded outwards.
         ensures most { result.1 ≡ most_of self.now }
 
         // Of a visit that does not end before it begins, as none of `visits_of` does.
@@ -111,6 +113,8 @@ fn place_of(last: &BTreeMap<u32, usize>, visits: &[Visit], stay: &Stay) -> Optio
 /// The visits of stays, in the order of their first stays. Where the stays of a feature are not in the order of time, its
 /// visits may overlap.
 pub fn visits_of(alloc: Global, stays: &[Stay]) -> Result<Vec<Visit>, AllocError>
+    // A stay that begins when its feature's last visit ends goes on with that visit; any other
+    // begins a new one.
     ensures value { IfOk result (λ visits. visits.items ≡ visits_of stays.now) }
 
     // Where no stay ends before it begins, as none of `stays_of` does, no visit does.

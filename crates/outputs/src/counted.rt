@@ -6,7 +6,8 @@ use crate::output::{Output, OutputFault};
 use pages::Refusals;
 use std::io::Write;
 
-/// An output over a writer, which tells the bytes that that one tells, and counts what that one refuses.
+/// An output over a writer. It tells the bytes that the writer tells, and counts the writer's
+/// errors.
 #[derive(Drop)]
 pub struct CountedOutput<'a, W: Write> {
     out: &'a mut W,
@@ -16,12 +17,16 @@ pub struct CountedOutput<'a, W: Write> {
 }
 
 impl<'a, W: Write> CountedOutput<'a, W> {
-    /// The output over that writer, which has refused nothing so far, and was not flushed.
+    /// The output over that writer. It has refused nothing, and is not flushed.
     pub fn new(out: &'a mut W) -> CountedOutput<'a, W>
+        // It writes through the reference that it was given.
         ensures same_reference { result.out.ghost_name ≡ out.entry.ghost_name }
+        // It tells the bytes that the writer has taken so far.
         ensures contents { (⟦<CountedOutput<'a, W> as Output>⟧.seen result).contents
             ≡ W.contents out.old }
+        // It has refused no call.
         ensures refusals { (⟦<CountedOutput<'a, W> as Output>⟧.seen result).refusals ≡ 0 }
+        // It is not flushed.
         ensures unflushed { (⟦<CountedOutput<'a, W> as Output>⟧.seen result).is_flushed ≡ false }
     {
         CountedOutput {

@@ -1,6 +1,6 @@
 //! Where answers go.
 //!
-//! An output takes bytes in order, passes on what it keeps of them for a while, and counts what it refuses.
+//! An output takes bytes in order, may keep them for a while, and counts its errors.
 #![tactic(auto)]
 
 mod counted;

@@ -10,6 +10,7 @@ use Rattle.pagecache.specs.declared.fault.CacheFault.{CacheFault}
 use Rattle.pagecache.specs.declared.slots.Slots.{Slots}
 use Rattle.pagecache.specs.contracts.slots.Slots.{the_row}
 
+-- what the inner cache ends as: sound, and with the payload last written through the reference
 abbrev pub LendsSlot : (S : RattleType) → store.Ghosts S.Denot → MutBor (Slots S.Denot) → ℕ
     → Result (MutBor Payload) CacheFault → Fml
 LendsSlot S g c n r =

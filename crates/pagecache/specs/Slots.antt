@@ -11,6 +11,7 @@ use Rattle.pagecache.specs.declared.fault.CacheFault.TheVariants.{Store}
 use Rattle.pagecache.specs.declared.slots.Held.{Held}
 use Rattle.pagecache.specs.declared.slots.Slots.{Slots}
 
+-- what is seen of an inner cache, by what is seen of its store
 abbrev pub seen_of : {S : Type 0} → (S → store.Store) → Slots S → Cache
 seen_of seen c = record {
   store = seen c.store;

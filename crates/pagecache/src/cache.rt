@@ -37,9 +37,13 @@ impl<S: PageStore> PageCache<S> {
     /// A cache of at most `capacity` pages in memory, which has none yet. Refused for want of memory
     /// alone; the store is then handed back.
     pub fn new(alloc: Global, store: S, capacity: usize) -> Result<PageCache<S>, (S, AllocError)>
+        // There is room for a page in memory.
         requires { 0 < capacity }
+        // It has no page in memory, counts the store's pages, and counted no ask.
         ensures fresh { IfOk result (λ cache. cache ≡ fresh (S.seen store) capacity) }
+        // No page is changed, and the store's pages seal the payloads.
         ensures written { IfOk result (λ cache. IsWritten cache) }
+        // If memory runs out, the store comes back as it was.
         ensures back { IfErr result (λ refusal. refusal.0 ≡ store) }
     {
         match Slots::new(alloc, store, capacity) {
@@ -50,10 +54,15 @@ impl<S: PageStore> PageCache<S> {
 
     /// A page, to read. It is `NoPage` exactly where `number` is not below `count`.
     pub fn page(&mut self, number: u32) -> Result<&Payload, CacheFault>
+        // No payload changes and one ask is counted, on an error too. An error says what is wrong
+        // with that page or the store.
         ensures* rests { sem 𝓛 (ShowsPage S.row S.PageStore self.entry number result) }
+        // Over a faithful store it is the payload of that page.
         ensures value { IfOk result (λ page. IsTrue self.old.store.is_faithful
             → payload_of self.old number ≡ Some page.now) }
+        // It succeeds only for a page that is there.
         ensures below { OnOk result (number < self.old.count) }
+        // A number at or above the count is `NoPage`.
         ensures no_page { self.old.count ≤ number → result ≡ Err CacheFault.NoPage }
     {
         self.slots.ready(number)?;
@@ -63,10 +72,15 @@ impl<S: PageStore> PageCache<S> {
     /// A page, to write to: what is written through the reference is that page's payload, and no
     /// other page changes. It is `NoPage` exactly where `number` is not below `count`.
     pub fn page_mut(&mut self, number: u32) -> Result<&mut Payload, CacheFault>
+        // What is written through the reference becomes that page's payload. No other page changes,
+        // and one ask is counted.
         ensures* lends { sem 𝓛 (LendsPage S.row S.PageStore self.entry number result) }
+        // Over a faithful store it is the payload of that page, as it is now.
         ensures value { IfOk result (λ page. IsTrue self.old.store.is_faithful
             → payload_of self.old number ≡ Some page.now) }
+        // It succeeds only for a page that is there.
         ensures below { OnOk result (number < self.old.count) }
+        // A number at or above the count is `NoPage`.
         ensures no_page { self.old.count ≤ number → result ≡ Err CacheFault.NoPage }
     {
         self.slots.page_mut(number)
@@ -75,16 +89,25 @@ impl<S: PageStore> PageCache<S> {
     /// Adds a page with a payload to the store, and returns its number, the count so far. No number from
     /// there on had a payload. The page is sealed and written at once, with that payload.
     pub fn add(&mut self, payload: Payload) -> Result<u32, CacheFault>
+        // There is one page more, with this payload, and no other payload changes.
         ensures adds { OnOk result (Adds payload self.old self.new) }
+        // The new page is not changed: as written it seals that payload.
         ensures clean { OnOk result (is_changed self.new self.old.count ≡ false) }
+        // Its number is the count before.
         ensures number { IfOk result (λ number. number ≡ self.old.count) }
+        // No page had this number or a greater one.
         ensures none_before { (n : ℕ) → self.old.count ≤ n → payload_of self.old n ≡ None }
+        // The cache counts all pages of the store, if it did before.
         ensures length { OnOk result (self.old.count ≡ self.old.store.count
             → self.new.count ≡ self.new.store.count) }
         ensures grows { MayGrow self.old self.new }
         ensures refused { OnErr result (KeepsPayloads self.old self.new) }
+        // One ask is counted.
         ensures asks { AsksOnce self.old self.new }
+        // `Store` is returned only if the store failed, and `StoreFull` only if it has as many
+        // pages as it may.
         ensures cause { IfErr result (λ fault. IsNotAdded fault self.old self.new) }
+        // A store that has as many pages as it may is always `StoreFull`.
         ensures full { self.old.count ≡ self.old.store.most
             → result ≡ Err CacheFault.StoreFull }
     {
@@ -96,15 +119,23 @@ impl<S: PageStore> PageCache<S> {
     /// memory, or by `flush`; until then the store has zero bytes in its place, which are no sealed
     /// page. Where there is no memory to hold it, it is refused.
     pub fn add_changed(&mut self, payload: Payload) -> Result<u32, CacheFault>
+        // There is one page more, with this payload, and no other payload changes.
         ensures adds { OnOk result (Adds payload self.old self.new) }
+        // Its number is the count before.
         ensures number { IfOk result (λ number. number ≡ self.old.count) }
+        // No page had this number or a greater one.
         ensures none_before { (n : ℕ) → self.old.count ≤ n → payload_of self.old n ≡ None }
+        // The cache counts all pages of the store, if it did before.
         ensures length { OnOk result (self.old.count ≡ self.old.store.count
             → self.new.count ≡ self.new.store.count) }
         ensures grows { MayGrow self.old self.new }
         ensures refused { OnErr result (KeepsPayloads self.old self.new) }
+        // One ask is counted.
         ensures asks { AsksOnce self.old self.new }
+        // `Store` is returned only if the store failed, and `StoreFull` only if it has as many
+        // pages as it may.
         ensures cause { IfErr result (λ fault. IsNotAdded fault self.old self.new) }
+        // A store that has as many pages as it may is always `StoreFull`.
         ensures full { self.old.count ≡ self.old.store.most
             → result ≡ Err CacheFault.StoreFull }
     {
@@ -114,16 +145,25 @@ impl<S: PageStore> PageCache<S> {
     /// Adds a page with a zero payload to the store, and returns its number, the count so far. No
     /// number from there on had a payload. The page is sealed and written at once, with zeros.
     pub fn add_page(&mut self, kind: Kind) -> Result<u32, CacheFault>
+        // There is one page more, of zero bytes, and no other payload changes.
         ensures adds { OnOk result (Adds (zero_payload kind) self.old self.new) }
+        // The new page is not changed: as written it seals these zero bytes.
         ensures clean { OnOk result (is_changed self.new self.old.count ≡ false) }
+        // Its number is the count before.
         ensures number { IfOk result (λ number. number ≡ self.old.count) }
+        // No page had this number or a greater one.
         ensures none_before { (n : ℕ) → self.old.count ≤ n → payload_of self.old n ≡ None }
+        // The cache counts all pages of the store, if it did before.
         ensures length { OnOk result (self.old.count ≡ self.old.store.count
             → self.new.count ≡ self.new.store.count) }
         ensures grows { MayGrow self.old self.new }
         ensures refused { OnErr result (KeepsPayloads self.old self.new) }
+        // One ask is counted.
         ensures asks { AsksOnce self.old self.new }
+        // `Store` is returned only if the store failed, and `StoreFull` only if it has as many
+        // pages as it may.
         ensures cause { IfErr result (λ fault. IsNotAdded fault self.old self.new) }
+        // A store that has as many pages as it may is always `StoreFull`.
         ensures full { self.old.count ≡ self.old.store.most
             → result ≡ Err CacheFault.StoreFull }
     {
@@ -133,13 +173,21 @@ impl<S: PageStore> PageCache<S> {
     /// Writes every changed page to the store, and makes the store last. A page that is not
     /// changed is not written.
     pub fn flush(&mut self) -> Result<(), CacheFault>
+        // After `Ok` no page is changed, and the store's pages seal the payloads.
         ensures written { OnOk result (IsWritten self.new) }
+        // After `Ok` every page is synced, and no sync of the store ever failed.
         ensures synced { OnOk result (IsSynced self.new.store) }
+        // No payload changes, on an error too.
         ensures stays { KeepsPayloads self.old self.new }
+        // If no page is changed, none more is unsynced.
         ensures unsynced { UnsyncsNone self.old self.new }
+        // The store has as many pages as before.
         ensures length { SameLength self.old self.new }
+        // No ask is counted.
         ensures asked { self.new.asked ≡ self.old.asked }
+        // If memory runs out, the cache is as it was.
         ensures memory { IsErrOf result CacheFault.Memory → self.new ≡ self.old }
+        // It fails only if memory runs out or the store failed.
         ensures cause { IfErr result (λ fault. IsStopped fault self.old self.new) }
     {
         self.slots.flush()
@@ -180,8 +228,11 @@ impl<S: PageStore> PageCache<S> {
 
     /// How many pages there are.
     pub fn count(&self) -> u32
+        // It is the number of pages.
         ensures value { result ≡ self.now.count }
+        // The store has at least that many.
         ensures within { result ≤ self.now.store.count }
+        // A page that is not changed has the payload that the page as written seals.
         ensures settled { IsSettled self.now }
     {
         self.slots.count
@@ -189,7 +240,9 @@ impl<S: PageStore> PageCache<S> {
 
     /// How many pages are in memory.
     pub fn held(&self) -> usize
+        // It is the number of pages in memory.
         ensures value { result ≡ length self.now.held }
+        // It is at most the capacity.
         ensures within { result ≤ self.now.capacity }
     {
         self.slots.held()
@@ -197,8 +250,11 @@ impl<S: PageStore> PageCache<S> {
 
     /// The store below, as it stands.
     pub fn store(&self) -> &S
+        // It is the store below, as it stands.
         ensures value { S.seen result.now ≡ self.now.store }
+        // A page that is not changed has the payload that the page as written seals.
         ensures settled { IsSettled self.now }
+        // The store has no more pages than it may, and fewer than 2^32.
         ensures lawful { IsLawful self.now.store }
     {
         &self.slots.store

@@ -14,9 +14,9 @@ use std::rt::Files;
 
 /// A store in a file: page n is the bytes from 4,096 n to 4,096 n + 4,095.
 ///
-/// It is faithful where the file tells its bytes. Each page is read and written by one call of the
-/// file, and it fails only where the file refuses one, which counts as a fault. What the file held
-/// before may be unsynced, and nothing is once its own `sync` has answered `Ok`.
+/// It is faithful if the file tells its bytes. Each page is read and written by one call of the
+/// file. It fails only if that call fails, which counts as a fault. What the file held before may
+/// be unsynced, until the first `sync` that returns `Ok`.
 #[derive(Drop)]
 pub struct FileStore<F: ByteFile = SystemFile<File>> {
     file: F,
@@ -28,25 +28,33 @@ pub struct FileStore<F: ByteFile = SystemFile<File>> {
 }
 
 impl<F: ByteFile> FileStore<F> {
-    /// The store of a file's whole pages, of at most 2^32 - 1 pages: a rest of less than a page is
-    /// no page, and a file of more pages is refused, as is one that does not tell its length. Any
-    /// page may be unsynced.
+    /// The store of a file's whole pages. A rest of less than a page is no page. Any page may be
+    /// unsynced.
+    ///
+    /// It fails if the file has 2^32 pages or more, or its length is not known.
     pub fn new(mut file: F) -> Result<FileStore<F>, StoreFault>
     where
         F: Drop,
+        // If the file tells its bytes, the store is faithful and has exactly their whole pages.
         ensures pages { IfOk result (λ s. IfSome (F.bytes file)
             (λ xs. ⟦<FileStore<F> as PageStore>⟧.seen s
             ≡ record (whole_pages xs) { faults = F.refusals file; has_lost = F.has_lost file })) }
+        // It may have 2^32 - 1 pages.
         ensures most { IfOk result (λ s.
             (⟦<FileStore<F> as PageStore>⟧.seen s).most ≡ 2 ^ 32 - 1) }
+        // Its count of faults is the file's count of refusals.
         ensures faults { IfOk result (λ s.
             (⟦<FileStore<F> as PageStore>⟧.seen s).faults ≡ F.refusals file) }
+        // Any page counts as unsynced.
         ensures unsynced { IfOk result (λ s.
             (⟦<FileStore<F> as PageStore>⟧.seen s).unsynced ≡ Others) }
+        // A sync of it has failed if one of the file has.
         ensures lost { IfOk result (λ s.
             (⟦<FileStore<F> as PageStore>⟧.seen s).has_lost ≡ F.has_lost file) }
+        // A file of 2^32 pages or more is refused.
         ensures too_long { IfSome (F.bytes file)
             (λ xs. 2 ^ 32 ≤ length xs / 4096 → IsErr result) }
+        // A file that tells its bytes, and has fewer pages, is never refused.
         ensures opens { IfSome (F.bytes file)
             (λ xs. length xs / 4096 < 2 ^ 32 → IsOk result) }
     {
@@ -65,18 +73,24 @@ impl<F: ByteFile> FileStore<F> {
 }
 
 impl<F: FileExt + OpenFile + Drop> FileStore<SystemFile<F>> {
-    /// The store in the file at a path, which is made, empty, where there is none; any page may be
-    /// unsynced. Refused is a file that the system does not open or that has 2^32 pages or more.
+    /// The store in the file at a path. If there is none, an empty one is made. Any page may be
+    /// unsynced.
+    ///
+    /// It fails if the system does not open the file, or it has 2^32 pages or more.
     pub fn open<R: Files<File = F>>(
         rt: &R,
         path: &str,
     ) -> Result<FileStore<SystemFile<F>>, StoreFault>
+        // It may have 2^32 - 1 pages.
         ensures most { IfOk result (λ s.
             (⟦<FileStore<SystemFile<F>> as PageStore>⟧.seen s).most ≡ 2 ^ 32 - 1) }
+        // No fault was counted.
         ensures faults { IfOk result (λ s.
             (⟦<FileStore<SystemFile<F>> as PageStore>⟧.seen s).faults ≡ 0) }
+        // Any page counts as unsynced.
         ensures unsynced { IfOk result (λ s.
             (⟦<FileStore<SystemFile<F>> as PageStore>⟧.seen s).unsynced ≡ Others) }
+        // No sync of it has failed.
         ensures lost { IfOk result (λ s.
             (⟦<FileStore<SystemFile<F>> as PageStore>⟧.seen s).has_lost ≡ false) }
     {

@@ -9,9 +9,9 @@ use crate::store::{PageStore, StoreFault};
 /// A store over another one that fails once some calls of `read`, `write` and `sync` have passed,
 /// to try what stands above it.
 ///
-/// Each failure counts as a fault, also one of the store below. A `write` that it fails leaves a
-/// page of zero bytes where there is one, and adds none. Once it has failed a `sync`, it fails each later
-/// one. It is faithful where the store below is.
+/// Each failure counts as a fault, also one of the store below. A `write` that it fails leaves zero
+/// bytes in a page that is there, and adds none. After a failed `sync` every later one fails. It is
+/// faithful if the store below is.
 #[derive(Drop)]
 pub struct Fuse<S> {
     store: S,
@@ -19,7 +19,7 @@ pub struct Fuse<S> {
     left: Option<u64>,
     once: bool,
     faults: Refusals,
-    /// Whether a sync was refused.
+    /// Whether a sync failed.
     has_lost: bool,
 }
 
@@ -29,9 +29,13 @@ impl<S: PageStore> Fuse<S> {
     /// A store that passes `calls` calls and fails the next one, and, unless only `once`, all
     /// later ones.
     pub fn new(store: S, calls: u64, once: bool) -> Fuse<S>
+        // The store below is the one that was given.
         ensures store { inner result ≡ store }
+        // It passes that many calls.
         ensures left { left_of result ≡ Some calls }
+        // It knows whether to fail one call or all later ones.
         ensures once { is_once result ≡ once }
+        // It has the pages of the store below, with no fault counted and no failed sync.
         ensures seen { ⟦<Fuse<S> as PageStore>⟧.seen result
             ≡ record (S.seen store) { faults = 0; has_lost = false } }
     {

@@ -26,7 +26,9 @@ fn overwrite(bytes: &mut [u8], start: usize, buf: &[u8])
 impl MemFile {
     /// A file that holds these bytes.
     pub fn new(bytes: Vec<u8>) -> MemFile
+        // It tells its bytes, which are these.
         ensures bytes { ⟦<MemFile as ByteFile>⟧.bytes result ≡ Some bytes.items }
+        // It has refused nothing.
         ensures refusals { ⟦<MemFile as ByteFile>⟧.refusals result ≡ 0 }
     {
         MemFile {
@@ -49,7 +51,7 @@ impl ByteFile for MemFile {
         Ok(self.bytes.len() as u64)
     }
 
-    /// Reads the bytes from a place on, as many as `buf` has, which are there, and is never refused.
+    /// Reads the bytes from a place on, as many as `buf` has, which are there. It never fails.
     fn read_at(&mut self, place: u64, buf: &mut [u8]) -> io::Result<()>
         requires { IfSome (⟦<MemFile as ByteFile>⟧.bytes self.old)
             (λ xs. place + length buf.old ≤ length xs) }
@@ -75,7 +77,8 @@ impl ByteFile for MemFile {
         Ok(())
     }
 
-    /// Writes bytes from a place on, which may be the file's end. Refused are only bytes beyond the end, that find no memory.
+    /// Writes bytes from a place on, which may be the file's end. It fails only if bytes beyond the
+    /// end find no memory.
     fn write_at(&mut self, place: u64, buf: &[u8]) -> io::Result<()>
         requires { IfSome (⟦<MemFile as ByteFile>⟧.bytes self.old) (λ xs. place ≤ length xs) }
         ensures within { IfSome (⟦<MemFile as ByteFile>⟧.bytes self.old)
@@ -107,7 +110,7 @@ impl ByteFile for MemFile {
         Ok(())
     }
 
-    /// Syncs nothing, as there is no disk, and is not refused.
+    /// Syncs nothing, as there is no disk. It never fails.
     fn sync(&mut self) -> io::Result<()>
         ensures never { IsOk result }
         ensures stays { ⟦<MemFile as ByteFile>⟧.bytes self.new

@@ -45,8 +45,11 @@ impl MemStore {
 
     /// Changes a byte of a page as written, as a damaged disk would.
     pub fn set_byte(&mut self, page: u32, place: usize, value: u8)
+        // There is a page of that number.
         requires exists { page < (⟦<MemStore as PageStore>⟧.seen self.old).count }
+        // The place is in a page.
         requires within { place < 4096 }
+        // The page has that byte there, and nothing else changes.
         ensures { ⟦<MemStore as PageStore>⟧.seen self.new
             ≡ with_byte page place value (⟦<MemStore as PageStore>⟧.seen self.old) }
     {
@@ -82,7 +85,7 @@ impl PageStore for MemStore {
         self.most
     }
 
-    /// Reads a page, and is never refused.
+    /// Reads a page. It never fails.
     fn read(&mut self, number: u32, page: &mut [u8; 4096]) -> Result<(), StoreFault>
         requires { number < (⟦<MemStore as PageStore>⟧.seen self.old).count }
         ensures works { IsOk result }
@@ -101,7 +104,7 @@ impl PageStore for MemStore {
         Ok(())
     }
 
-    /// Writes a page, which may be one more. Refused is only one more that finds no memory.
+    /// Writes a page, which may be a new one. It fails only if a new one finds no memory.
     fn write(&mut self, number: u32, page: &[u8; 4096]) -> Result<(), StoreFault>
         requires next { number ≤ (⟦<MemStore as PageStore>⟧.seen self.old).count }
         requires room { number < (⟦<MemStore as PageStore>⟧.seen self.old).most }
@@ -131,7 +134,7 @@ impl PageStore for MemStore {
         }
     }
 
-    /// Makes what was written last, and is never refused.
+    /// Syncs what was written. It never fails.
     fn sync(&mut self) -> Result<(), StoreFault>
         ensures works { IsOk result }
         ensures stays { Stays (⟦<MemStore as PageStore>⟧.seen self.old)

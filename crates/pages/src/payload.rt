@@ -1,4 +1,4 @@
-//! What a page holds, and why a page is refused.
+//! What a page holds, and what is wrong with a page.
 ghost use Rattle.std.specs.Prelude.{◌≡◌, ◌↔◌, Some};
 
 use thiserror::Error;
@@ -68,7 +68,7 @@ impl Payload {
     }
 }
 
-/// Why a page is refused.
+/// What is wrong with a page.
 #[derive(Clone, Copy, PartialEq, Eq, Debug, Error)]
 pub enum PageFault {
     /// The bytes are no sealed page of that number.

@@ -35,7 +35,9 @@ fn blank_bytes() -> [u8; 4056] {
 /// The page that holds a payload under a number: the number in 4 bytes, big-endian, the kind's
 /// code, three zero bytes, the payload's bytes, and the SHA-256 of these 4,064 bytes.
 pub fn seal(number: u32, payload: &Payload) -> [u8; 4096]
+    // It is exactly the page of the page format.
     ensures value { result ≡ sealed number payload.now }
+    // Unsealed under its number, it gives the payload back.
     ensures reads_back { unsealed number result ≡ Some payload.now }
 {
     let mut page = blank();
@@ -94,8 +96,11 @@ pub fn unseal_with(number: u32, page: &[u8; 4096], digest: &[u8; 32]) -> Result<
 /// The payload whose seal under the number the page is; `Damaged` with the number where there is
 /// none.
 pub fn unseal(number: u32, page: &[u8; 4096]) -> Result<Payload, PageFault>
+    // It is exactly what the definition of a sealed page gives.
     ensures value { result ≡ ok_or (unsealed number page.now) (PageFault.Damaged number) }
+    // A page whose payload is returned is the seal of it.
     ensures sealed { IfOk result (λ payload. page.now ≡ sealed number payload) }
+    // A page that is damaged is the seal of no payload.
     ensures damaged { OnErr result ((payload : Payload) → page.now ≢ sealed number payload) }
 {
     unseal_with(number, page, &digest(page))

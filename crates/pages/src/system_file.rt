@@ -9,7 +9,7 @@ use std::os::unix::fs::FileExt;
 use std::rt::Files;
 
 /// A file of the system. No contract says which bytes it holds, nor that `sync` puts them on the
-/// disk: that it does is trusted. Once that was refused, each call is that reads, writes or syncs.
+/// disk: that it does is trusted. After a failed sync every read, write and sync fails.
 #[derive(Drop)]
 pub struct SystemFile<F = File> {
     file: F,
@@ -17,7 +17,7 @@ pub struct SystemFile<F = File> {
     has_lost: bool,
 }
 
-/// What is answered of a file that was refused a sync.
+/// The error of a file after a failed sync.
 fn lost() -> io::Result<()>
     ensures { IsErr result }
 {
@@ -27,7 +27,9 @@ fn lost() -> io::Result<()>
 impl<F: FileExt + OpenFile> SystemFile<F> {
     /// A file that is open, and of which no call has failed.
     pub fn new(file: F) -> SystemFile<F>
+        // No refusal was counted.
         ensures refusals { ⟦<SystemFile<F> as ByteFile>⟧.refusals result ≡ 0 }
+        // No sync of it has failed.
         ensures lost { ⟦<SystemFile<F> as ByteFile>⟧.has_lost result ≡ false }
     {
         SystemFile {
@@ -39,8 +41,10 @@ impl<F: FileExt + OpenFile> SystemFile<F> {
 
     /// Opens the file at a path to be read and written, and makes it, empty, where there is none.
     pub fn open<R: Files<File = F>>(rt: &R, path: &str) -> io::Result<SystemFile<F>>
+        // No refusal was counted.
         ensures refusals { IfOk result
             (λ file. ⟦<SystemFile<F> as ByteFile>⟧.refusals file ≡ 0) }
+        // No sync of it has failed.
         ensures lost { IfOk result
             (λ file. ⟦<SystemFile<F> as ByteFile>⟧.has_lost file ≡ false) }
     {

@@ -17,6 +17,7 @@ pub record RecordsView : Type 0 where
   pub text : List ℕ
   pub refused : Bool
 
+-- records that were written as this text, and none refused
 abbrev pub written : List ℕ → RecordsView
 written text = record { text = text; refused = false }
 

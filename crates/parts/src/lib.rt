@@ -60,6 +60,7 @@ fn whole_part(alloc: Global, k: u64, n: u64, bytes: &[u8]) -> Result<Vec<u8>, Al
 /// A record of another feature leaves a blank record in its place, so every record keeps its number.
 /// A file with a fault is given back as it is, so that each part is refused as the whole is.
 pub fn part(alloc: Global, k: u64, n: u64, bytes: &[u8]) -> Result<Vec<u8>, AllocError>
+    // There is a part of that number.
     requires { k < n }
     // Byte for byte, the text of its records, or the file itself where that has a fault.
     ensures text { IfOk result (λ text. text.items ≡ part_text k n bytes.now) }
@@ -85,7 +86,9 @@ pub fn parts(
     n: u64,
     bytes: &[u8],
 ) -> Result<Vec<Vec<u8>>, AllocError>
+    // There is at least one part.
     requires some { 0 < n }
+    // The parts that are asked for are among them.
     requires within { first + count ≤ n }
     // Each record stays in its place, or leaves a blank one there.
     ensures texts { IfOk result (λ texts. map (λ text. text.items) texts.items

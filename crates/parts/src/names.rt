@@ -29,8 +29,11 @@ fn cube_of(number: u64) -> u64
 /// prime, is taken modulo `n`.
 #[tactic(auto, unfolding(crate::specs::Names::part_of))]
 pub fn part_of(n: u64, name: &[u8]) -> u64
+    // There is at least one part.
     requires { 0 < n }
+    // It is the number that the definition gives the name, by its bytes alone.
     ensures value { result ≡ part_of n name.now }
+    // It is the number of a part.
     ensures within { result < n }
 {
     cube_of(number_of(name)) % n

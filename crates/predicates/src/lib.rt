@@ -43,6 +43,8 @@ pub enum Predicate {
 /// last moment are those of the first and of the last leg that has one, so the legs are given in
 /// the order of time.
 pub fn holds(predicate: Predicate, legs: &[Leg], rect: &Rect, period: &Period) -> bool
+    // It is true exactly if the predicate holds, by its definition over all fractions of all
+    // moments.
     ensures holds { IsTrue result ↔ Holds predicate legs.now rect.now period.now }
     // Legs without a moment in the period may be left out.
     ensures live { (all : List LegView) → Holds predicate all rect.now period.now

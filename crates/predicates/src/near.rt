@@ -30,7 +30,9 @@ fn plane_over(period: &Period) -> Box3
 /// A box that the box of each leg meets for which, taken alone, a predicate holds: over the rectangle and
 /// the period; for `Bypasses` over all x and y and the period.
 pub fn search_box(predicate: Predicate, rect: &Rect, period: &Period) -> Box3
+    // It is the rectangle over the period; for `Bypasses` all of the plane over the period.
     ensures value { result ≡ box_near predicate rect.now period.now }
+    // The box of a leg meets it if the predicate holds of that leg alone.
     ensures meets { (leg : LegView) → IsLeg leg → Holds predicate (leg ∷ []) rect.now period.now
         → boxes_meet (box_of leg) result ≡ true }
 {

@@ -13,7 +13,9 @@ use legs::{Rect, Sieve};
 /// where it holds for all of them. `Enters` and `Leaves` look at the first and the last leg alone; the others but
 /// `Always` do not look at legs between them that are off the rectangle.
 pub fn sieve(predicate: Predicate, rect: &Rect) -> Sieve
+    // It is `Ends` for `Enters` and `Leaves`, `All` for `Always`, and else `Near` the rectangle.
     ensures value { result ≡ sieve_of predicate rect.now }
+    // The predicate holds of what the sieve keeps exactly if it holds of all legs.
     ensures kept { (all some : List LegView) (period : PeriodView)
         → IsSieved result period all some
         → Holds predicate some rect.now period ↔ Holds predicate all rect.now period }

@@ -4,6 +4,7 @@ use Rattle.querylang.specs.declared.LineCode.{LineCode}
 use Rattle.querylang.specs.declared.LineFault.{LineFault}
 use Rattle.querylang.specs.declared.LineFault.TheVariants.{Refused, Memory}
 
+-- the line is refused by exactly that code, or memory ran out
 abbrev pub FaultIs : {T : Type 0} → LineFault → Result T LineCode → Type 0
 FaultIs Memory said = Unit {0}
 FaultIs (Refused code) said = said ≡ Err code

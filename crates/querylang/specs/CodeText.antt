@@ -3,6 +3,7 @@ use Rattle.std.specs.Prelude.{ℕ, List, codes}
 use Rattle.querylang.specs.declared.LineCode.{LineCode}
 use Rattle.querylang.specs.declared.LineCode.TheVariants.{Q1, Q2, Q3, Q4, Q5, Q6, Q7, Q8}
 
+-- the code of a refused line, as it is printed
 abbrev pub code_text : LineCode → List ℕ
 code_text Q1 = codes "Q1"
 code_text Q2 = codes "Q2"

@@ -140,6 +140,7 @@ command_of text = asked (keyword_of (first_word is_blank text)) text
 abbrev pub is_no_command : List ℕ → Bool
 is_no_command text = is_empty text || (slice_index text 0 == 35)
 
+-- a command that was read, or its refusal
 abbrev pub some_command : Result Command LineCode → Result (Option Command) LineCode
 some_command (Ok command) = Ok (Some command)
 some_command (Err code) = Err code

@@ -1,6 +1,6 @@
 //! The lines of a script: each a command, or refused by a code.
 //!
-//! Words are separated by runs of spaces and tabs. The language is described in `docs/SCRIPT.md`.
+//! Words are separated by runs of spaces and tabs. `docs/user/SCRIPT.md` describes the language.
 #![tactic(auto)]
 
 ghost use Rattle.std.specs.Prelude.{◌≡◌};

@@ -278,9 +278,11 @@ fn text_of(line: &[u8]) -> Option<&str>
 /// Reads a line of a script, without its line end: what it asks for; `None` for a blank line, or one
 /// whose first byte behind its blanks is `#`.
 ///
-/// Refused by the first code that applies, or `Memory` where memory ran out.
+/// The error is the first code that applies, or `Memory` if memory ran out.
 #[tactic(auto, unfolding(crate::specs::Line::line_of))]
 pub fn parse_line(alloc: Global, line: &[u8]) -> Result<Option<Command>, LineFault>
+    // It returns exactly the command of the line, or none, or its first refusal, unless memory runs
+    // out.
     ensures gives { Gives result (line_of line.now) }
     // Memory is not wanted for a line that asks for nothing.
     ensures memory { IsErrOf result LineFault.Memory → line_of line.now ≡ Ok None → ⊥ }

@@ -48,6 +48,7 @@ pub record IsKnown (count : ℕ) (features : List Feature) (known : Known) : Typ
   pub places : known.places.items ≡ map (λ f. f.kept.place) features
   pub lawful : AreLawful count features
 
+-- how many coordinates a position has in a dimension
 abbrev pub number_of : Dimension → ℕ
 number_of Two = 2
 number_of Three = 3

@@ -20,6 +20,7 @@ part_payload next text = record {
       ++ (text ++ replicate (most_used - length text) 0);
 }
 
+-- whether a kind of payload is that of a catalogue's pages
 abbrev pub is_catalogue : Kind → Bool
 is_catalogue Header = false
 is_catalogue Leaf = false

@@ -42,6 +42,7 @@ pub record HoldsText (at : ℕ → Option Payload) (count : ℕ) (w : WriterView
   pub below : All (λ p. p < count) w.pages
   pub apart : AllPairs (λ a b. a ≢ b) w.pages
 
+-- so it is of a faithful store
 abbrev pub Holds : Cache → WriterView → List ℕ → Type 0
 Holds c w text = IsTrue c.store.is_faithful → HoldsText (payload_of c) c.count w text
 

@@ -43,6 +43,7 @@ abbrev pub payload_fault : Option Payload → Option CatalogueFault
 payload_fault None = Some (Damaged 0)
 payload_fault (Some payload) = header_fault payload
 
+-- with a store of so many pages, by page 0
 abbrev pub first_fault : ℕ → Option Payload → Option CatalogueFault
 first_fault count first = if nat_lt 0 count then payload_fault first else Some Malformed
 

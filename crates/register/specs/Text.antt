@@ -30,6 +30,7 @@ columns_text columns = big_bytes 8 (length columns) ++ flat_map column_text colu
 abbrev pub space_text : Space → List ℕ
 space_text space = short_text space.crs ++ columns_text space.columns
 
+-- what is kept of a head: its base, its CRS and its columns
 abbrev pub head_text : Head → List ℕ
 head_text head = signed_bytes head.base ++ space_text head.space
 
@@ -53,6 +54,7 @@ row_text row = flat_map short_text row
 abbrev pub features_text : List Feature → List ℕ
 features_text features = big_bytes 4 (length features) ++ flat_map feature_text features
 
+-- the number of rows, and each row
 abbrev pub rows_text : List (List (List ℕ)) → List ℕ
 rows_text rows = big_bytes 4 (length rows) ++ flat_map row_text rows
 
@@ -60,6 +62,7 @@ rows_text rows = big_bytes 4 (length rows) ++ flat_map row_text rows
 abbrev pub lists_text : Lists → List ℕ
 lists_text lists = features_text lists.features ++ rows_text lists.rows
 
+-- what is kept once a file was accepted: the head, the features and the rows
 abbrev pub contents_text : Contents → List ℕ
 contents_text contents = head_text contents.head ++ lists_text contents.lists
 
@@ -68,10 +71,12 @@ abbrev pub flag_of : Option Contents → ℕ
 flag_of None = 0
 flag_of (Some contents) = 1
 
+-- what stands behind the first byte of the text
 abbrev pub body_text : Option Contents → List ℕ
 body_text None = []
 body_text (Some contents) = contents_text contents
 
+-- the text of a catalogue
 abbrev pub catalogue_text : Option Contents → List ℕ
 catalogue_text contents = flag_of contents ∷ body_text contents
 
@@ -79,9 +84,11 @@ catalogue_text contents = flag_of contents ∷ body_text contents
 abbrev pub IsNumber : ℕ → ℕ → Type 0
 IsNumber bits n = n < 2 ^ bits
 
+-- a signed number of 64 bits
 abbrev pub IsSigned : ℤ → Type 0
 IsSigned z = FitsSigned w64 z
 
+-- UTF-8 of fewer than 2^64 bytes
 pub record IsShortText (text : List ℕ) : Type 0 where
   pub utf8 : IsUtf8 text
   pub short : length text < 2 ^ 64
@@ -91,16 +98,19 @@ pub record IsColumn (column : Column) : Type 0 where
   pub name : IsShortText column.name
   pub kind : IsShortText column.kind
 
+-- a place whose numbers fit into the text
 pub record IsPlace (place : Place) : Type 0 where
   pub first : IsNumber 32 place.first
   pub last : IsNumber 32 place.last
   pub last_index : IsNumber 32 place.last_index
   pub legs : IsNumber 64 place.legs
 
+-- an end and a place that fit into the text
 pub record IsKept (kept : Kept) : Type 0 where
   pub end : IsSigned kept.end
   pub place : IsPlace kept.place
 
+-- a feature that fits into the text
 pub record IsFeature (feature : Feature) : Type 0 where
   pub name : IsShortText feature.name
   pub kept : IsKept feature.kept
@@ -115,10 +125,12 @@ pub record AreColumns (count : ℕ) (columns : List Column) : Type 0 where
   pub each : All IsColumn columns
   pub many : length columns ≡ count
 
+-- that many features, which fit into the text
 pub record AreFeatures (count : ℕ) (features : List Feature) : Type 0 where
   pub each : All IsFeature features
   pub many : length features ≡ count
 
+-- that many rows, which fit into the text
 pub record AreRows (columns count : ℕ) (rows : List (List (List ℕ))) : Type 0 where
   pub each : All (IsRow columns) rows
   pub many : length rows ≡ count
@@ -128,10 +140,12 @@ pub record HasColumns (columns : List Column) : Type 0 where
   pub each : All IsColumn columns
   pub few : IsNumber 64 (length columns)
 
+-- features that fit into the text, and their number too
 pub record HasFeatures (features : List Feature) : Type 0 where
   pub each : All IsFeature features
   pub few : IsNumber 32 (length features)
 
+-- rows that fit into the text, and their number too
 pub record HasRows (columns : ℕ) (rows : List (List (List ℕ))) : Type 0 where
   pub each : All (IsRow columns) rows
   pub few : IsNumber 32 (length rows)
@@ -141,18 +155,22 @@ pub record IsSpace (space : Space) : Type 0 where
   pub crs : IsShortText space.crs
   pub columns : HasColumns space.columns
 
+-- a head that fits into the text
 pub record IsHead (head : Head) : Type 0 where
   pub base : IsSigned head.base
   pub space : IsSpace head.space
 
+-- features and rows that fit into the text
 pub record AreLists (columns : ℕ) (lists : Lists) : Type 0 where
   pub features : HasFeatures lists.features
   pub rows : HasRows columns lists.rows
 
+-- contents that fit into the text, each row with a value for each column
 pub record AreContents (contents : Contents) : Type 0 where
   pub head : IsHead contents.head
   pub lists : AreLists (length contents.head.space.columns) contents.lists
 
+-- a text in which all fits; one without an accepted file has nothing to fit
 abbrev pub IsWhole : Option Contents → Type 0
 IsWhole None = Unit {0}
 IsWhole (Some contents) = AreContents contents
@@ -183,6 +201,7 @@ abbrev pub AreFew : ℕ → Option Contents → Type 0
 AreFew most None = Unit {0}
 AreFew most (Some contents) = HasFewLegs most contents.lists
 
+-- a text that a reader accepts: all fits, and there are few enough legs and rows
 pub record IsRead (most : ℕ) (contents : Option Contents) : Type 0 where
   pub whole : IsWhole contents
   pub few : AreFew most contents

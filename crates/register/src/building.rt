@@ -226,9 +226,12 @@ pub fn catalogue_of(
     fields: &Fields,
     contents: Option<Contents>,
 ) -> Result<(Catalogue, Vec<Place>), CatalogueFault>
+    // It returns the lawful catalogue and the places that page 0 and the text say.
     ensures is { IfOk result (λ r. IsOf count fields.now contents r.0 r.1.items) }
+    // If it fails for another reason than memory, page 0 and the text say none.
     ensures broken { IfErr result (λ e. IsBroken e → (c : CatalogueView) (places : List Place)
         → IsOf count fields.now contents c places → ⊥) }
+    // It fails only if memory runs out, or with `Malformed`.
     ensures fault { IfErr result IsTextFault }
 {
     match contents {

@@ -115,9 +115,14 @@ impl ChainReader {
 
     /// Takes in a page of the chain.
     pub fn take_page(&mut self, payload: &Payload) -> Result<(), CatalogueFault>
+        // Some of the text is left.
         requires { 0 < self.old.left }
+        // After `Ok` the page's bytes of the text are at the end of those that wait, and its next
+        // page is the next.
         ensures taken { OnOk result (TakesPart payload.now self.old self.new) }
+        // It fails only if memory runs out, or the page has not the form of one of the chain.
         ensures broken { IfErr result (IsPageFault payload.now self.old) }
+        // After an error the reader is as it was.
         ensures same { OnErr result (self.new ≡ self.old) }
     {
         self.forget();

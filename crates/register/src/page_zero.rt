@@ -36,7 +36,9 @@ fn test_state(state: u32) -> Result<(), CatalogueFault>
 
 /// Why a header does not begin as that of a finished store of a version, if it does not.
 pub fn test_front(version: u32, front: Option<Front>) -> Result<(), CatalogueFault>
+    // It fails exactly if the front is not that of a finished store of this version.
     ensures value { result ≡ result_of (front_fault version front) }
+    // It never reports a failed or a full store.
     ensures caused { IfErr result (λ e. (old new : Store) → IsReadingFault old new e) }
     ensures damaged { IfErr result (λ e. (faithful : Bool) (at : ℕ → Option Payload) (count : ℕ)
         → IsTrulyDamaged faithful at count e) }

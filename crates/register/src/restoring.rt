@@ -116,14 +116,19 @@ pub fn read_back<S: PageStore>(
     keys: RandomState,
     cache: &mut PageCache<S>,
 ) -> Result<Restored, CatalogueFault>
+    // Over a faithful store it returns what the pages of a finished store keep.
     ensures kept { IfOk result (λ r. IsTrue cache.old.store.is_faithful
         → IsKept (payload_of cache.old) cache.old.count r.catalogue r.tree r.places.items) }
+    // A fault of page 0 is returned before any other.
     ensures first { IfErr result (λ e. IsTrue cache.old.store.is_faithful
         → ComesFirst (first_fault cache.old.count (payload_of cache.old 0)) e) }
+    // If it fails for another reason than memory or the store, the pages keep nothing.
     ensures broken { IfErr result (λ e. IsTrue cache.old.store.is_faithful → (IsStop e → ⊥)
         → (c : CatalogueView) (tree : TbTree) (places : List Place)
         → IsKept (payload_of cache.old) cache.old.count c tree places → ⊥) }
+    // No payload changes, and no page that was not changed is written.
     ensures reads { OnlyReads cache.old cache.new }
+    // `Store` is returned only if the store failed, and `StoreFull` never.
     ensures caused { IfErr result (IsReadingFault cache.old.store cache.new.store) }
     ensures damaged { IfErr result (IsTrulyDamaged cache.old.store.is_faithful
         (payload_of cache.old) cache.old.count) }

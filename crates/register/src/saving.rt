@@ -352,13 +352,21 @@ fn write_chain<S: PageStore>(
 
 /// Writes all that is changed to the store, and syncs it.
 pub fn write_all<S: PageStore>(cache: &mut PageCache<S>) -> Result<(), CatalogueFault>
+    // After `Ok` no page is changed, and the store's pages seal the payloads.
     ensures written { OnOk result (IsWritten cache.new) }
+    // After `Ok` every page is synced, and no sync of the store ever failed.
     ensures synced { OnOk result (IsSynced cache.new.store) }
+    // No payload changes, on an error too.
     ensures stays { KeepsPayloads cache.old cache.new }
+    // The store has as many pages as before.
     ensures length { SameLength cache.old cache.new }
+    // No page is asked for.
     ensures asked { cache.new.asked ≡ cache.old.asked }
+    // No page that was not changed is written.
     ensures reads { OnlyReads cache.old cache.new }
+    // If memory runs out, the cache is as it was.
     ensures memory { IsErrOf result CatalogueFault.Memory → cache.new ≡ cache.old }
+    // It fails only if memory runs out, or the store failed.
     ensures caused { IfErr result (IsNotWritten cache.old cache.new) }
 {
     match cache.flush() {
@@ -445,21 +453,31 @@ pub fn keep<S: PageStore>(
     places: &[Place],
     cache: &mut PageCache<S>,
 ) -> Result<(), CatalogueFault>
+    // Page 0 and a chain of pages then say exactly this catalogue, the tree and the places.
     ensures saved { OnOk result (IsTrue cache.old.store.is_faithful
         → Says (payload_of cache.new) cache.new.count catalogue.now tree places.now) }
+    // If there are few enough features and rows, each row with all its values, everything fits into
+    // the text.
     ensures whole { OnOk result (IsCatalogue catalogue.now
         → IsWhole (contents_of catalogue.now places.now)) }
+    // Page 0 begins as it did: finished or not.
     ensures front { OnOk result (IsTrue cache.old.store.is_faithful
         → 0 < cache.old.count → KeepsFront cache.old cache.new) }
+    // After an error page 0 has the payload that it had.
     ensures first { OnErr result (IsTrue cache.old.store.is_faithful
         → 0 < cache.old.count → payload_of cache.new 0 ≡ payload_of cache.old 0) }
+    // If page 0 was not changed, it is as it was written.
     ensures first_written { IsTrue cache.old.store.is_faithful → 0 < cache.old.count
         → is_changed cache.old 0 ≡ false
         → page_of cache.new 0 ≡ page_of cache.old 0 }
+    // After an error page 0 is not changed, unless it was.
     ensures first_unmarked { OnErr result (0 < cache.old.count
         → is_changed cache.old 0 ≡ false → is_changed cache.new 0 ≡ false) }
+    // It succeeds only if there is a page 0.
     ensures some { OnOk result (0 < cache.old.count) }
+    // The cache is the same one, no page goes, and no count falls.
     ensures later { Continues cache.old cache.new }
+    // The pages of the tree say what they said, on an error too.
     ensures tree { SparesTree cache.old cache.new }
     ensures others { SparesOthers cache.old cache.new }
     ensures unreadable { SparesUnreadable cache.old cache.new }
@@ -472,7 +490,10 @@ pub fn keep<S: PageStore>(
         → HasNoRoom cache.old.count cache.old.store.most
         (catalogue_text (contents_of catalogue.now places.now)) pages }
     ensures written { OnOk result (IsWrittenButFirst cache.new) }
+    // After `Ok` every page that was written is synced.
     ensures synced { OnOk result (NoneUnsynced cache.new.store) }
+    // With a page 0, and few features and rows, it fails only if memory runs out, or the store
+    // fails or is full.
     ensures only { HasFew catalogue.now → IsTrue cache.old.store.is_faithful
         → 0 < cache.old.count → HasPageZero cache.old → IfErr result IsSavingStop }
     ensures named { HasFew catalogue.now → IsTrue cache.old.store.is_faithful

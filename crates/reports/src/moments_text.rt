@@ -273,10 +273,13 @@ pub fn push_stays<S: PageStore>(
     period: &Period,
     stays: &[Stay],
 ) -> Result<(), RunFault>
+    // It succeeds only if each stay's feature is in the book.
     ensures there { OnOk result
         (All (λ stay. stay.leg.feature < length database.now.book.names) stays.now) }
+    // It fails only if memory runs out, or with page 0 if some stay's feature is not in the book.
     ensures fault { IfErr result (IsText
         (All (λ stay. stay.leg.feature < length database.now.book.names) stays.now)) }
+    // It appends the line of field names, and one record for each stay, in order.
     ensures text { OnOk result (text.new.items
         ≡ text.old.items ++ stays_text database.now.book frame.now period.now stays.now) }
 {
@@ -317,10 +320,13 @@ pub fn push_visits<S: PageStore>(
     frame: &Frame,
     visits: &[Visit],
 ) -> Result<(), RunFault>
+    // It succeeds only if each visit's feature is in the book.
     ensures there { OnOk result
         (All (λ visit. visit.feature < length database.now.book.names) visits.now) }
+    // It fails only if memory runs out, or with page 0 if some visit's feature is not in the book.
     ensures fault { IfErr result (IsText
         (All (λ visit. visit.feature < length database.now.book.names) visits.now)) }
+    // It appends the line of field names, and one record for each visit, in order.
     ensures text { OnOk result (text.new.items
         ≡ text.old.items ++ visits_text database.now.book frame.now visits.now) }
 {
@@ -373,10 +379,13 @@ pub fn push_dwells<S: PageStore>(
     database: &Db<S>,
     dwells: &[Dwell],
 ) -> Result<(), RunFault>
+    // It succeeds only if each dwell's feature is in the book.
     ensures there { OnOk result
         (All (λ dwell. dwell.feature < length database.now.book.names) dwells.now) }
+    // It fails only if memory runs out, or with page 0 if some dwell's feature is not in the book.
     ensures fault { IfErr result (IsText
         (All (λ dwell. dwell.feature < length database.now.book.names) dwells.now)) }
+    // It appends the line of field names, and one record for each dwell, in order.
     ensures text { OnOk result (text.new.items
         ≡ text.old.items ++ dwells_text database.now.book dwells.now) }
 {

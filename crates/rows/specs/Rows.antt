@@ -43,5 +43,6 @@ pub record AreGrown (values : List (List ℕ)) (places : List Place) (first : �
 abbrev pub with_value : Grown → List ℕ → Grown
 with_value g value = record { rows = g.rows; row = g.row ++ value ∷ [] }
 
+-- the row that is begun is put at the end, and a new one has no value
 abbrev pub with_row : Grown → Grown
 with_row g = record { rows = g.rows ++ g.row ∷ []; row = [] }

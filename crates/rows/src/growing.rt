@@ -47,10 +47,12 @@ impl GrowingRows {
         }
     }
 
-    /// Puts a value behind those of the row that is begun. After a refusal, for want of memory, all
-    /// are refused; the rows, and the values so far, are as before.
+    /// Puts a value behind those of the row that is begun. If memory runs out, the rows, and the
+    /// values so far, are as before, and every later call fails.
     pub fn push_value(&mut self, value: &str) -> Result<(), AllocError>
+        // After `Ok` the value is the last one of the row that is begun.
         ensures pushed { OnOk result (self.new ≡ with_value self.old value.now) }
+        // After an error the rows, and the values so far, are as before.
         ensures stays { OnErr result (self.new ≡ self.old) }
     {
         if !self.is_whole {
@@ -65,7 +67,9 @@ impl GrowingRows {
     /// Puts the row that is begun behind the others, and begins one without values. It is refused
     /// where memory runs out, and where the row has 2^32 values; then all is as before.
     pub fn end_row(&mut self) -> Result<(), AllocError>
+        // After `Ok` the row that was begun is the last one, and a new one has no value.
         ensures ended { OnOk result (self.new ≡ with_row self.old) }
+        // After an error the rows, and the values so far, are as before.
         ensures stays { OnErr result (self.new ≡ self.old) }
     {
         let (first, end) = (self.first, self.values.len());

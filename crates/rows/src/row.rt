@@ -1,4 +1,4 @@
-//! A row that is lent.
+//! A row of values, borrowed.
 ghost use Rattle.std.specs.Prelude.{◌≡◌, length, get_or, []};
 
 use csv::ByteRecord;

@@ -154,7 +154,9 @@ impl Rows {
     /// Puts a row behind the others. It is refused where memory runs out, and where the row has 2^32
     /// values that are kept, or as many blank ones; then the rows are as before.
     pub fn push(&mut self, row: &Values) -> Result<(), AllocError>
+        // After `Ok` the row is the last one.
         ensures pushed { OnOk result (self.new ≡ self.old ++ row.now ∷ []) }
+        // After an error the rows are as before.
         ensures stays { OnErr result (self.new ≡ self.old) }
     {
         let (texts, blanks) = row.parts();
@@ -178,7 +180,9 @@ impl Rows {
     /// Puts other rows behind these; where there is none yet they are taken as they are. The rows are
     /// as before where memory runs out.
     pub fn append(&mut self, other: Rows) -> Result<(), AllocError>
+        // After `Ok` the other rows are at the end, in their order.
         ensures appended { OnOk result (self.new ≡ self.old ++ other) }
+        // After an error the rows are as before.
         ensures stays { OnErr result (self.new ≡ self.old) }
     {
         if self.places.is_empty() {

@@ -4,6 +4,7 @@ use Rattle.std_io.specs.declared.io.kind.ErrorKind.TheVariants as kind
 use Rattle.sessions.specs.declared.cause.Cause.{Cause}
 use Rattle.sessions.specs.declared.cause.Cause.TheVariants.{Absent, NoRight, Folder, NoFolder, Full, ReadOnly, Limited, Other}
 
+-- how the program names a kind of the system's error
 abbrev pub cause_of : ErrorKind → Cause
 cause_of kind.NotFound = Absent
 cause_of kind.PermissionDenied = NoRight

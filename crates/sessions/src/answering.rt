@@ -10,12 +10,17 @@ use trajdb::RunFault;
 /// Sends all the bytes, and flushes the output. Where they are not all sent, or the flush is refused, `Output`: then the
 /// output has a front of them, or all.
 pub fn send_all<'a, O: Output>(out: &mut O, bytes: &[u8]) -> Result<(), Fault<'a>>
+    // After `Ok` the output took all the bytes.
     ensures sent { OnOk result
         (Appends (O.seen out.old).contents (O.seen out.new).contents bytes.now) }
+    // After `Ok` it refused no call, and is flushed.
     ensures flushed { OnOk result (IsFlushed (O.seen out.old) (O.seen out.new)) }
+    // After an error it took a prefix of the bytes, perhaps all.
     ensures part { OnErr result ((n : ℕ) × Appends (O.seen out.old).contents
         (O.seen out.new).contents (take n bytes.now)) }
+    // It fails only if the output refused a call.
     ensures cause { OnErr result (HasRefused (O.seen out.old) (O.seen out.new)) }
+    // The error is always `Output`.
     ensures fault { IfErr result (λ e. e ≡ Fault.Run RunFault.Output) }
 {
     match out.send(bytes) {

@@ -112,6 +112,7 @@ pub fn run_on_copy<'a, F: Folder, O: Output>(
     // folder refused nothing.
     ensures copy_calls { F.copy_calls folder.new
         ≡ min (F.copy_calls folder.old + 1) (2 ^ 64 - 1) }
+    // No copy is left, as far as the system lets it be taken away.
     ensures gone { F.has_copy folder.new ≡ false }
     ensures refuses_none { OnOk result (F.refusals folder.new ≡ F.refusals folder.old) }
 

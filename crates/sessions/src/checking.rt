@@ -27,6 +27,8 @@ pub fn check_and_close<S: PageStore>(
     ensures kept { IsSoundDb database → HasPages database → IsIdle database
         → database.begun ≡ false → database.failed ≡ false
         → HoldsBook (S.seen result.0) (shape_of database) database.limits database.book }
+    // If it has begun, the store holds the book, is unfinished, or holds it in all pages but page
+    // 0, which are synced.
     ensures left { IsSoundDb database → HasPages database → IsIdle database
         → database.failed ≡ false → HoldsOrNot (S.seen result.0) database }
 
@@ -49,8 +51,11 @@ pub fn check_and_close<S: PageStore>(
     ensures only { IfErr result.1 (λ fault. IsSoundDb database → HasPages database
         → IsIdle database → database.begun ≡ false → database.failed ≡ false
         → IsQuestionFault fault) }
+    // A sound database fails only if memory runs out, or the store fails or is full.
     ensures stops { IfErr result.1 (λ fault. IsSoundDb database → HasPages database
         → IsIdle database → database.failed ≡ false → IsLoadFault fault) }
+    // `Store` is returned only if the store failed, `StoreFull` only if it is full, and `Failed`
+    // only of a failed or spent database.
     ensures caused { IfErr result.1 (IsCheckFault database (S.seen result.0)) }
 {
     let checked = database.check();

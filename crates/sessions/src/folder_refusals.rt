@@ -16,7 +16,9 @@ pub struct FolderRefusals {
 impl FolderRefusals {
     /// Nothing so far.
     pub fn nothing() -> FolderRefusals
+        // No refusal was counted.
         ensures refusals { result.refusals ≡ 0 }
+        // There is no last error.
         ensures last { result.last ≡ None }
     {
         FolderRefusals {
@@ -27,9 +29,13 @@ impl FolderRefusals {
 
     /// Counts a refusal for that fault, which is kept as the last one, and gives it back.
     pub fn note(&mut self, fault: Fault<'static>) -> Fault<'static>
+        // It returns the error that it was given.
         ensures same { result ≡ fault.entry }
+        // One refusal more is counted, up to 2^64 - 1.
         ensures counted { self.new.refusals ≡ min (self.old.refusals + 1) (2 ^ 64 - 1) }
+        // The count never falls.
         ensures later { self.old.refusals ≤ self.new.refusals }
+        // The error is now the last one.
         ensures last { self.new.last ≡ Some fault.entry }
     {
         self.refusals.add();

@@ -31,6 +31,7 @@ pub fn migrate_and_close<'a, S: PageStore, T: PageStore>(
     old: &mut S,
     new: T,
 ) -> (T, Result<(), Fault<'a>>)
+    // The new store has no page.
     requires { (T.seen new).count ≡ 0 }
     // The new store then holds the book that the other holds.
     ensures holds { OnOk result.1 (IsTrue (S.seen old.old).is_faithful
@@ -38,6 +39,7 @@ pub fn migrate_and_close<'a, S: PageStore, T: PageStore>(
         → (shape : ShapeView) (limits : LimitsView) (book : Book)
         → HoldsOldBook (S.seen old.old) shape limits book
         → HoldsBook (T.seen result.0) (present_shape shape) limits book) }
+    // After `Ok` all pages of the new store are synced.
     ensures synced { OnOk result.1 (IsSynced (T.seen result.0)) }
 
     // It was a finished one of version 1, whose catalogue and chains of leaves are whole, and the new
@@ -55,6 +57,7 @@ pub fn migrate_and_close<'a, S: PageStore, T: PageStore>(
     ensures refused { (fault : CatalogueFault) → result.1 ≡ Err (Fault.Open fault)
         → IsTrue (S.seen old.old).is_faithful → IsTrue (T.seen new).is_faithful
         → IsLeftOver (T.seen new) (T.seen result.0) }
+    // `Store` is returned only if a store failed, and `StoreFull` only if the new one is full.
     ensures caused { IfErr result.1 (IsOverFault (S.seen old.old) (S.seen old.new) (T.seen new)
         (T.seen result.0)) }
 

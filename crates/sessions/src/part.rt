@@ -19,15 +19,19 @@ pub fn send_part<'a, O: Output>(
     bytes: &[u8],
     out: &mut O,
 ) -> Result<(), Fault<'a>>
+    // There is a part of that number.
     requires { k < n }
     // What was sent is the text of the part, which says exactly its records, under their numbers in
     // the whole; or the file itself where that has a fault. Where it is refused, what was sent is a
     // front of that text, or nothing.
     ensures sends { OnOk result
         (SendsPart k n bytes.now (O.seen out.old).contents (O.seen out.new).contents) }
+    // After an error what was sent is a prefix of that text, or nothing.
     ensures cut { OnErr result
         (SendsSome k n bytes.now (O.seen out.old).contents (O.seen out.new).contents) }
+    // After `Ok` the output refused no call, and is flushed.
     ensures flushed { OnOk result (IsFlushed (O.seen out.old) (O.seen out.new)) }
+    // The error is `Output` if the output refused a call, or `Memory`, and then nothing was sent.
     ensures fault { IfErr result (λ e.
         ((e ≡ Fault.Run RunFault.Output) × HasRefused (O.seen out.old) (O.seen out.new))
         ⊎ ((e ≡ Fault.Run RunFault.Memory) × (O.seen out.new ≡ O.seen out.old))) }

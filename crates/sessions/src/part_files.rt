@@ -26,12 +26,17 @@ pub trait PartFolder {
     /// Gives the name of a part, by its number from 0, to a file of that text, in one step. Where
     /// it is refused, the names stand for what they stood for.
     fn put(&mut self, part: u64, text: &[u8]) -> Result<(), RunFault>
+        // After `Ok` this part with this text is the last one that was put.
         ensures put { OnOk result
             (puts self.new ≡ with_puts (puts self.old) ((part, text.now) ∷ [])) }
+        // After an error nothing more was put.
         ensures stays { OnErr result (puts self.new ≡ puts self.old) }
+        // The only errors are `Memory` and `Output`.
         ensures fault { IfErr result (λ e. (e ≡ RunFault.Memory) ⊎ (e ≡ RunFault.Output)) }
+        // `Output` is counted as a refusal.
         ensures cause { IsErrOf result RunFault.Output
             → HasRisen (refusals self.old) (refusals self.new) }
+        // The count of refusals never falls.
         ensures later { refusals self.old ≤ refusals self.new };
 }
 
@@ -68,7 +73,9 @@ pub fn put_parts<F: PartFolder>(
     count: u64,
     bytes: &[u8],
 ) -> Result<(), RunFault>
+    // There is at least one part.
     requires some { 0 < n }
+    // The parts that are asked for are among them.
     requires within { first + count ≤ n }
     // Each part is put once, in order, and says what `parts` says of it; the file is not looked
     // through for faults.
@@ -77,9 +84,12 @@ pub fn put_parts<F: PartFolder>(
     // Where one is not put, only parts before it were.
     ensures some { OnErr result (HasFirst first count n bytes.now
         (F.puts folder.old) (F.puts folder.new)) }
+    // The only errors are `Memory` and `Output`.
     ensures fault { IfErr result (λ e. (e ≡ RunFault.Memory) ⊎ (e ≡ RunFault.Output)) }
+    // `Output` is returned only if the folder refused a part.
     ensures cause { IsErrOf result RunFault.Output
         → HasRisen (F.refusals folder.old) (F.refusals folder.new) }
+    // The folder's count of refusals never falls.
     ensures later { F.refusals folder.old ≤ F.refusals folder.new }
 {
     let mut done = 0;

@@ -18,7 +18,9 @@ pub fn read_named<'a, R: rt::Files + AllocGlobal>(
     name: &'a str,
     most: u64,
 ) -> Result<Vec<u8>, Fault<'a>>
+    // The bytes are no more than was allowed.
     ensures most { IfOk result (λ bytes. vec_len bytes ≤ most) }
+    // It fails only if memory runs out, or with `CannotRead` and the name of the file.
     ensures refused { IfErr result (IsUnreadFile name.now) }
 {
     let fault = |error: io::Error| match error.kind() {

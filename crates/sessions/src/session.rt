@@ -57,8 +57,12 @@ pub fn database<S: PageStore>(
     ensures kept { IfOk result (λ db. IsTrue (S.seen store).is_faithful
         → (shape : ShapeView) (limits : LimitsView) (book : Book)
         → HoldsBook (S.seen store) shape limits book → HasBook shape limits book db) }
+    // Over a faithful store page 0 agrees with whether the database has begun.
     ensures pages { IfOk result (λ db. IsTrue (S.seen store).is_faithful → HasPages db) }
+    // Over a faithful store a database that has not begun is at rest: its pages keep all that it
+    // knows.
     ensures idle { IfOk result (λ db. IsTrue (S.seen store).is_faithful → IsIdle db) }
+    // It has not failed.
     ensures lives { IfOk result (λ db. db.failed ≡ false) }
 {
     if is_new && store.len() == 0 {

@@ -14,6 +14,7 @@ use Rattle.tbnode.specs.Layout.{leg_of, is_leg, entry_of, is_entry}
 abbrev pub feature_of : List ℕ → ℕ
 feature_of bytes = number_at 4 0 bytes
 
+-- how many legs a leaf's head counts
 abbrev pub leg_count : List ℕ → ℕ
 leg_count bytes = number_at 2 12 bytes
 
@@ -46,6 +47,7 @@ is_leaf bytes =
 abbrev pub level_of : List ℕ → ℕ
 level_of bytes = number_at 2 0 bytes
 
+-- how many entries an inner page's head counts
 abbrev pub entry_count : List ℕ → ℕ
 entry_count bytes = number_at 2 2 bytes
 
@@ -61,6 +63,7 @@ inner_of bytes =
       entries = map (entry_at bytes) (range_with_len 0 (entry_count bytes));
     }
 
+-- entry i is lawful
 abbrev pub is_entry_at : List ℕ → ℕ → Bool
 is_entry_at bytes i = is_entry (slot 56 i bytes)
 
@@ -103,6 +106,7 @@ rest_by Leaf bytes = drop (16 + 80 * leg_count bytes) bytes
 rest_by Inner bytes = drop (16 + 56 * entry_count bytes) bytes
 rest_by Catalogue bytes = bytes
 
+-- the bytes of a payload behind those that its head counts
 unfoldable pub slack_of : Payload → List ℕ
 slack_of payload = rest_by payload.kind payload.bytes
 

@@ -84,6 +84,7 @@ bounds_of bytes = record {
   t_max = signed_at 48 bytes;
 }
 
+-- the entry that 56 bytes say
 abbrev pub entry_of : List ℕ → EntryView BoxView
 entry_of bytes = record { child = number_at 4 0 bytes; bounds = bounds_of bytes }
 

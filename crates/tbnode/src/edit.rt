@@ -48,7 +48,9 @@ fn append_entry(bytes: &mut [u8], entry: &Entry)
 /// Makes a payload a leaf of one leg, of the leg's feature, with no next leaf. All else that the
 /// payload held is gone.
 pub fn init_leaf(payload: &mut Payload, previous: u32, leg: &Leg)
+    // The payload is then exactly that leaf.
     ensures node { node_of payload.new ≡ Some (new_leaf previous leg.now) }
+    // The bytes behind its leg are zero.
     ensures clear { IsClear payload.new }
 {
     *payload = Payload::zero(Kind::Leaf);
@@ -60,11 +62,16 @@ pub fn init_leaf(payload: &mut Payload, previous: u32, leg: &Leg)
 /// Puts a leg at the end of a leaf that takes it: there is room for it, it is of the leaf's
 /// feature, and its ordinal is above that of the last leg. No other field changes.
 pub fn push_leg(payload: &mut Payload, leg: &Leg)
+    // The payload is a leaf.
     requires leaf { IsSome (as_leaf (node_of payload.old)) }
+    // The leaf takes the leg.
     requires takes { ForSome (as_leaf (node_of payload.old)) (λ leaf. TakesLeg leaf leg.now) }
+    // The leaf has that leg at its end, and is otherwise as it was.
     ensures node { node_of payload.new
         ≡ option_map (leaf_with_leg leg.now) (as_leaf (node_of payload.old)) }
+    // The bytes behind the new leg stay as they were.
     ensures rest { slack_of payload.new ≡ drop 80 (slack_of payload.old) }
+    // If all bytes behind the legs were zero, they still are.
     ensures clear { IsClear payload.old → IsClear payload.new }
 {
     append_leg(&mut payload.bytes, leg);
@@ -72,10 +79,14 @@ pub fn push_leg(payload: &mut Payload, leg: &Leg)
 
 /// Links a leaf to the next one of its feature. No other field changes.
 pub fn set_next(payload: &mut Payload, next: u32)
+    // The payload is a leaf.
     requires { IsSome (as_leaf (node_of payload.old)) }
+    // The leaf names that next leaf, and is otherwise as it was.
     ensures node { node_of payload.new
         ≡ option_map (leaf_with_next next) (as_leaf (node_of payload.old)) }
+    // The bytes behind the legs stay as they were.
     ensures rest { slack_of payload.new ≡ slack_of payload.old }
+    // If they were zero, they still are.
     ensures clear { IsClear payload.old → IsClear payload.new }
 {
     put_u32(&mut payload.bytes, 8, next);
@@ -84,8 +95,11 @@ pub fn set_next(payload: &mut Payload, next: u32)
 /// Makes a payload an inner page of one entry, on a level above the leaves. All else that the
 /// payload held is gone.
 pub fn init_inner(payload: &mut Payload, level: u16, entry: &Entry)
+    // It is above the leaves.
     requires { 1 ≤ level }
+    // The payload is then exactly that inner page.
     ensures node { node_of payload.new ≡ Some (new_inner level entry.now) }
+    // The bytes behind its entry are zero.
     ensures clear { IsClear payload.new }
 {
     *payload = Payload::zero(Kind::Inner);
@@ -95,12 +109,17 @@ pub fn init_inner(payload: &mut Payload, level: u16, entry: &Entry)
 
 /// Puts an entry at the end of an inner page that has room for it. No other field changes.
 pub fn push_entry(payload: &mut Payload, entry: &Entry)
+    // The payload is an inner page.
     requires inner { IsSome (as_inner (node_of payload.old)) }
+    // There is room for an entry.
     requires room { ForSome (as_inner (node_of payload.old))
         (λ page. length page.entries < MOST_ENTRIES) }
+    // The page has that entry at its end, and is otherwise as it was.
     ensures node { node_of payload.new
         ≡ option_map (inner_with_entry entry.now) (as_inner (node_of payload.old)) }
+    // The bytes behind the new entry stay as they were.
     ensures rest { slack_of payload.new ≡ drop 56 (slack_of payload.old) }
+    // If all bytes behind the entries were zero, they still are.
     ensures clear { IsClear payload.old → IsClear payload.new }
 {
     append_entry(&mut payload.bytes, entry);
@@ -109,11 +128,16 @@ pub fn push_entry(payload: &mut Payload, entry: &Entry)
 /// Widens the bounds of entry `i` of an inner page to the least box that holds `bounds` as well. No
 /// other field changes.
 pub fn widen(payload: &mut Payload, i: usize, bounds: &Box3)
+    // The payload is an inner page.
     requires inner { IsSome (as_inner (node_of payload.old)) }
+    // It has an entry of that number.
     requires within { ForSome (as_inner (node_of payload.old)) (λ page. i < length page.entries) }
+    // The bounds of that entry hold the box too, and the page is otherwise as it was.
     ensures node { node_of payload.new
         ≡ option_map (inner_with_wider i bounds.now) (as_inner (node_of payload.old)) }
+    // The bytes behind the entries stay as they were.
     ensures rest { slack_of payload.new ≡ slack_of payload.old }
+    // If they were zero, they still are.
     ensures clear { IsClear payload.old → IsClear payload.new }
 {
     let place = 16 + 56 * i;

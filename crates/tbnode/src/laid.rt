@@ -27,7 +27,9 @@ fn has_moments(bytes: &[u8]) -> bool
 
 /// Whether a coordinate is in range.
 pub fn has_coord(bytes: &[u8], place: usize) -> bool
+    // There are eight bytes at that place.
     requires { place + 8 ≤ length bytes.now }
+    // It is true exactly if these say a coordinate in range.
     ensures { result ≡ is_some (units_within (signed_at place bytes.now)) }
 {
     Coord::new(i64_at(bytes, place)).is_some()
@@ -69,8 +71,11 @@ pub(crate) fn ordinal_in(bytes: &[u8]) -> u64
 
 /// The coordinate at a place.
 pub fn coord_at(bytes: &[u8], place: usize) -> Coord
+    // There are eight bytes at that place.
     requires within { place + 8 ≤ length bytes.now }
+    // They say a coordinate in range.
     requires lawful { IsTrue (is_some (units_within (signed_at place bytes.now))) }
+    // It is that coordinate.
     ensures { result ≡ signed_at place bytes.now }
 {
     Coord::new(i64_at(bytes, place)).unwrap()
@@ -78,8 +83,11 @@ pub fn coord_at(bytes: &[u8], place: usize) -> Coord
 
 /// The moment at a place.
 pub fn moment_at(bytes: &[u8], place: usize) -> Ms
+    // There are eight bytes at that place.
     requires within { place + 8 ≤ length bytes.now }
+    // They say a moment in range.
     requires lawful { IsTrue (is_some (some_moment (signed_at place bytes.now))) }
+    // It is that moment.
     ensures { result ≡ signed_at place bytes.now }
 {
     Ms::new(i64_at(bytes, place)).unwrap()

@@ -43,8 +43,11 @@ impl<'a> UntestedLeaf<'a> {
     /// Its feature and its neighbours.
     #[tactic(auto, unfolding(crate::specs::Form::leaf_of))]
     pub fn head(&self) -> LeafHead
+        // If the payload is a leaf, it is the leaf's feature.
         ensures feature { OfLeaf self.now (λ leaf. result.feature ≡ leaf.feature) }
+        // If the payload is a leaf, it is the page of the leaf before it.
         ensures previous { OfLeaf self.now (λ leaf. result.previous ≡ leaf.previous) }
+        // If the payload is a leaf, it is the page of the leaf after it.
         ensures next { OfLeaf self.now (λ leaf. result.next ≡ leaf.next) }
     {
         LeafHead {
@@ -56,8 +59,11 @@ impl<'a> UntestedLeaf<'a> {
 
     /// How many legs it counts: from 1 to `MOST_LEGS`.
     pub fn len(&self) -> usize
+        // If the payload is a leaf, it is the number of its legs.
         ensures value { OfLeaf self.now (λ leaf. result ≡ length leaf.legs) }
+        // It is at least 1, whatever the payload is.
         ensures least { 1 ≤ result }
+        // It is at most `MOST_LEGS`, whatever the payload is.
         ensures most { result ≤ MOST_LEGS }
     {
         usize::from(u16_at(&self.payload.bytes, 12))
@@ -104,7 +110,9 @@ fn is_counted(bytes: &[u8]) -> bool
 /// The payload as a leaf whose legs are not tested; `None` where its kind is not `Leaf`, or its count of legs not from 1
 /// to `MOST_LEGS`.
 pub fn untested(payload: &Payload) -> Option<UntestedLeaf<'_>>
+    // The view is of that payload.
     ensures value { IfSome result (λ leaf. leaf ≡ payload.now) }
+    // A payload that is a leaf always has one.
     ensures some { IsSome (as_leaf (node_of payload.now)) → IsSome result }
 {
     match payload.kind {

@@ -60,8 +60,11 @@ impl<'a> Leaf<'a> {
     /// Its feature and its neighbours.
     #[tactic(auto, unfolding(crate::specs::Form::leaf_of))]
     pub fn head(&self) -> LeafHead
+        // The feature of the leaf's legs.
         ensures feature { result.feature ≡ self.now.feature }
+        // The page of the leaf before it, 0 for none.
         ensures previous { result.previous ≡ self.now.previous }
+        // The page of the leaf after it, 0 for none.
         ensures next { result.next ≡ self.now.next }
     {
         LeafHead {
@@ -73,8 +76,11 @@ impl<'a> Leaf<'a> {
 
     /// How many legs it has: from 1 to `MOST_LEGS`.
     pub fn len(&self) -> usize
+        // It is the number of the leaf's legs.
         ensures value { result ≡ length self.now.legs }
+        // There is at least one.
         ensures least { 1 ≤ result }
+        // There are at most `MOST_LEGS`.
         ensures most { result ≤ MOST_LEGS }
     {
         usize::from(u16_at(&self.payload.bytes, 12))
@@ -82,8 +88,11 @@ impl<'a> Leaf<'a> {
 
     /// Leg `i`, from 0.
     pub fn leg(&self, i: usize) -> Leg
+        // The leaf has a leg of that number.
         requires { i < length self.now.legs }
+        // It is exactly that leg.
         ensures value { slice_get self.now.legs i ≡ Some result }
+        // It is of the leaf's feature.
         ensures feature { result.feature ≡ self.now.feature }
     {
         let bytes = &self.payload.bytes;
@@ -153,8 +162,11 @@ impl<'a> Inner<'a> {
 
     /// How many entries it has: from 1 to `MOST_ENTRIES`.
     pub fn len(&self) -> usize
+        // It is the number of the page's entries.
         ensures value { result ≡ length self.now.entries }
+        // There is at least one.
         ensures least { 1 ≤ result }
+        // There are at most `MOST_ENTRIES`.
         ensures most { result ≤ MOST_ENTRIES }
     {
         usize::from(u16_at(&self.payload.bytes, 2))
@@ -162,7 +174,9 @@ impl<'a> Inner<'a> {
 
     /// Entry `i`, from 0.
     pub fn entry(&self, i: usize) -> Entry
+        // The page has an entry of that number.
         requires { i < length self.now.entries }
+        // It is exactly that entry.
         ensures { slice_get self.now.entries i ≡ Some result }
     {
         entry_in(part(&self.payload.bytes, 16 + 56 * i, 56))

@@ -68,6 +68,7 @@ insert_by_ordinal leg (other ∷ legs) =
     cond (nat_lt leg.ordinal other.ordinal) (leg ∷ other ∷ legs)
     (other ∷ insert_by_ordinal leg legs)
 
+-- legs in the order of their ordinals
 abbrev pub sort_by_ordinal : List LegView → List LegView
 sort_by_ordinal [] = []
 sort_by_ordinal (leg ∷ legs) = insert_by_ordinal leg (sort_by_ordinal legs)

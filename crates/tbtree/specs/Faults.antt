@@ -29,6 +29,7 @@ RefusesReadInCache old new (cache.Damaged n) =
 RefusesReadInCache old new cache.StoreFull = ⊥
 RefusesReadInCache old new cache.Memory = Unit {0}
 
+-- the same of a tree: of a malformed page nothing is said, and no tree is spent
 abbrev pub RefusesRead : Cache → Cache → TreeFault → Type 0
 RefusesRead old new (OfCache fault) = RefusesReadInCache old new fault
 RefusesRead old new (Malformed n) = Unit {0}
@@ -44,6 +45,7 @@ RefusesWriteInCache old new (cache.Damaged n) =
 RefusesWriteInCache old new cache.StoreFull = new.count ≡ new.store.most
 RefusesWriteInCache old new cache.Memory = Unit {0}
 
+-- the same of a tree: of a malformed page nothing is said, and no tree is spent
 abbrev pub RefusesWrite : Cache → Cache → TreeFault → Type 0
 RefusesWrite old new (OfCache fault) = RefusesWriteInCache old new fault
 RefusesWrite old new (Malformed n) = Unit {0}
@@ -57,6 +59,7 @@ MayRefuseReadInCache (cache.Damaged n) = ⊥
 MayRefuseReadInCache cache.StoreFull = ⊥
 MayRefuseReadInCache cache.Memory = Unit {0}
 
+-- the same of a tree, of which no page is malformed and which is not spent
 abbrev pub MayRefuseRead : TreeFault → Type 0
 MayRefuseRead (OfCache fault) = MayRefuseReadInCache fault
 MayRefuseRead (Malformed n) = ⊥
@@ -70,6 +73,7 @@ MayRefuseWriteInCache (cache.Damaged n) = ⊥
 MayRefuseWriteInCache cache.StoreFull = Unit {0}
 MayRefuseWriteInCache cache.Memory = Unit {0}
 
+-- the same of a tree, of which no page is malformed and which is not spent
 abbrev pub MayRefuseWrite : TreeFault → Type 0
 MayRefuseWrite (OfCache fault) = MayRefuseWriteInCache fault
 MayRefuseWrite (Malformed n) = ⊥
@@ -85,6 +89,7 @@ MayRefuseHeld Spent = ⊥
 abbrev pub GivesRead : {T : Type 0} → Result T TreeFault → (T → Type 0) → Type 0
 GivesRead result P = MatchResult result P MayRefuseRead
 
+-- P of what was written, or a refusal that good pages allow
 abbrev pub GivesWrite : {T : Type 0} → Result T TreeFault → (T → Type 0) → Type 0
 GivesWrite result P = MatchResult result P MayRefuseWrite
 
@@ -96,6 +101,7 @@ NamesInCache P (cache.Damaged n) = P n
 NamesInCache P cache.StoreFull = Unit {0}
 NamesInCache P cache.Memory = Unit {0}
 
+-- the same of a tree, whose malformed page has Q
 abbrev pub NamesEach : (ℕ → Type 0) → (ℕ → Type 0) → TreeFault → Type 0
 NamesEach P Q (OfCache fault) = NamesInCache P fault
 NamesEach P Q (Malformed n) = Q n

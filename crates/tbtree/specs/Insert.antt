@@ -56,6 +56,8 @@ pub record Inserted (nodes : Pages LegView BoxView) (old tree : TbTree) (legs : 
   pub others : (f : ℕ) (other : Place) → f ≢ y.feature → IsPlace old legs old_pages f other
       → IsPlace tree (legs ++ y ∷ []) pages f other
 
+-- pages that stand for legs stand for them with a leg more that may follow, or a refusal that good
+-- pages allow
 abbrev pub Inserts : (old new : Pages LegView BoxView) (tree tree' : TbTree) (place place' : Place)
     (y : LegView) (result : Result (Unit {0}) TreeFault) → Type 0
 Inserts old new tree tree' place place' y result =

@@ -34,6 +34,7 @@ pub record Joined (nodes : Pages LegView BoxView) (old tree : TbTree) (legs : Li
   pub others : (f : ℕ) (other : Place) → f ≢ y.feature → IsPlace old legs old_pages f other
       → IsPlace tree (legs ++ y ∷ []) pages f other
 
+-- pages that hold legs hold them with a leg more that may join, or a refusal that good pages allow
 abbrev pub Joins : (old new : Pages LegView BoxView) (tree tree' : TbTree) (place place' : Place)
     (y : LegView) (result : Result (Unit {0}) TreeFault) → Type 0
 Joins old new tree tree' place place' y result =
@@ -57,6 +58,8 @@ pub record AllJoined (nodes : Pages LegView BoxView) (old tree : TbTree) (legs :
   pub others : (g : ℕ) (other : Place) → g ≢ f → IsPlace old legs old_pages g other
       → IsPlace tree (legs ++ ys) pages g other
 
+-- pages that hold legs hold them with more legs of one feature that may join in turn, or a refusal
+-- that good pages allow
 abbrev pub JoinsAll : (old new : Pages LegView BoxView) (tree tree' : TbTree) (place place' : Place)
     (ys : List LegView) (result : Result (Unit {0}) TreeFault) → Type 0
 JoinsAll old new tree tree' place place' ys result =

@@ -25,6 +25,7 @@ pub use Rattle.legs.specs.Nodes.{
 abbrev pub children : {B : Type 0} → InnerView B → List ℕ
 children page = map (λ e. e.child) page.entries
 
+-- the boxes of the entries of an inner page
 abbrev pub boxes : {B : Type 0} → InnerView B → List B
 boxes page = map (λ e. e.bounds) page.entries
 

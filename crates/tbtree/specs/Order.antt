@@ -8,10 +8,12 @@ module _ {X : Type 0} where
   put_in p [] = p ∷ []
   put_in p (q ∷ qs) = cond (nat_lt p.0 q.0) (p ∷ q ∷ qs) (q ∷ put_in p qs)
 
+  -- elements with their numbers, put among others one after another
   abbrev pub put_all : List (ℕ × X) → List (ℕ × X) → List (ℕ × X)
   put_all out [] = out
   put_all out (p ∷ ps) = put_all (put_in p out) ps
 
+  -- the elements without their numbers
   abbrev pub elements : List (ℕ × X) → List X
   elements ps = map (λ p. p.1) ps
 
@@ -20,6 +22,7 @@ module _ {X : Type 0} (key : X → ℕ) (n : ℕ) where
   abbrev pub run_for : (ℕ → ℕ) → List X → ℕ → X → ℕ
   run_for last before made x = cond (begins key n before x) made (last (key x))
 
+  -- the numbers of the last runs, with another one for a key
   abbrev pub with_last : (ℕ → ℕ) → ℕ → ℕ → ℕ → ℕ
   with_last last f v g = cond (g == f) v (last g)
 

@@ -5,6 +5,7 @@ use Rattle.pagecache.specs.Cache.{Cache, payload_of, page_of, is_changed}
 use Rattle.tbtree.specs.Faults.{RefusesWrite}
 use Rattle.tbtree.specs.declared.fault.TreeFault.{TreeFault}
 
+-- the cache is the same one: page 0 is kept, and neither pages nor asks grow fewer
 pub record Passes (old new : Cache) : Type 0 where
   pub store : store.Keeps old.store new.store
   pub capacity : new.capacity ≡ old.capacity

@@ -9,10 +9,12 @@ use Rattle.tbtree.specs.declared.tree.Place.{Place}
 use Rattle.tbtree.specs.declared.tree.TbTree.{TbTree}
 use Rattle.tbtree.specs.Nodes.{Pages, ALeaf, AnInner, LeafView, InnerView, children, boxes}
 
+-- the first number of a list, 0 for none
 abbrev pub head_or_zero : List ℕ → ℕ
 head_or_zero [] = 0
 head_or_zero (x ∷ xs) = x
 
+-- the last number of a list, or another one for none
 abbrev pub last_or : ℕ → List ℕ → ℕ
 last_or d [] = d
 last_or d (x ∷ xs) = last_or x xs

@@ -24,16 +24,19 @@ pub fn laws()
     ensures content { (nodes : Pages LegView BoxView) (tree : TbTree) (legs : List LegView)
         (pages : ℕ → List ℕ) → IsShape tree.shape → Stands nodes tree legs pages
         → content_of nodes tree ≡ legs }
+    // A way down by a test of boxes finds exactly the legs whose boxes pass, in accepted order.
     ensures found { (meets : BoxView → Bool) (nodes : Pages LegView BoxView) (tree : TbTree)
         (legs : List LegView) (pages : ℕ → List ℕ) → IsPruning leg_boxes meets
         → IsShape tree.shape → Stands nodes tree legs pages
         → found_legs meets nodes tree ≡ filter (λ leg. meets (box_of leg)) legs }
+    // All legs that a tree's pages say are lawful, whatever the pages hold.
     ensures lawful { (cache : Cache) (tree : TbTree)
         → All IsLeg (content_of (pages_of_cache cache) tree) }
 
     // Page 0 is no page of a tree, and pages that say nothing of one may change and be added.
     ensures same { (old new : Pages LegView BoxView) (tree : TbTree) → IsSameTree old new
         → (meets : BoxView → Bool) → found_legs meets new tree ≡ found_legs meets old tree }
+    // If they still say the same of the tree, they still stand for the legs.
     ensures same_stands { (old new : Pages LegView BoxView) (tree : TbTree)
         (legs : List LegView) (pages : ℕ → List ℕ) → IsSameTree old new
         → Stands old tree legs pages → Stands new tree legs pages }
@@ -62,6 +65,7 @@ pub fn laws()
     ensures bounds { (nodes : Pages LegView BoxView) (tree : TbTree) (legs : List LegView)
         (pages : ℕ → List ℕ) → IsShape tree.shape → Stands nodes tree legs pages
         → IsBounded nodes tree legs }
+    // A feature's place names pages that are there, and counts legs of the feature.
     ensures place_bounds { (nodes : Pages LegView BoxView) (tree : TbTree)
         (legs : List LegView) (pages : ℕ → List ℕ) (feature : ℕ) (place : Place)
         → Stands nodes tree legs pages → IsPlace tree legs pages feature place

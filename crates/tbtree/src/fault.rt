@@ -8,22 +8,23 @@ use pagecache::CacheFault;
 use std::alloc::{AllocError, AllocFailed};
 use thiserror::Error;
 
-/// Why a tree, a chain of its leaves or a search of it refused a call. Want of memory is said as the cache says it.
+/// The errors of a tree, of a chain of its leaves and of a search. Out of memory is the cache's
+/// error.
 #[derive(Clone, Copy, PartialEq, Eq, Debug, Error)]
 pub enum TreeFault {
-    /// The cache refused a page, or memory ran out.
+    /// The cache failed, or memory ran out.
     #[error("{0}")]
     Cache(CacheFault),
     /// The page of that number is not the one that the tree, or the chain, has there.
     #[error("page {0} is malformed")]
     Malformed(u32),
-    /// The tree is spent: an earlier insertion was refused.
+    /// The tree is spent: an earlier insertion failed.
     #[error("the tree is spent")]
     Spent,
 }
 
 impl TreeFault {
-    /// Why a page was not lent. That there is none of its number is said as that page being malformed.
+    /// The tree's error for an error of the cache. A page that is not there is malformed.
     pub fn of(fault: CacheFault, page: u32) -> TreeFault
         ensures { result ≡ fault_of page fault }
     {

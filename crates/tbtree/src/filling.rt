@@ -53,10 +53,11 @@ fn put_all<S: PageStore>(
     Ok(())
 }
 
-/// Puts legs of one feature into the tree, one after another, at the place of the feature: what
-/// fills its last leaf, and then each new leaf. The last leaf, and the pages above it, are looked at
-/// and widened once for all the legs that it takes; a leaf that is made is added with all its legs.
-/// Any refusal leaves the tree spent, and a spent tree is refused by `Spent`.
+/// Puts legs of one feature into the tree, one after another, at the place of the feature: first
+/// into its last leaf, then into new leaves. The last leaf, and the pages above it, are widened
+/// once for all the legs that it takes. A new leaf is added with all its legs.
+///
+/// Any error leaves the tree spent. A spent tree returns `Spent`.
 pub fn insert_all<S: PageStore>(
     tree: &mut TbTree,
     cache: &mut PageCache<S>,
@@ -68,11 +69,15 @@ pub fn insert_all<S: PageStore>(
     ensures joins { tree.old.spent ≡ false → IsTrue cache.old.store.is_faithful
         → JoinsAll (pages_of_cache cache.old) (pages_of_cache cache.new) tree.old tree.new
         place.old place.new legs.now result }
+    // The tree keeps its shape.
     ensures shape { tree.new.shape ≡ tree.old.shape }
 
     // What is left of the cache, over any pages.
     ensures passes { Passes cache.old cache.new }
+    // After `Ok` the cache counts all pages of the store, if it did before.
     ensures length { OnOk result (KeepsLength cache.old cache.new) }
+    // `Store` is returned only if the store failed, `StoreFull` only if it is full, and a damaged
+    // page has no payload.
     ensures caused { tree.old.spent ≡ false → IfErr result (RefusesWrite cache.old cache.new) }
 
     // Over any pages the place counts the legs.
@@ -80,7 +85,9 @@ pub fn insert_all<S: PageStore>(
 
     // A refusal is for good.
     ensures works { OnOk result (tree.new.spent ≡ false) }
+    // After an error the tree is spent.
     ensures spent { OnErr result (tree.new.spent ≡ true) }
+    // A spent tree returns `Spent`, and nothing changes.
     ensures was_spent { tree.old.spent ≡ true → (result ≡ Err TreeFault.Spent)
         × (tree.new ≡ tree.old) × (place.new ≡ place.old) × (cache.new ≡ cache.old) }
 {

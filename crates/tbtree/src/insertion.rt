@@ -354,10 +354,12 @@ pub(crate) fn put<S: PageStore>(
     into_last(cache, tree, place, legs)
 }
 
-/// Puts a leg into the tree, at the place of its feature. A root that is not there is `Malformed`, and so is page 0 where a
-/// root is to be put over it, and the last leaf of a place that has legs and names none, or has none and names one. A last
-/// leaf that is not there, behind which one is to be made, is `Malformed` before that is made. Any refusal leaves the tree
-/// spent, and a spent tree is refused by `Spent`.
+/// Puts a leg into the tree, at the place of its feature.
+///
+/// `Malformed` names a root that is not there, and page 0 if a root is to be put over it. It names
+/// the last leaf of a place if the place has legs and names none, or has none and names one. A last
+/// leaf that is not there is named before a new one is made behind it. Any error leaves the tree
+/// spent. A spent tree returns `Spent`.
 pub fn insert<S: PageStore>(
     tree: &mut TbTree,
     cache: &mut PageCache<S>,
@@ -372,18 +374,25 @@ pub fn insert<S: PageStore>(
     ensures joins { tree.old.spent ≡ false → IsTrue cache.old.store.is_faithful
         → Joins (pages_of_cache cache.old) (pages_of_cache cache.new) tree.old tree.new
         place.old place.new leg result }
+    // The tree keeps its shape.
     ensures shape { tree.new.shape ≡ tree.old.shape }
 
     // What is left of the cache, over any pages.
     ensures passes { Passes cache.old cache.new }
+    // After `Ok` the cache counts all pages of the store, if it did before.
     ensures length { OnOk result (KeepsLength cache.old cache.new) }
+    // `Store` is returned only if the store failed, `StoreFull` only if it is full, and a damaged
+    // page has no payload.
     ensures caused { tree.old.spent ≡ false → IfErr result (RefusesWrite cache.old cache.new) }
+    // After `Ok` at most twice the root's height and four pages were asked for.
     ensures asked { OnOk result (cache.new.asked
         ≤ cache.old.asked + (2 * (tree.new.levels - 1) + 4)) }
 
     // A refusal is for good.
     ensures works { OnOk result (tree.new.spent ≡ false) }
+    // After an error the tree is spent.
     ensures spent { OnErr result (tree.new.spent ≡ true) }
+    // A spent tree returns `Spent`, and nothing changes.
     ensures was_spent { tree.old.spent ≡ true → (result ≡ Err TreeFault.Spent)
         × (tree.new ≡ tree.old) × (place.new ≡ place.old) × (cache.new ≡ cache.old) }
 {

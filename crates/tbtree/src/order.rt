@@ -16,15 +16,20 @@ ghost use Rattle.tbtree.specs.declared.tree.TbTree.{TbTree};
 /// Legs that may follow one another may be put into a tree leaf by leaf, and it is then as if they had been put in
 /// their own order.
 pub fn order_laws()
+    // Legs put in leaf by leaf are the same legs, in another order.
     ensures moves { (leaf : ℕ) (before legs : List LegView)
         → IsPermutation (leaf_by_leaf leaf before legs) legs }
+    // The legs of each feature keep their order.
     ensures kept { (leaf feature : ℕ) (before legs : List LegView)
         → legs_of feature (leaf_by_leaf leaf before legs) ≡ legs_of feature legs }
+    // They fill the same leaves as in their own order.
     ensures runs { (leaf : ℕ) (before legs : List LegView)
         → runs leg_feature leaf (before ++ leaf_by_leaf leaf before legs)
         ≡ runs leg_feature leaf (before ++ legs) }
+    // Legs that may follow one another may be put in leaf by leaf.
     ensures taken { (leaf : ℕ) (before legs : List LegView) → CanFollowInTurn [] before
         → CanFollowInTurn before legs → CanTakeInTurn before (leaf_by_leaf leaf before legs) }
+    // Pages that hold them leaf by leaf stand for them in their own order, with the same places.
     ensures reordered { (nodes : Pages LegView BoxView) (tree : TbTree)
         (before legs : List LegView) (pages : ℕ → List ℕ) → CanFollowInTurn [] before
         → CanFollowInTurn before legs
@@ -35,6 +40,7 @@ pub fn order_laws()
     ensures fits { (nodes : Pages LegView BoxView) (tree : TbTree) (legs : List LegView)
         (pages : ℕ → List ℕ) → IsShape tree.shape → Holds nodes tree legs pages
         → length legs ≤ nodes.count * tree.shape.leaf }
+    // A feature without legs has a place without leaves.
     ensures absent { (tree : TbTree) (legs : List LegView) (pages : ℕ → List ℕ) (feature : ℕ)
         → IsShape tree.shape → legs_of feature legs ≡ []
         → IsPlace tree legs pages feature no_place }

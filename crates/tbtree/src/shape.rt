@@ -38,7 +38,9 @@ impl Shape {
 
     /// How many legs a leaf has at most.
     pub fn leaf(self) -> u16
+        // It is the shape's number of legs.
         ensures value { result ≡ self.leaf }
+        // It is in the range that a page has room for.
         ensures range { IsShape self }
     {
         self.leaf
@@ -46,7 +48,9 @@ impl Shape {
 
     /// How many entries an inner page has at most.
     pub fn inner(self) -> u16
+        // It is the shape's number of entries.
         ensures value { result ≡ self.inner }
+        // It is in the range that a page has room for.
         ensures range { IsShape self }
     {
         self.inner

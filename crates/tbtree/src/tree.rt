@@ -8,8 +8,8 @@ ghost use Rattle.tbtree.specs.Stands.{empty_tree, no_place};
 
 use crate::shape::Shape;
 
-/// A tree: the page of its root and how many levels it has (both 0 without a leg), how many leaves, its shape, and
-/// whether an insertion was refused.
+/// A tree: the page of its root and how many levels it has (both 0 without a leg), how many leaves,
+/// its shape, and whether an insertion failed.
 #[derive(Clone, Copy, PartialEq, Eq, Debug)]
 pub struct TbTree {
     pub root: u32,
@@ -22,10 +22,13 @@ pub struct TbTree {
 impl TbTree {
     /// A tree without legs. It has no page, so it stands over any pages that are all sealed and have a page 0.
     pub fn new(shape: Shape) -> TbTree
+        // It has this shape, no page and no level, and is not spent.
         ensures value { result ≡ empty_tree shape }
+        // Over sealed pages with a page 0 it stands for no legs.
         ensures stands { (pages : Pages LegView BoxView) → 0 < pages.count
             → ((p : ℕ) → p < pages.count → pages.at p ≢ None)
             → Stands pages result [] (λ _. []) }
+        // Each feature has the place of one without legs.
         ensures places { (feature : ℕ) → IsPlace result [] (λ _. []) feature no_place }
     {
         TbTree {

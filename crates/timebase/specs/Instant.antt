@@ -13,6 +13,7 @@ first_moment = neg_ℤ (pos 62135596800000)
 abbrev pub last_moment : ℤ
 last_moment = pos 253370764799999
 
+-- a number of milliseconds from the first moment to the last
 abbrev pub IsMoment : ℤ → Type 0
 IsMoment z = (first_moment ≤ℤ z) × (z ≤ℤ last_moment)
 
@@ -24,6 +25,7 @@ is_moment z = int_le first_moment z && int_le z last_moment
 abbrev pub some_moment : ℤ → Option ℤ
 some_moment z = if is_moment z then Some z else None
 
+-- the moment, or that it is out of range
 abbrev pub moment_within : ℤ → Result ℤ TimeFault
 moment_within z = if is_moment z then Ok z else Err OutOfRange
 

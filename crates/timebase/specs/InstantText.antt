@@ -21,6 +21,7 @@ year_at n = pos (year_place n) -ℤ pos 10000
 abbrev pub day_in_year : ℕ → ℕ
 day_in_year n = n - days_of_years (year_place n)
 
+-- how many months of the year are over
 unfoldable pub month_place : ℕ → ℕ
 month_place n = last_within (days_of_months (year_at n)) 11 (day_in_year n)
 
@@ -28,6 +29,7 @@ month_place n = last_within (days_of_months (year_at n)) 11 (day_in_year n)
 abbrev pub month_at : ℕ → ℕ
 month_at n = month_place n + 1
 
+-- its day of the month, from 1
 abbrev pub day_at : ℕ → ℕ
 day_at n = day_in_year n - days_of_months (year_at n) (month_place n) + 1
 

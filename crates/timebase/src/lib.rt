@@ -83,7 +83,9 @@ impl Ms {
 
     /// How many milliseconds after 1970-01-01T00:00:00Z it lies, less than 0 before it.
     pub fn millis(self) -> i64
+        // It is the moment, as a whole number.
         ensures value { result ≡ self }
+        // It is in the range of moments.
         ensures moment { IsMoment self }
     {
         self.millis
@@ -124,7 +126,9 @@ impl Period {
 
     /// Its first moment.
     pub fn start(self) -> Ms
+        // It is the first moment.
         ensures value { result ≡ self.start }
+        // It is not after the last one.
         ensures ordered { self.start ≤ℤ self.end }
     {
         self.start
@@ -132,7 +136,9 @@ impl Period {
 
     /// Its last moment.
     pub fn end(self) -> Ms
+        // It is the last moment.
         ensures value { result ≡ self.end }
+        // It is not before the first one.
         ensures ordered { self.start ≤ℤ self.end }
     {
         self.end
@@ -174,7 +180,9 @@ pub fn read_instant(text: &str) -> Result<Ms, TimeFault>
 
 /// Appends the text of a moment, its date and time at UTC as `YYYY-MM-DDTHH:MM:SS.mmmZ`.
 pub fn push_instant(out: &mut Vec<u8>, at: Ms) -> Result<(), Memory>
+    // It appends exactly the text of the moment.
     ensures ok { OnOk result (out.new.items ≡ out.old.items ++ instant_text at) }
+    // If memory runs out, nothing was appended.
     ensures err { OnErr result (out.new.items ≡ out.old.items) }
 
     // The text that is appended.

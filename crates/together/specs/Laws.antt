@@ -18,6 +18,7 @@ abbrev pub LegsText : Type 0
 LegsText = (book : Book) (legs : List LegView)
     → legs_text book legs ≡ told_text book.head (told book legs)
 
+-- the text of an answer of features says their names
 abbrev pub NamesText : Type 0
 NamesText =
     (book : Book) (features : List ℕ)

@@ -14,9 +14,11 @@ is_in f k name = f name == k
 abbrev pub own_names : (List ℕ → ℕ) → ℕ → List (List ℕ) → List (List ℕ)
 own_names f k names = filter (is_in f k) names
 
+-- the told legs of part k, in their order
 abbrev pub own_legs : (List ℕ → ℕ) → ℕ → List EntryView → List EntryView
 own_legs f k entries = filter (λ e. is_in f k e.name) entries
 
+-- the records of part k, in their order
 abbrev pub own_records : (List ℕ → ℕ) → ℕ → List RecordView → List RecordView
 own_records f k records = filter (λ r. is_in f k r.mfidref) records
 
@@ -36,6 +38,7 @@ pub record IsTold (book : Book) : Type 0 where
 abbrev pub late_one : Book → RecordView → List RecordView
 late_one book r = if is_before r.t0 (name_end book r.mfidref) then r ∷ [] else []
 
+-- such records of a list, each given the ones before it
 abbrev pub late : Book → List RecordView → List RecordView
 late book [] = []
 late book (r ∷ records) = late_one book r ++ late (with_record book r) records

@@ -20,6 +20,7 @@ told_leg book leg =
       values = slice_index_or book.rows leg.row [];
     }
 
+-- legs as they are told
 abbrev pub told : Book → List LegView → List EntryView
 told book legs = map (told_leg book) legs
 

@@ -40,10 +40,12 @@ counts_of file legs =
       features = length (names_after [] file.records);
     }
 
+-- the counts of a file that was joined, or the fault of joining it
 abbrev pub counts_or : File → Result (List LegView) (JoinCode × ℕ) → Result Counts (FileCode × ℕ)
 counts_or file (Ok legs) = Ok (counts_of file legs)
 counts_or file (Err fault) = Err (Join fault.0, fault.1)
 
+-- the counts of a file that joins a book, or its first fault: of its text, else of joining it
 abbrev pub joined_counts : LimitsView → Book → Result File (Code × ℕ) → Result Counts (FileCode × ℕ)
 joined_counts limits book (Ok file) = counts_or file (joined limits book file)
 joined_counts limits book (Err fault) = Err (Text fault.0, fault.1)
@@ -52,6 +54,7 @@ joined_counts limits book (Err fault) = Err (Text fault.0, fault.1)
 unfoldable pub load_of : LimitsView → Book → List ℕ → Result Counts (FileCode × ℕ)
 load_of limits book bytes = joined_counts limits book (file_of_bytes bytes)
 
+-- the book after a file that was read; as it was where the text has a fault
 abbrev pub book_by : LimitsView → Book → Result File (Code × ℕ) → Book
 book_by limits book (Ok file) = book_after limits book file
 book_by limits book (Err fault) = book
@@ -64,9 +67,11 @@ book_with limits book bytes = book_by limits book (file_of_bytes bytes)
 abbrev pub ok_text : ℕ → List ℕ
 ok_text n = codes "ok " ++ decimal n ++ 10 ∷ []
 
+-- `refused CODE` and a line end
 abbrev pub refusal_text : List ℕ → List ℕ
 refusal_text code = codes "refused " ++ code ++ 10 ∷ []
 
+-- `ok 1`, and on a line the counts of records, legs and features
 abbrev pub counts_text : Counts → List ℕ
 counts_text counts =
     ok_text 1 ++ decimal counts.records ++ 44 ∷ [] ++ decimal counts.legs ++ 44 ∷ []
@@ -82,6 +87,7 @@ load_text (Err fault) =
 abbrev pub IsCountsText : List ℕ → Type 0
 IsCountsText text = (counts : Counts) × (text ≡ counts_text counts)
 
+-- the text is the refusal of a file
 abbrev pub IsFileRefusal : List ℕ → Type 0
 IsFileRefusal text = (fault : FileCode × ℕ) × (text ≡ load_text (Err fault))
 
@@ -124,6 +130,7 @@ abbrev pub named_text : LimitsView → Book → Option (List ℕ) → List ℕ
 named_text limits book (Some bytes) = load_text (load_of limits book bytes)
 named_text limits book None = refusal_text (codes "Q9")
 
+-- the book after a `load`: with the file, if one has that name
 abbrev pub named_book : LimitsView → Book → Option (List ℕ) → Book
 named_book limits book (Some bytes) = book_with limits book bytes
 named_book limits book None = book
@@ -210,21 +217,25 @@ IsSaid limits files book (Ok (Some command)) text = IsAnswer limits files book c
 IsSaid limits files book (Ok None) text = text ≡ []
 IsSaid limits files book (Err code) text = text ≡ refusal_text (code_text code)
 
+-- the book after a line that was read
 abbrev pub said_book : LimitsView → List (List ℕ × List ℕ) → Book → Result (Option Command) LineCode
     → Book
 said_book limits files book (Ok (Some command)) = book_then limits files book command
 said_book limits files book (Ok None) = book
 said_book limits files book (Err code) = book
 
+-- a line that was read is the `load` of a file that is there and is accepted
 abbrev pub AcceptsSaid : LimitsView → List (List ℕ × List ℕ) → Book
     → Result (Option Command) LineCode → Type 0
 AcceptsSaid limits files book (Ok (Some command)) = AcceptsBy limits files book command
 AcceptsSaid limits files book (Ok None) = ⊥
 AcceptsSaid limits files book (Err code) = ⊥
 
+-- the text is the answer to a line, over a book
 unfoldable pub IsLineText : LimitsView → List (List ℕ × List ℕ) → Book → List ℕ → List ℕ → Type 0
 IsLineText limits files book line text = IsSaid limits files book (line_of line) text
 
+-- the book after a line
 unfoldable pub line_book : LimitsView → List (List ℕ × List ℕ) → Book → List ℕ → Book
 line_book limits files book line = said_book limits files book (line_of line)
 

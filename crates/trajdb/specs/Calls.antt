@@ -157,6 +157,7 @@ Loads files (Features predicate rect period) = ⊥
 Loads files (Trajectory name) = ⊥
 Loads files Write = ⊥
 
+-- a line that was read is the `load` of a file that is there
 abbrev pub LoadsIn : List (List ℕ × List ℕ) → Result (Option Command) LineCode → Type 0
 LoadsIn files (Ok (Some command)) = Loads files command
 LoadsIn files (Ok None) = ⊥

@@ -55,10 +55,12 @@ abbrev pub FaultIs : LoadFault → Result Counts (FileCode × ℕ) → Type 0
 FaultIs (Refused code number) said = said ≡ Err (code, number)
 FaultIs (Run fault) said = Unit {0}
 
+-- `load` returns exactly the counts or the fault that are said, or that it could not tell
 abbrev pub LoadGives : Result Counts LoadFault → Result Counts (FileCode × ℕ) → Type 0
 LoadGives (Ok counts) said = said ≡ Ok counts
 LoadGives (Err fault) said = FaultIs fault said
 
+-- the file was refused for a fault of its own
 abbrev pub IsRefused : LoadFault → Type 0
 IsRefused (Refused code number) = Unit {0}
 IsRefused (Run fault) = ⊥

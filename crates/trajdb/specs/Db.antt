@@ -8,6 +8,7 @@ use Rattle.trajdb.specs.Calls.{HasPages as HasPagesCore}
 use Rattle.register.specs.declared.fault.CatalogueFault.{CatalogueFault}
 use Rattle.register.specs.declared.fault.CatalogueFault.TheVariants.{Memory, Store as StoreFailed, Damaged, StoreFull, Unfinished, Version, Malformed}
 
+-- what contracts see of a database over the pages of a store
 abbrev pub DbView : Type 0
 DbView = CoreView IndexView
 
@@ -15,12 +16,15 @@ DbView = CoreView IndexView
 abbrev pub store_of : DbView → Store
 store_of db = db.index.cache.store
 
+-- the shape of its tree
 abbrev pub shape_of : DbView → ShapeView
 shape_of db = db.index.tree.shape
 
+-- how many pages its cache holds at most
 abbrev pub capacity_of : DbView → ℕ
 capacity_of db = db.index.cache.capacity
 
+-- how many pages its cache counts
 abbrev pub page_count_of : DbView → ℕ
 page_count_of db = db.index.cache.count
 

@@ -44,6 +44,7 @@ closed_fault_of catalogue.Unfinished = Damaged 0
 closed_fault_of catalogue.Version = Damaged 0
 closed_fault_of catalogue.Malformed = Damaged 0
 
+-- what closing a database returns, by what closing its catalogue returned
 abbrev pub closed_answer : Result (Unit {0}) CatalogueFault → Result (Unit {0}) RunFault
 closed_answer (Ok x) = Ok x
 closed_answer (Err fault) = Err (closed_fault_of fault)

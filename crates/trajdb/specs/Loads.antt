@@ -21,14 +21,17 @@ use Rattle.trajdb.specs.declared.LoadFault.TheVariants.{Refused, Run}
 use Rattle.trajdb.specs.declared.RunFault.TheVariants.{Memory}
 use Rattle.trajdb.specs.declared.load.NewFile.{NewFile}
 
+-- how `load` reports a fault of reading a file
 abbrev pub code_fault : FileFault → LoadFault
 code_fault (text.Refused code number) = Refused (Text code) number
 code_fault text.Memory = Run Memory
 
+-- how `load` reports a fault of joining a file
 abbrev pub join_fault : JoinFault → LoadFault
 join_fault (join.Refused code number) = Refused (Join code) number
 join_fault join.Memory = Run Memory
 
+-- the counts of a file that was joined
 abbrev pub counts_in : JoinedView → Counts
 counts_in joined = record {
   records = joined.records;
@@ -36,6 +39,7 @@ counts_in joined = record {
   features = length joined.names.names;
 }
 
+-- the rows of attribute values of records
 abbrev pub values_of : List RecordView → List (List (List ℕ))
 values_of records = map (λ (r : RecordView). r.attributes) records
 

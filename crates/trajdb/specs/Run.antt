@@ -65,6 +65,7 @@ abbrev pub StopsAt : List (List ℕ × List ℕ) → Bool → RunFault → List 
 StopsAt files failed fault lines =
     (k : ℕ) × (k < length lines) × FailsAt files failed fault (slice_index_or lines k [])
 
+-- the first bytes are a prefix of the others
 abbrev pub IsPrefixOf : List ℕ → List ℕ → Type 0
 IsPrefixOf front all = (rest : List ℕ) × (all ≡ front ++ rest)
 

@@ -1,9 +1,11 @@
 -- The lines of a script.
 use Rattle.std.specs.Prelude.{ℕ, ◌-◌, ◌==◌, Bool, if◌then◌else◌, List, [], ◌∷◌, map, take, length, slice_index}
 
+-- the byte is LF, which ends a line
 abbrev pub is_line_end : ℕ → Bool
 is_line_end c = c == 10
 
+-- a byte in front of the first piece
 abbrev pub onto_first : ℕ → List (List ℕ) → List (List ℕ)
 onto_first c [] = (c ∷ []) ∷ []
 onto_first c (line ∷ lines) = (c ∷ line) ∷ lines

@@ -79,6 +79,7 @@ module _ {I : Type 0} (g : Ghosts I) (core : CoreView I) where
       × PicksLive predicate rect period features others)
       ⊎ ((Holds predicate legs rect period → ⊥) × PicksLive predicate rect period features picked))
 
+  -- the answer of the features for whose live legs a predicate holds, as the index tells them
   abbrev pub IsToldFeatures : Predicate → RectView → PeriodView → List ℕ → Type 0
   IsToldFeatures predicate rect period text =
       (picked : List ℕ)
@@ -90,6 +91,7 @@ module _ {I : Type 0} (g : Ghosts I) (core : CoreView I) where
   AreToldOf (Some feature) legs = g.tells core.index (OfFeature feature None) legs
   AreToldOf None legs = legs ≡ []
 
+  -- the answer of the legs of a feature, as the index tells them
   abbrev pub IsToldTrack : Option ℕ → List ℕ → Type 0
   IsToldTrack feature text = (legs : List LegView) × AreToldOf feature legs × ShowsLegs legs text
 
@@ -170,6 +172,7 @@ module _ {I : Type 0} (g : Ghosts I) (files : List (List ℕ × List ℕ)) where
   TellsSaid old new (Ok None) text = (text ≡ []) × (new ≡ old)
   TellsSaid old new (Err code) text = (text ≡ refusal_text (code_text code)) × (new ≡ old)
 
+  -- the text is what a line answers by what is told, and this is left
   unfoldable pub TellsLine : (old new : CoreView I) → List ℕ → List ℕ → Type 0
   TellsLine old new line text = TellsSaid old new (line_of line) text
 
@@ -209,6 +212,7 @@ module _ {I : Type 0} (g : Ghosts I) (files : List (List ℕ × List ℕ)) where
     pub tells : TellsLine old new line text
     pub sends : Appends sent sent' text
 
+  -- a line is done, and the first n bytes of its answer were sent
   pub record HasCutTold (sent sent' : Option (List ℕ)) (old new : CoreView I)
       (line : List ℕ) : Type 0 where
     pub text : List ℕ

@@ -173,16 +173,16 @@ impl<S: PageStore> Core<TreeIndex<S>> {
 impl<S: PageStore> Db<S> {
     ghost use Rattle.trajdb.specs.Promises.{CheckCall, KeepsStore};
 
-    /// Tests that the pages of its store, whoever made them, and what is known beside them hold one
-    /// book: all that is changed is written; each page is asked of the cache for its seal; page 0 is
-    /// the header of a store that is not finished where the database was made, or has accepted a
-    /// file since it was opened, and of a finished one else; then the leaves are walked feature by
-    /// feature, then the tree from the root down. How many pages the store has, and legs and
-    /// features the book.
+    /// Tests whether the pages of its store, whoever made them, and what is known beside them hold
+    /// one book. Returns how many pages the store has, and how many legs and features the book.
     ///
-    /// `Damaged` names the first page that fails, and page 0 where what is known beside the pages
-    /// does. Refused as well for want of memory, and where the store fails; a failed database is
-    /// `Failed`. Whatever is answered, the book stays.
+    /// It writes what is changed, and reads each page for its seal. Page 0 has to say unfinished if
+    /// the database has begun, and finished if not. Then it walks the leaves feature by feature,
+    /// and the tree from the root down.
+    ///
+    /// `Damaged` names the first page that fails, or page 0 if what is known beside the pages does.
+    /// It fails too if memory runs out or the store fails. A failed database returns `Failed`. The
+    /// book stays, whatever is returned.
     pub fn check(&mut self) -> Result<Report, RunFault>
         ensures call { CheckCall self.old self.new result }
         ensures keeps { KeepsStore self.old self.new }

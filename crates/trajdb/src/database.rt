@@ -214,10 +214,12 @@ impl<I: Start> Core<I> {
 impl<I: Start> Core<I> {
     ghost use Rattle.trajdb.specs.Promises.{LoadCall};
 
-    /// Accepts a file, whole or not at all: how many data records, legs and distinct features it has,
-    /// or the first fault of its text, or else of its joining, by which nothing changes.
+    /// Accepts a file, whole or not at all. Returns how many data records, legs and distinct
+    /// features it has, or its first fault: of its text, else of joining it. A refused file changes
+    /// nothing.
     ///
-    /// Where the database cannot tell, as for want of memory, it is failed: it answers nothing any more (`Failed`).
+    /// If the database cannot tell, as when memory runs out, it has failed, and does nothing more
+    /// (`Failed`).
     pub fn load(&mut self, alloc: Global, bytes: &[u8]) -> Result<Counts, LoadFault>
         ensures { LoadCall I.Listed self.old self.new bytes.now result }
     {
@@ -275,10 +277,10 @@ impl<I: Start> Core<I> {
 impl<I: Start> Core<I> {
     ghost use Rattle.trajdb.specs.Promises.{CommandCall};
 
-    /// The whole answer to a command, with the named files at hand.
+    /// Returns the whole answer to a command, with the named files at hand.
     ///
-    /// A command that is not answered changes nothing, or is a `load`, and the database is failed, and does nothing any
-    /// more (`Failed`).
+    /// A command that fails changes nothing, unless it is a `load`. Then the database has failed,
+    /// and does nothing more (`Failed`).
     pub fn command(
         &mut self,
         alloc: Global,
@@ -422,10 +424,11 @@ impl<I: Start> Core<I> {
 
     /// Runs a script, with the named files at hand, and sends its answers.
     ///
-    /// Where a line is not answered the run stops: the answers to the lines before it were sent, whole, and flushed unless
-    /// the output refuses that, and the database is left as after these, or is failed, and the line a `load` of a file that
-    /// is there. Where the output fails (`Output`) a front of the answers was sent, all but the last of them whole. A failed
-    /// database does nothing (`Failed`).
+    /// The run stops at a line that fails. The answers to the lines before were sent whole, and
+    /// flushed unless the output fails. The database is as after these lines; or it has failed, and
+    /// the line is a `load` of a file that is there. If the output fails (`Output`), a prefix of
+    /// the answers was sent, all but the last of them whole. A failed database does nothing
+    /// (`Failed`).
     pub fn run<O: Output>(
         &mut self,
         alloc: Global,

@@ -73,10 +73,12 @@ impl<S: PageStore> Db<S> {
     ghost use Rattle.trajdb.specs.Db.{HasPages, IsCaused, IsSoundDb};
     ghost use Rattle.trajdb.specs.Lasting.{IsSafe};
 
-    /// A new database over an empty store, with no file accepted, whose cache holds at most that many pages, at least
-    /// 1. Names are hashed with the keys, which a stranger who chooses the names of a file is not to know.
+    /// Makes a database over an empty store. Its cache holds at most that many pages, at least 1.
+    /// Names are hashed with the keys, which a stranger who chooses the names of a file is not to
+    /// know.
     ///
-    /// Refused for want of memory, and where the store fails or has no room for a page; the store is then handed back.
+    /// On an error the store is handed back. It fails if memory runs out, or the store fails or has
+    /// no room for a page.
     pub fn create(
         alloc: Global,
         keys: RandomState,
@@ -85,27 +87,45 @@ impl<S: PageStore> Db<S> {
         cache_pages: usize,
         limits: Limits,
     ) -> Result<Db<S>, (S, OpenFault)>
+        // The store has no page.
         requires empty { (S.seen store).count ≡ 0 }
+        // The cache has room for a page.
         requires cache_pages { 0 < cache_pages }
+        // Over a faithful store the new database is sound.
         ensures sound { IfOk result (λ db. IsTrue (S.seen store).is_faithful → IsSoundDb db) }
+        // No file was accepted: the book is the empty one.
         ensures book { IfOk result (λ db. db.book ≡ empty_book) }
+        // It keeps the limits that were given.
         ensures limits { IfOk result (λ db. db.limits ≡ limits) }
+        // Its tree has the shape that was given.
         ensures shape { IfOk result (λ db. words.plan db.index ≡ Some shape) }
+        // Its cache holds at most that many pages.
         ensures capacity { IfOk result (λ db. db.index.cache.capacity ≡ cache_pages) }
+        // Page 0 is the only page: the header of an unfinished store, with this shape and these
+        // limits.
         ensures stored { IfOk result (λ db. Writes 0 (sealed 0 (header_payload shape limits))
             (S.seen store) db.index.cache.store) }
+        // That page is synced.
         ensures synced { IfOk result (λ db. IsSynced db.index.cache.store) }
+        // It has not failed.
         ensures lives { IfOk result (λ db. db.failed ≡ false) }
+        // It has begun, so `close` will save it.
         ensures begun { IfOk result (λ db. db.begun ≡ true) }
+        // Over a faithful store page 0 as written says that the store is not finished.
         ensures pages { IfOk result (λ db. IsTrue (S.seen store).is_faithful → HasPages db) }
+        // If it is given up, the store over which it was made is refused as unfinished.
         ensures safe { IfOk result (λ db. IsTrue (S.seen store).is_faithful → (was : Store)
             → IsSafe was db) }
+        // Over a faithful store it fails only if memory runs out, or the store fails or is full.
         ensures only { IfErr result (λ back. IsTrue (S.seen store).is_faithful
             → IsSavingStop back.1) }
+        // `Store` is returned only if the store failed, and `StoreFull` only if it has room for no
+        // page.
         ensures caused { IfErr result (λ back. IsCaused (S.seen store) (S.seen back.0) back.1) }
 
         // The store that is handed back.
         ensures kept { IfErr result (λ back. Keeps (S.seen store) (S.seen back.0)) }
+        // It has no page, or page 0 alone, which is exactly the header unless the store failed.
         ensures left { IfErr result (λ back. IsLeft shape limits (S.seen store) (S.seen back.0)) }
     {
         let index = match begin(alloc, store, shape, cache_pages, &limits) {
@@ -125,10 +145,12 @@ impl<S: PageStore> Db<S> {
         self.core.asked()
     }
 
-    /// Accepts a file, whole or not at all: how many data records, legs and distinct features it has,
-    /// or the first fault of its text, or else of its joining, by which nothing changes.
+    /// Accepts a file, whole or not at all. Returns how many data records, legs and distinct
+    /// features it has, or its first fault: of its text, else of joining it. A refused file changes
+    /// nothing.
     ///
-    /// Where the database cannot tell, as for want of memory, it is failed: it answers nothing any more (`Failed`).
+    /// If the database cannot tell, as when memory runs out, it has failed, and does nothing more
+    /// (`Failed`).
     pub fn load(&mut self, alloc: Global, bytes: &[u8]) -> Result<Counts, LoadFault>
         ensures call { LoadCall words self.old self.new bytes.now result }
         ensures keeps { KeepsStore self.old self.new }
@@ -137,10 +159,10 @@ impl<S: PageStore> Db<S> {
         self.core.load(alloc, bytes)
     }
 
-    /// The whole answer to a command, with the named files at hand.
+    /// Returns the whole answer to a command, with the named files at hand.
     ///
-    /// A command that is not answered changes nothing, or is a `load`, and the database is failed, and does nothing any
-    /// more (`Failed`).
+    /// A command that fails changes nothing, unless it is a `load`. Then the database has failed,
+    /// and does nothing more (`Failed`).
     pub fn command(
         &mut self,
         alloc: Global,
@@ -156,10 +178,11 @@ impl<S: PageStore> Db<S> {
 
     /// Runs a script, with the named files at hand, and sends its answers.
     ///
-    /// Where a line is not answered the run stops: the answers to the lines before it were sent, whole, and flushed unless
-    /// the output refuses that, and the database is left as after these, or is failed, and the line a `load` of a file that
-    /// is there. Where the output fails (`Output`) a front of the answers was sent, all but the last of them whole. A failed
-    /// database does nothing (`Failed`).
+    /// The run stops at a line that fails. The answers to the lines before were sent whole, and
+    /// flushed unless the output fails. The database is as after these lines; or it has failed, and
+    /// the line is a `load` of a file that is there. If the output fails (`Output`), a prefix of
+    /// the answers was sent, all but the last of them whole. A failed database does nothing
+    /// (`Failed`).
     pub fn run<O: Output>(
         &mut self,
         alloc: Global,

@@ -40,9 +40,11 @@ impl Files {
         }
     }
 
-    /// Adds a file; one of a name that is there is not kept. Nothing changes where memory runs out.
+    /// Adds a file, unless one of that name is there. If memory runs out, nothing changes.
     pub fn add(&mut self, name: &str, bytes: Vec<u8>) -> Result<(), AllocError>
+        // A file of a new name is added; if the name is there, the first file counts.
         ensures ok { OnOk result (self.new ≡ files_with self.old name.now bytes.items) }
+        // If memory runs out, the files stay as they were.
         ensures err { OnErr result (self.new ≡ self.old) }
     {
         if self.files.contains_key(name) {

@@ -63,20 +63,21 @@ impl<S: PageStore> Db<S> {
     ghost use Rattle.trajdb.specs.Lasting.{IsSafe, IsSafeStore};
     ghost use Rattle.trajdb.specs.Promises.{CloseCall, OpenCall};
 
-    /// Opens the database that a store keeps, with a cache of at most that many pages, at least 1. Nothing is written
-    /// before a file is accepted. Names are hashed with the keys, which a stranger who chooses the names of a file is not
-    /// to know.
+    /// Opens the database that a store keeps. Its cache holds at most that many pages, at least 1.
+    /// Nothing is written before a file is accepted. Names are hashed with the keys, which a
+    /// stranger who chooses the names of a file is not to know.
     ///
-    /// Where it is refused the store is handed back. Of page 0 it is said first that it is not there (`Malformed`), is
-    /// damaged, is no header (`Malformed`), has another version, is of a store that was not finished, or of one in another
-    /// state (`Malformed`); then the first page along the text of the catalogue that is damaged, or that
-    /// the text up to there is malformed, as met.
+    /// On an error the store is handed back. What is wrong with page 0 comes first, in this order:
+    /// it is not there (`Malformed`), is damaged, is no header (`Malformed`), has another version,
+    /// says unfinished, or has another state (`Malformed`). Then comes the first page along the
+    /// catalogue's text that is damaged, or `Malformed` for the text up to there.
     pub fn open(
         alloc: Global,
         keys: RandomState,
         store: S,
         cache_pages: usize,
     ) -> Result<Db<S>, (S, OpenFault)>
+        // The cache has room for a page.
         requires cache_pages { 0 < cache_pages }
         ensures { OpenCall S.seen (S.seen store) cache_pages result }
     {
@@ -89,10 +90,12 @@ impl<S: PageStore> Db<S> {
         }
     }
 
-    /// A database of these parts: what is known beside the legs, and their index; whether it has
-    /// begun. It is sound where they belong together, which is not tested.
+    /// Makes a database of its parts: what is known beside the legs, their index, and whether it
+    /// has begun. It is sound if they belong together, which is not tested.
     pub fn from_parts(catalogue: Catalogue, index: TreeIndex<S>, begun: bool) -> Db<S>
+        // It has exactly this catalogue and this index, and has not failed.
         ensures parts { result ≡ restored words catalogue index begun }
+        // Its limits are in range.
         ensures limits { IsLimits result.limits }
     {
         Db {
@@ -100,12 +103,14 @@ impl<S: PageStore> Db<S> {
         }
     }
 
-    /// Closes the database: what its store is to keep is saved, all that is changed is written and synced, and page 0 says
-    /// last that the store is finished, and is synced too. The store is handed back, whatever is answered.
+    /// Closes the database, and hands its store back, whatever is returned. What the store is to
+    /// keep is saved, and all that is changed is written and synced. Then page 0 says that the
+    /// store is finished, and is synced too.
     ///
-    /// Nothing is written where the database was opened and no file was accepted since, and where it failed; a failed one
-    /// answers `Failed`. Refused for want of memory, and where the store fails or is full. Page 0 then still says that the
-    /// store is not finished, unless the store failed and all other pages are those of the closed store, and synced.
+    /// Nothing is written if the database was opened and accepted no file since, or has failed. A
+    /// failed one returns `Failed`. It fails too if memory runs out, or the store fails or is full.
+    /// Page 0 then still says that the store is not finished, unless the store failed and all other
+    /// pages are those of the closed store, and synced.
     pub fn close(self, alloc: Global) -> (S, Result<(), RunFault>)
         ensures { CloseCall self (S.seen result.0) result.1 }
     {
@@ -122,14 +127,16 @@ impl<S: PageStore> Db<S> {
         (store, closed(result))
     }
 
-    /// Gives the store as it stands: what was changed and not written is lost.
+    /// Gives up the database, and returns its store as it stands. What was changed and not written
+    /// is lost.
     pub fn abandon(self) -> S
+        // It is the store below the cache, as it stands.
         ensures store { S.seen result ≡ self.index.cache.store }
 
-        // Of one that has begun it is the store of one that was not finished.
+        // The store of a database that has begun says that it is not finished.
         ensures unfinished { HasPages self → self.begun ≡ true → IsUnfinishedStore (S.seen result) }
 
-        // So it is where a load failed, or the store that was there before.
+        // After a failed load it says so too, or is the store that was there before.
         ensures safe { (was : Store) → IsSafe was self → IsSafeStore was (S.seen result) }
     {
         catalogue::laws();

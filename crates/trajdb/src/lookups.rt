@@ -31,17 +31,25 @@ impl<S: PageStore> Db<S> {
         rect: &Rect,
         period: &Period,
     ) -> Result<Vec<Leg>, RunFault>
+        // A sound database returns exactly the legs of the book for which the predicate holds, in
+        // order.
         ensures found { IfOk result (λ legs. IsSoundDb self.old
             → Picks (HoldsOfLeg predicate rect.now period.now) self.old.book.legs legs.items) }
 
-        // Be the database sound or not, they are picked of the legs that the pages that were met say.
+        // Any database picks them from the legs of the pages that it met.
         ensures says { IfOk result (λ legs.
             ArePickedOf words self.old predicate rect.now period.now legs.items) }
+        // A sound database asks for exactly as many pages as a search of the predicate's box.
         ensures asks { OnOk result (Asks words self.old self.new
             (search_cost (box_near predicate rect.now period.now))) }
+        // The book, and all else that is known, stay as they were.
         ensures leaves { LeavesBook words self.old self.new }
+        // A sound database fails only if memory runs out or the store fails, and says the latter
+        // only if it did.
         ensures refused { IfErr result (λ fault. self.old.failed ≡ false
             → IsRefused words self.old self.new fault) }
+        // Page 0 of a database that has begun stays marked; in one that has not, no page is
+        // changed.
         ensures pages { HasPages self.old → HasPages self.new }
         ensures keeps { KeepsStore self.old self.new }
 
@@ -56,14 +64,14 @@ impl<S: PageStore> Db<S> {
         self.core.legs_for(alloc, predicate, rect, period)
     }
 
-    /// The name of the feature of a number; `None` where there is none.
+    /// The name of the feature of a number; `None` if there is none.
     pub fn name(&self, feature: u32) -> Option<&str>
         ensures { option_copied result ≡ slice_get self.now.book.names feature }
     {
         self.core.tracks.name(feature)
     }
 
-    /// What the first file said of all; `None` where no file was accepted.
+    /// What the first file said of all files; `None` if no file was accepted.
     pub fn head(&self) -> Option<&BookHead>
         ensures { option_copied result ≡ self.now.book.head }
     {
@@ -72,7 +80,9 @@ impl<S: PageStore> Db<S> {
 
     /// How many legs the index counts.
     pub fn leg_count(&self) -> u64
+        // It is the number that the index keeps.
         ensures counted { result ≡ words.counted self.now.index }
+        // In a sound database that is how many legs the book has.
         ensures legs { IsSoundDb self.now → result ≡ length self.now.book.legs }
     {
         self.core.index.len()

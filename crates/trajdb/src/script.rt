@@ -62,10 +62,12 @@ fn is_load(alloc: Global, line: &[u8]) -> Result<bool, RunFault>
     }
 }
 
-/// Whether some line of a script is a `load`, be its file there or not: a script without one only asks. Refused where
-/// memory ran out.
+/// Whether some line of a script is a `load`, whether its file is there or not. A script without
+/// one only asks.
 pub fn has_load(alloc: Global, script: &[u8]) -> Result<bool, RunFault>
+    // It is true exactly if some line is a `load`.
     ensures load { IfOk result (λ loads. IsTrue loads ↔ HasLoad (lines_of script.now)) }
+    // It fails only if memory runs out.
     ensures memory { IfErr result (λ fault. fault ≡ RunFault.Memory) }
 {
     let mut rest = script;

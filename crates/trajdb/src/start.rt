@@ -14,7 +14,10 @@ pub trait Start: LegIndex {
     /// Prepares the index for the legs of a file. An index over pages marks its store as unfinished, before any
     /// other page changes; one that keeps a list does nothing.
     fn start(&mut self) -> Result<(), IndexFault>
+        // The legs stay. After `Ok` page 0 of a faithful store, as written, says that it is not
+        // finished. Where no page was changed, an error has written none but page 0.
         ensures starts { Starts Self.Listed self.old self.new result }
+        // A sound index fails only if memory runs out or the store fails, and a spent one always.
         ensures refusals { Refusals Self.Listed self.old self.new result };
 }
 

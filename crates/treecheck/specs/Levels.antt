@@ -30,6 +30,7 @@ named_below nodes root (suc n) = flat_map (named_by nodes) (named_below nodes ro
 abbrev pub pages_of_leaves : List Met → List ℕ
 pages_of_leaves leaves = map (λ m. m.page) leaves
 
+-- the least box that holds leaves
 abbrev pub cover_of_leaves : List Met → Option BoxView
 cover_of_leaves leaves = cover_all leg_boxes (map (λ m. m.bounds) leaves)
 

@@ -101,10 +101,15 @@ fn check_state<S: PageStore>(cache: &mut PageCache<S>, begun: bool) -> Result<()
 /// features are in the order of their first legs. The ordinals may be put in another order; nothing
 /// else of the survey changes.
 pub fn is_whole(places: &[Place], total: u64, survey: &mut Survey) -> bool
+    // A survey that passes is whole.
     ensures whole { IsTrue result → IsSurveyWhole places.now total survey.old }
+    // A whole survey passes.
     ensures only { IsSurveyWhole places.now total survey.old → IsTrue result }
+    // The leaves stay as they are.
     ensures leaves { survey.new.leaves ≡ survey.old.leaves }
+    // What is known of the features' first legs stays as it is.
     ensures firsts { survey.new.firsts ≡ survey.old.firsts }
+    // The ordinals are the same ones, perhaps in another order.
     ensures ordinals { IsPermutation survey.old.ordinals.items survey.new.ordinals.items }
 {
     if survey.ordinals.len() as u64 != total {
@@ -249,26 +254,38 @@ pub fn check<S: PageStore>(
     // What passes is sound, and its pages are whole, with the tracks of its legs; what is sound
     // passes.
     ensures sound { OnOk result (IsTrue index.old.cache.store.is_faithful → IsSound index.new) }
+    // The tracks and the number of rows are then those of the index's legs.
     ensures tracks { OnOk result (IsTrue index.old.cache.store.is_faithful
         → AreTracksOf tracks.now rows (content index.new)) }
+    // Page 0 then says unfinished if the database has begun, and finished if not.
     ensures says { OnOk result (IsTrue index.old.cache.store.is_faithful
         → SaysState begun (payload_of index.new.cache 0)) }
+    // After `Ok` the pages are all that a check asks: seals, chains of leaves, ordinals, features
+    // and tree.
     ensures whole { OnOk result (IsTrue index.old.cache.store.is_faithful
         → IsChecked (pages_of_cache index.old.cache) index.old.tree rows index.old.legs
         index.old.places tracks.now.tracks) }
+    // A sound index with its tracks and a right page 0 fails only if memory runs out or the store
+    // fails.
     ensures only { IsSound index.old → AreTracksOf tracks.now rows (content index.old)
         → SaysState begun (payload_of index.old.cache 0) → IfErr result MayRefuse }
 
     // Nothing changes.
     ensures same { index.new ≡ with_cache index.old index.new.cache index.new.known }
+    // No payload changes, and no page more is changed or written.
     ensures reads { OnlyReads index.old.cache index.new.cache }
+    // The index tells the same legs, sound where it was, and spent where it was.
     ensures leaves { Leaves words index.old index.new }
 
+    // A spent index returns `Spent`, and nothing changes.
     ensures was_spent { index.old.tree.spent ≡ true
         → (result ≡ Err IndexFault.Spent) × (index.new ≡ index.old) }
+    // `Spent` is returned only of a spent index.
     ensures works { IsErrOf result IndexFault.Spent → index.old.tree.spent ≡ true }
+    // `Store` is returned only if the store failed.
     ensures store { IsErrOf result IndexFault.Store
         → HasRisen index.old.cache.store.faults index.new.cache.store.faults }
+    // `StoreFull` is never returned.
     ensures full { IsErrOf result IndexFault.StoreFull → ⊥ }
 {
     if index.tree().spent {

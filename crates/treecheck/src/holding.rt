@@ -33,10 +33,12 @@ pub fn laws()
     ensures chained { (nodes : Pages LegView BoxView) (most rows total : ℕ)
         (places : List Place) (tracks : List Track) (legs : List LegView) → 0 < most
         → HoldChains nodes most rows total places tracks legs → CanFollowInTurn [] legs }
+    // The chains hold one list of legs at most.
     ensures one_list { (nodes : Pages LegView BoxView) (most rows total : ℕ)
         (places : List Place) (tracks : List Track) (a b : List LegView)
         → HoldChains nodes most rows total places tracks a
         → HoldChains nodes most rows total places tracks b → a ≡ b }
+    // If pages hold a list of legs, their chains hold the same list.
     ensures held_chains { (nodes : Pages LegView BoxView) (tree : TbTree) (rows total : ℕ)
         (places : List Place) (tracks : List Track) → 0 < tree.shape.leaf
         → (held : HoldLegs nodes tree rows total places tracks)

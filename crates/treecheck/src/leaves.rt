@@ -16,18 +16,25 @@ pub trait AnyLeaf {
 
     /// Its feature and its neighbours.
     fn head(&self) -> LeafHead
+        // The feature of the leaf's legs.
         ensures feature { result.feature ≡ (says self.now).feature }
+        // The page of the leaf before it, 0 for none.
         ensures previous { result.previous ≡ (says self.now).previous }
+        // The page of the leaf after it, 0 for none.
         ensures next { result.next ≡ (says self.now).next };
 
     /// How many legs it has: one at least.
     fn len(&self) -> usize
+        // It is the number of the leaf's legs.
         ensures value { result ≡ length (says self.now).legs }
+        // There is at least one.
         ensures least { 1 ≤ result };
 
     /// Leg `i`, from 0.
     fn leg(&self, i: usize) -> Leg
+        // The leaf has a leg of that number.
         requires { i < length (says self.now).legs }
+        // It is exactly that leg.
         ensures { slice_get (says self.now).legs i ≡ Some result };
 }
 

@@ -48,7 +48,9 @@ pub fn rise(numbers: &[u64]) -> bool
 
 /// Puts leaves in the order of their first legs.
 pub fn sort_leaves(leaves: &mut Vec<Met>)
+    // The leaves are the same ones.
     ensures permutation { IsPermutation leaves.old.items leaves.new.items }
+    // No leaf begins with an earlier leg than the one before it.
     ensures rises { IsNonDecreasingBy (λ (m : Met). m.first) leaves.new.items }
 {
     leaves.sort_unstable_by_key(|leaf: &Met| leaf.first);

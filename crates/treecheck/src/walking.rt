@@ -114,14 +114,20 @@ pub fn take_next<L: AnyLeaf>(
     rows: u64,
     survey: &mut Survey,
 ) -> Result<bool, AllocError>
+    // A leaf that is taken is the next one: its feature, the leaf before it and its number of legs
+    // are right.
     ensures next { IfOk result (λ whole. IsTrue whole
         → IsNextNode most walk.old (Some (ALeaf (L.says leaf.now)))) }
+    // Its legs come after those before them, in order, and their rows are there.
     ensures turn { IfOk result (λ whole. IsTrue whole
         → ComeInTurn walk.old.feature rows walk.old.last (L.says leaf.now).legs) }
+    // The walk goes on to the page that the leaf names as next.
     ensures walk { IfOk result (λ whole. IsTrue whole
         → walk.new ≡ after most walk.old (Some (Some (ALeaf (L.says leaf.now))))) }
+    // The survey has the leaf and its ordinals at its end.
     ensures noted { IfOk result (λ whole. IsTrue whole
         → Notes (Some (Some (ALeaf (L.says leaf.now)))) walk.old.page survey.old survey.new) }
+    // A leaf that is the next one, with legs that come in order, is taken.
     ensures whole { IfOk result (λ whole.
         IsNextNode most walk.old (Some (ALeaf (L.says leaf.now)))
         → ComeInTurn walk.old.feature rows walk.old.last (L.says leaf.now).legs
@@ -210,16 +216,20 @@ pub trait LeafReader {
         rows: u64,
         survey: &mut Survey,
     ) -> Result<(), TreeFault>
+        // Over a faithful store the page is the next leaf of the chain, and is taken.
         ensures taken { IsTrue (seen source.old).store.is_faithful → 0 < walk.old.left
             → OnOk result (TakesLeaf (pages_by node (seen source.old)) most rows walk.old walk.new
             survey.old survey.new) }
+        // The legs of one full leaf fewer are left to walk.
         ensures left { OnOk result (walk.new.left ≡ walk.old.left - most) }
+        // If the page is that leaf, it fails only if memory runs out or the store fails.
         ensures only { IsTrue (seen source.old).store.is_faithful
             → IsLeafOf (pages_by node (seen source.old)) most walk.old.feature walk.old.previous
             walk.old.left walk.old.page
             → ComeInTurn walk.old.feature rows walk.old.last
             (legs_in ((pages_by node (seen source.old)).at walk.old.page))
             → IfErr result MayRefuseRead }
+        // No payload changes. `Store` is returned only if the store failed.
         ensures reads { Reads (seen source.old) (seen source.new) result };
 }
 
@@ -345,15 +355,20 @@ pub fn walk_all<R: LeafReader>(
     places: &[Place],
     tracks: &Tracks,
 ) -> Result<Survey, TreeFault>
+    // A leaf has room for a leg.
     requires { 0 < most }
+    // Over a faithful store the survey has the leaves of each feature's chain, and the ordinals of
+    // their legs.
     ensures surveyed { IfOk result (λ survey. IsTrue (R.seen source.old).store.is_faithful
         → Surveys (pages_by R.node (R.seen source.old)) most rows places.now
         tracks.now.tracks survey) }
+    // If all chains are whole, it fails only if memory runs out or the store fails.
     ensures only { IsTrue (R.seen source.old).store.is_faithful → length places.now < 2 ^ 32
         → (chains : List (List ℕ))
         → AreChains (pages_by R.node (R.seen source.old)) most rows 0 places.now
         tracks.now.tracks chains
         → IfErr result MayRefuseRead }
+    // No payload changes. `Store` is returned only if the store failed.
     ensures reads { Reads (R.seen source.old) (R.seen source.new) result }
 {
     let mut survey = Survey {

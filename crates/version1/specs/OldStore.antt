@@ -61,6 +61,7 @@ abbrev pub old_payload_fault : Option Payload → Option CatalogueFault
 old_payload_fault None = Some (Damaged 0)
 old_payload_fault (Some payload) = old_header_fault payload
 
+-- what is wrong with page 0 of a store of so many pages, which is to be of version 1
 abbrev pub old_first_fault : ℕ → Option Payload → Option CatalogueFault
 old_first_fault count first = if nat_lt 0 count then old_payload_fault first else Some Malformed
 

@@ -178,7 +178,9 @@ pub fn migrate<S: PageStore, T: PageStore>(
     new: T,
     cache_pages: usize,
 ) -> Result<(Catalogue, TreeIndex<T>), (T, CatalogueFault)>
+    // The new store has no page.
     requires empty { (T.seen new).count ≡ 0 }
+    // The cache has room for a page.
     requires cache_pages { 0 < cache_pages }
     // What the pages keep is brought over.
     ensures brought { IfOk result (λ r. IsTrue (S.seen old.old).is_faithful
@@ -190,6 +192,7 @@ pub fn migrate<S: PageStore, T: PageStore>(
         → (shape : ShapeView) (limits : LimitsView) (book : Book)
         → HoldsOldBook (S.seen old.old) shape limits book
         → AnswersBook (present_shape shape) limits book r.0 r.1) }
+    // Such a store is refused only if memory runs out, a store fails, or the new one is full.
     ensures holds { IfErr result (λ back. IsTrue (S.seen old.old).is_faithful
         → IsTrue (T.seen new).is_faithful
         → (shape : ShapeView) (limits : LimitsView) (book : Book)
@@ -225,16 +228,21 @@ pub fn migrate<S: PageStore, T: PageStore>(
     // other comes first.
     ensures marked { IfOk result (λ r. IsTrue (S.seen old.old).is_faithful
         → IsTrue (T.seen new).is_faithful → IsMarked r.1.cache) }
+    // A fault of the old store's page 0 is returned before any other.
     ensures first { IfErr result (λ back. IsTrue (S.seen old.old).is_faithful → ComesFirst
         (old_first_fault (S.seen old.old).count (stored_payload (S.seen old.old) 0)) back.1) }
+    // A store that is migrated is a finished one of version 1.
     ensures finished { IfOk result (λ r. IsTrue (S.seen old.old).is_faithful
         → old_first_fault (S.seen old.old).count (stored_payload (S.seen old.old) 0) ≡ None) }
 
     // The store of version 1 stays as it is; of the other this is left.
     ensures stays { Stays (S.seen old.old) (S.seen old.new) }
+    // The new store's count of faults never falls.
     ensures faults { IfOk result (λ r. (T.seen new).faults ≤ r.1.cache.store.faults) }
+    // The new store has no page, an unfinished page 0, or page 0 alone, whose write failed.
     ensures left { IfErr result (λ back. IsTrue (S.seen old.old).is_faithful
         → IsTrue (T.seen new).is_faithful → IsLeftOver (T.seen new) (T.seen back.0)) }
+    // `Store` is returned only if a store failed, and `StoreFull` only if the new one is full.
     ensures caused { IfErr result (λ back. IsMigratingFault (S.seen old.old) (S.seen old.new)
         (T.seen new) (T.seen back.0) back.1) }
 {

@@ -52,8 +52,11 @@ impl<'a> OldLeaf<'a> {
     /// Its feature and its neighbours.
     #[tactic(auto, unfolding(crate::specs::OldForm::old_leaf_of))]
     pub fn head(&self) -> LeafHead
+        // The feature of the leaf's legs.
         ensures feature { result.feature ≡ self.now.feature }
+        // The page of the leaf before it, 0 for none.
         ensures previous { result.previous ≡ self.now.previous }
+        // The page of the leaf after it, 0 for none.
         ensures next { result.next ≡ self.now.next }
     {
         LeafHead {
@@ -65,8 +68,11 @@ impl<'a> OldLeaf<'a> {
 
     /// How many legs it has: from 1 to `MOST_OLD_LEGS`.
     pub fn len(&self) -> usize
+        // It is the number of the leaf's legs.
         ensures value { result ≡ length self.now.legs }
+        // There is at least one.
         ensures least { 1 ≤ result }
+        // There are at most `MOST_OLD_LEGS`.
         ensures most { result ≤ MOST_OLD_LEGS }
     {
         usize::from(u16_at(&self.payload.bytes, 12))
@@ -74,8 +80,11 @@ impl<'a> OldLeaf<'a> {
 
     /// Leg `i`, from 0.
     pub fn leg(&self, i: usize) -> Leg
+        // The leaf has a leg of that number.
         requires { i < length self.now.legs }
+        // It is exactly that leg.
         ensures value { slice_get self.now.legs i ≡ Some result }
+        // It is of the leaf's feature.
         ensures feature { result.feature ≡ self.now.feature }
     {
         let bytes = &self.payload.bytes;
@@ -155,7 +164,10 @@ pub fn old_leaf(payload: &Payload) -> Option<OldLeaf<'_>>
 
 /// What holds of each payload, whoever wrote it, for the proofs of a caller. It does nothing.
 pub fn laws()
+    // The legs of each leaf of version 1 are lawful, whoever wrote it.
     ensures old_legs { OldLegsAreLawful }
+    // They start and end at height 0.
     ensures old_legs_flat { OldLegsAreFlat }
+    // An inner page of version 1 is one of the present version.
     ensures old_inners { OldInnersAreInners }
 {}

@@ -276,6 +276,7 @@ pub fn take_old_legs<S: PageStore, I: LegIndex>(
     rows: u64,
     index: &mut I,
 ) -> Result<(), IndexFault>
+    // A leaf has room for a leg.
     requires { 0 < most }
     // Of a faithful store what comes into an index without legs is the list that its chains hold.
     ensures brought { OnOk result (IsTrue (S.seen old.old).is_faithful → I.is_sound index.old
@@ -295,8 +296,10 @@ pub fn take_old_legs<S: PageStore, I: LegIndex>(
 
     // The store is only read, and the index stays marked.
     ensures stays { Stays (S.seen old.old) (S.seen old.new) }
+    // An index that was marked stays marked, on an error too.
     ensures marked { IsTrue (S.seen old.old).is_faithful → I.is_sound index.old
         → I.content index.old ≡ [] → I.is_marked index.old → I.is_marked index.new }
+    // The index keeps its shape, and none of its counts falls.
     ensures later { IsLater I.Listed index.old index.new }
 
     // Why it is refused.
@@ -305,6 +308,7 @@ pub fn take_old_legs<S: PageStore, I: LegIndex>(
     ensures store { IsErrOf result IndexFault.Store
         → Faulted (S.seen old.old) (S.seen old.new)
         ⊎ HasRisen (I.faults index.old) (I.faults index.new) }
+    // `StoreFull` is returned only if the index's store is full.
     ensures full { IsErrOf result IndexFault.StoreFull → I.is_store_full index.new }
 {
     treecheck::laws();

@@ -8,9 +8,11 @@ use Rattle.words.specs.declared.Separator.TheVariants.{Blank, BlankOrLineEnd}
 abbrev pub is_blank : ℕ → Bool
 is_blank c = (c == 32) || (c == 9)
 
+-- a text without the spaces and tabs at its start
 abbrev pub cut_front : List ℕ → List ℕ
 cut_front text = drop (prefix_len is_blank text) text
 
+-- a text without the spaces and tabs at its end
 abbrev pub cut_back : List ℕ → List ℕ
 cut_back text = take (length text - suffix_len is_blank text) text
 
@@ -47,5 +49,6 @@ word_len between text = prefix_len (λ c. not (between c)) text
 abbrev pub first_word : (ℕ → Bool) → List ℕ → List ℕ
 first_word between text = take (word_len between text) text
 
+-- what stands behind the first word
 abbrev pub behind_word : (ℕ → Bool) → List ℕ → List ℕ
 behind_word between text = drop (word_len between text) text

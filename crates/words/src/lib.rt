@@ -86,7 +86,9 @@ fn word_len(text: &[u8], between: Separator) -> usize
 /// The first word of a text that begins with one, and what stands behind it; an empty word and the
 /// whole text where it begins with none.
 pub fn split_word(text: &str, between: Separator) -> (&str, &str)
+    // It is the first word of the text, which begins with it, or empty.
     ensures word { result.0.now ≡ first_word (separates between) text.now }
+    // The second text is all that stands behind it.
     ensures rest { result.1.now ≡ behind_word (separates between) text.now }
 {
     let end = word_len(text.as_bytes(), between);
@@ -95,10 +97,12 @@ pub fn split_word(text: &str, between: Separator) -> (&str, &str)
 
 /// The first word of a text, and what stands behind it; `None` where there is no word.
 pub fn next_word(text: &str, between: Separator) -> Option<(&str, &str)>
+    // There is a word exactly if the text has one. It is the first, and the rest has all others.
     ensures found { MatchOption result (words_between (separates between) text.now ≡ [])
         (λ w. (words_between (separates between) text.now
         ≡ w.0.now ∷ words_between (separates between) w.1.now)
         × (length w.1.now < length text.now)) }
+    // It is all that stands behind that word, separators too.
     ensures behind { IfSome result (λ w. w.1.now
         ≡ behind_word (separates between) (from_word (separates between) text.now)) }
 {

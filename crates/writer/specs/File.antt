@@ -20,12 +20,15 @@ features_text names = flat_map (λ name. record_text (name ∷ [])) names
 abbrev pub xs : List EntryView → List ℤ
 xs entries = flat_map (λ e. e.leg.x0 ∷ e.leg.x1 ∷ []) entries
 
+-- the y of the two ends of all legs
 abbrev pub ys : List EntryView → List ℤ
 ys entries = flat_map (λ e. e.leg.y0 ∷ e.leg.y1 ∷ []) entries
 
+-- the z of the two ends of all legs
 abbrev pub zs : List EntryView → List ℤ
 zs entries = flat_map (λ e. e.leg.z0 ∷ e.leg.z1 ∷ []) entries
 
+-- the first of numbers, 0 where there are none
 abbrev pub first_or_zero : List ℤ → ℤ
 first_or_zero [] = pos 0
 first_or_zero (n ∷ ns) = n
@@ -34,6 +37,7 @@ first_or_zero (n ∷ ns) = n
 abbrev pub least : List ℤ → ℤ
 least ns = fold int_min (first_or_zero ns) ns
 
+-- the greatest of numbers, 0 where there are none
 abbrev pub greatest : List ℤ → ℤ
 greatest ns = fold int_max (first_or_zero ns) ns
 
@@ -41,14 +45,17 @@ greatest ns = fold int_max (first_or_zero ns) ns
 abbrev pub end_from : ℤ → List EntryView → ℤ
 end_from base entries = fold int_max base (map (λ e. e.leg.t1) entries)
 
+-- a dimension as it is printed
 abbrev pub dimension_text : Dimension → List ℕ
 dimension_text Two = codes "2D"
 dimension_text Three = codes "3D"
 
+-- the least coordinates of all legs
 abbrev pub lower_corner : List EntryView → Position
 lower_corner entries =
     record { x = least (xs entries); y = least (ys entries); z = least (zs entries) }
 
+-- the greatest coordinates of all legs
 abbrev pub upper_corner : List EntryView → Position
 upper_corner entries =
     record { x = greatest (xs entries); y = greatest (ys entries); z = greatest (zs entries) }

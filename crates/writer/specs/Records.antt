@@ -26,6 +26,7 @@ point_text Three p = coord_text p.x ++ 32 ∷ [] ++ coord_text p.y ++ 32 ∷ [] 
 abbrev pub begin_of : LegView → Position
 begin_of leg = record { x = leg.x0; y = leg.y0; z = leg.z0 }
 
+-- where a leg ends
 abbrev pub end_of : LegView → Position
 end_of leg = record { x = leg.x1; y = leg.y1; z = leg.z1 }
 

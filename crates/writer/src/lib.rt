@@ -30,8 +30,10 @@ pub fn push_leg_record(
     leg: &Leg,
     values: &Row<'_>,
 ) -> Result<(), Memory>
+    // It appends exactly the record of the leg.
     ensures ok { OnOk result (out.new.items ≡ out.old.items
         ++ leg_record name.now frame leg.now values.now) }
+    // If memory runs out, nothing was appended.
     ensures err { OnErr result (out.new.items ≡ out.old.items) }
 {
     let mut records = Records::new(alloc);
@@ -48,7 +50,9 @@ pub fn push_leg_records(
     frame: Frame,
     entries: &[Entry<'_>],
 ) -> Result<(), Memory>
+    // It appends exactly the record of each leg, in their order.
     ensures ok { OnOk result (out.new.items ≡ out.old.items ++ entries_text frame entries.now) }
+    // If memory runs out, nothing was appended.
     ensures err { OnErr result (out.new.items ≡ out.old.items) }
 {
     let text = file::entries_text(alloc, &frame, entries)?;
@@ -57,8 +61,10 @@ pub fn push_leg_records(
 
 /// Appends each name as a record of one field, in their order.
 pub fn push_features(alloc: Global, out: &mut Vec<u8>, names: &[&str]) -> Result<(), Memory>
+    // It appends exactly a record of each name, in their order.
     ensures ok { OnOk result (out.new.items ≡ out.old.items
         ++ features_text (map (λ n. n.now) names.now)) }
+    // If memory runs out, nothing was appended.
     ensures err { OnErr result (out.new.items ≡ out.old.items) }
 {
     let text = features::features_text(alloc, names)?;
@@ -75,7 +81,9 @@ pub fn push_file(
     head: &BookHead,
     entries: &[Entry<'_>],
 ) -> Result<(), Memory>
+    // It appends exactly the two header lines and the record of each leg.
     ensures ok { OnOk result (out.new.items ≡ out.old.items ++ file_text head.now entries.now) }
+    // If memory runs out, nothing was appended.
     ensures err { OnErr result (out.new.items ≡ out.old.items) }
 {
     let text = file::file_text(alloc, head, entries)?;

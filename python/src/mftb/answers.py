@@ -5,12 +5,17 @@ from __future__ import annotations
 import csv
 import re
 from collections.abc import Iterator, Mapping
-from typing import NamedTuple
+from typing import NamedTuple, TypeAlias
 
 from mftb.sources import as_text, opened
-from mftb.texts import Refused, number, several
+from mftb.texts import Refused, number, read_instant, several
+
+# Two moments in milliseconds since 1970.
+Period: TypeAlias = tuple[int, int]
 
 HEAD = re.compile("ok ([0-9]+)")
+# The period at the end of a question, in moments of a script.
+PERIOD = re.compile(r"(?:box|legs \w+|features \w+)(?: +\S+){4} +(\S+) +(\S+)")
 RECTANGLE = re.compile(r"(?:box|legs \w+|features \w+)((?: +\S+){4})( +\S+){2}")
 
 
@@ -34,6 +39,19 @@ class Answer(NamedTuple):
             return [number(text) for text in found[1].split()] if found else None
         except ValueError:
             return None
+
+    def period(self) -> Period | None:
+        """The period that was asked for, in milliseconds since 1970, if there is one."""
+        return period_of(self.words)
+
+
+def period_of(words: str) -> Period | None:
+    """The period of a question, if it has one."""
+    found = PERIOD.fullmatch(words)
+    try:
+        return (read_instant(found[1]), read_instant(found[2])) if found else None
+    except ValueError:
+        return None
 
 
 class Hit(NamedTuple):
@@ -97,9 +115,15 @@ def hits(answers: list[Answer], dimension: int) -> Iterator[Hit]:
                 yield Hit(row[0], first, last, places, row[4:])
 
 
-def names(answers: list[Answer]) -> dict[str, None]:
-    """The features that answers to `features` name: their records have one field."""
-    return dict.fromkeys(row[0] for answer in answers for row in answer.rows if len(row) == 1)
+def names(answers: list[Answer]) -> dict[str, list[Period | None]]:
+    """The features that answers to `features` name, and in which periods: their records have one field."""
+    found: dict[str, list[Period | None]] = {}
+    for answer in answers:
+        period = answer.period()
+        for row in answer.rows:
+            if len(row) == 1:
+                found.setdefault(row[0], []).append(period)
+    return found
 
 
 def base_of(votes: Mapping[float, int], start: float) -> tuple[float, bool]:

@@ -8,12 +8,13 @@ import subprocess
 import tempfile
 from collections.abc import Iterator, Sequence
 from decimal import Decimal
+from itertools import islice
 from pathlib import Path
 from typing import IO, Any, NamedTuple
 
 from mftb.answers import HEAD, read_script
 from mftb.program import find
-from mftb.texts import Refused, instant, read_instant
+from mftb.texts import Known, Refused, instant, read_instant
 
 
 class Row(NamedTuple):
@@ -77,28 +78,29 @@ class Store:
     def rows(self, out: IO[bytes], script: str) -> Iterator[Row | None]:
         """Each record of the answers in a file to the lines of a script."""
         out.seek(0)
-        questions = read_script(script)
-        number, left, words = 0, 0, ""
-        for fields in csv.reader(line.decode() for line in out):
-            if left:
-                left -= 1
-                yield self.row(number, words, fields)
-                continue
-            head = HEAD.fullmatch(fields[0])
-            words = questions[number] if number < len(questions) else ""
-            number, left = number + 1, int(head[1]) if head else 0
+        questions, table = iter(read_script(script)), csv.reader(line.decode() for line in out)
+        for number, fields in enumerate(table):
+            head, words = HEAD.fullmatch(fields[0]), next(questions, "")
+            if head:
+                yield from self.records(number, words, islice(table, int(head[1])))
 
-    def row(self, number: int, words: str, fields: list[str]) -> Row | None:
-        """A record of an answer; one of counts or of a file has no feature."""
-        kind = words.split()[0] if words else ""
+    def records(self, question: int, words: str, records: Iterator[list[str]]) -> Iterator[Row | None]:
+        """The records of an answer; one of counts or of a file has no feature."""
+        number, kind, cut = question + 1, words.partition(" ")[0], self.dimension
         if kind == "features":
-            return Row(number, words, fields[0])
-        if kind not in ("box", "legs", "trajectory"):
-            return None
-        begin, end = (instant(self.start + int(Decimal(text) * 1000)) for text in fields[1:3])
-        texts = fields[3].split()
-        places = (tuple(texts[: self.dimension]), tuple(texts[self.dimension :]))
-        return Row(number, words, fields[0], begin, end, places, tuple(fields[4:]))
+            yield from (Row(number, words, fields[0]) for fields in records)
+        elif kind in ("box", "legs", "trajectory"):
+            times = Known(self.instant)
+            for feature, begin, end, way, *values in records:
+                texts = way.split()
+                places = tuple(texts[:cut]), tuple(texts[cut:])
+                yield Row(number, words, feature, times[begin], times[end], places, tuple(values))
+        else:
+            yield from (None for _ in records)
+
+    def instant(self, seconds: str) -> str:
+        """The instant of a time field."""
+        return instant(self.start + int(Decimal(seconds) * 1000))
 
     def tracks(self, names: Sequence[str]) -> dict[str, list[Row]]:
         """The legs of features, by their names; nothing of a name that no line can hold."""

@@ -14,13 +14,30 @@ from itertools import groupby
 from pathlib import Path
 from typing import Any, BinaryIO, TextIO, TypeAlias
 
+from mftb.answers import period_of
 from mftb.asking import Row
 from mftb.draw.plot import in_degrees
 from mftb.texts import instant, read_instant
 
-Tracks: TypeAlias = Mapping[str, list[Row]]
 # What reads a value of a type.
 Reader: TypeAlias = Callable[[str], Any]
+
+
+@dataclass(frozen=True)
+class Tracks:
+    """The legs of the features that questions named, and whether all of them are shown."""
+
+    legs: Mapping[str, list[Row]]
+    is_whole: bool = False
+
+    def of(self, row: Row) -> list[Row]:
+        """The legs of the feature that a row names: those that have a part in the period of its question."""
+        legs = self.legs.get(row.feature, [])
+        period = None if self.is_whole else period_of(row.words)
+        if not period:
+            return legs
+        first, last = period
+        return [leg for leg in legs if read_instant(leg.begin) <= last and read_instant(leg.end) >= first]
 
 
 @dataclass
@@ -37,12 +54,12 @@ class Strip:
 
 
 def legs_of(rows: Iterable[Row], tracks: Tracks) -> Iterator[Row]:
-    """The legs of answers; of a feature that was named all its legs."""
+    """The legs of answers, and those of features that were named."""
     for row in rows:
         if row.begin:
             yield row
         else:
-            yield from (leg._replace(number=row.number, words=row.words) for leg in tracks.get(row.feature, []))
+            yield from (leg._replace(number=row.number, words=row.words) for leg in tracks.of(row))
 
 
 def strips_of(legs: Iterable[Row]) -> Iterator[Strip]:

@@ -12,12 +12,14 @@ import zipfile
 import zlib
 from argparse import Namespace
 from collections import Counter
-from collections.abc import Callable, Iterable, Iterator
+from collections.abc import Callable, Iterable, Iterator, Sequence
 from contextlib import contextmanager
+from dataclasses import dataclass
 from itertools import chain, islice
 from operator import itemgetter
 from typing import IO, Any, BinaryIO, TextIO, TypeAlias
 
+from mftb import apart
 from mftb.texts import BadLine, LeftOut, Refused, several, utf8
 
 # A field has fewer characters.
@@ -26,11 +28,40 @@ csv.field_size_limit(LONGEST)
 UNPACKING = EOFError, zlib.error, gzip.BadGzipFile, zipfile.BadZipFile, NotImplementedError
 # UTF-8, with or without a mark at the start.
 UTF_8 = "utf-8-sig"
-# Rows that are read at once.
-BATCH = 1000
-# What reads a row: its position, where there is one.
-RowReader: TypeAlias = Callable[[list[str]], Any]
+# Rows that are read at once, in this process, and in one of several.
+BATCH, FAR = 1000, 10_000
+# What is read of a row: a position, or why there is none.
+Item: TypeAlias = Any
 NOT_A_LETTER = re.compile("[^0-9a-z]")
+
+
+@dataclass(frozen=True)
+class RowReader:
+    """What reads the rows below a header line.
+
+    `one` gives the position of a row, or says why there is none. `many` reads rows of the usual form at once, column
+    by column, and gives what is read of each; or nothing, where they are to be read one by one.
+    """
+
+    one: Callable[[list[str]], Item]
+    many: Callable[[list[list[str]]], list[Item] | None] = lambda rows: None
+
+    def items(self, rows: list[Any], wide: int) -> list[Item]:
+        """What is read of rows, which ought to have `wide` fields; a row that could not be cut is why."""
+        are_whole = not any(row.__class__ is BadLine for row in rows)
+        found = self.many(rows) if are_whole and set(map(len, rows)) == {wide} else None
+        return [self.item(row, wide) for row in rows] if found is None else found
+
+    def item(self, row: Any, wide: int) -> Item:
+        """What is read of one row."""
+        if row.__class__ is BadLine:
+            return row
+        if len(row) != wide:
+            return BadLine(f"{several(len(row), 'field')}, where the header line has {wide}")
+        try:
+            return self.one(row)
+        except (BadLine, LeftOut) as why:
+            return why
 
 
 @contextmanager
@@ -76,8 +107,16 @@ def as_text(raw: IO[bytes], encoding: str = UTF_8) -> TextIO:
 # Tables
 
 
-def read_table(path: str, layout: Callable[[list[str]], RowReader], encoding: str = UTF_8) -> Iterator[tuple[int, Any]]:
-    """Batches of a CSV file: line numbers, and of each line its position, or why it has none.
+@dataclass(frozen=True)
+class Work:
+    """What is done with the rows of some lines, and in how many processes."""
+
+    judge: Callable[[Sequence[int], list[Item]], Any]
+    jobs: int = 1
+
+
+def read_table(path: str, layout: Callable[[list[str]], RowReader], work: Work, encoding: str = UTF_8) -> Iterator[Any]:
+    """What is judged of the lines of a CSV file, some at once.
 
     `layout` makes what reads a row from the header line. A file of blank lines has none.
     """
@@ -86,11 +125,11 @@ def read_table(path: str, layout: Callable[[list[str]], RowReader], encoding: st
         table = csv.reader(text)
         try:
             header = first_row(table)
-            read_row = layout(header) if header else None
+            reader = layout(header) if header else None
         except (csv.Error, BadLine) as why:
             raise Refused(f"{path} line {max(table.line_num, 1)}: {why}") from None
         if header:
-            yield from rows(text, table.line_num, len(header), read_row)
+            yield from rows(text, table.line_num, Rows(len(header), reader), work)
 
 
 def first_row(table: Iterable[list[str]]) -> list[str]:
@@ -102,22 +141,63 @@ def first_row(table: Iterable[list[str]]) -> list[str]:
     return []
 
 
-def rows(
-    text: Iterator[str], line: int, wide: int, read_row: RowReader, delimiter: str = ","
-) -> Iterator[tuple[Any, Any]]:
-    """Batches of the rows behind a line: their line numbers, and what is read of each, or why nothing is."""
-    while lines := list(islice(text, BATCH)):
-        if any('"' in it for it in lines) or max(map(len, lines)) >= LONGEST:
-            numbers, found, count = quoted(lines, text, line, delimiter)
-        else:
+@dataclass(frozen=True)
+class Lines:
+    """Lines of a table without a quote, and how many stand before them."""
+
+    before: int
+    lines: list[str]
+
+
+@dataclass(frozen=True)
+class Cut:
+    """Rows that were cut from lines with quotes, and their line numbers; one that cannot be cut is why."""
+
+    numbers: Sequence[int]
+    rows: list[list[str] | BadLine]
+
+
+@dataclass(frozen=True)
+class Rows:
+    """How lines are cut into rows, and what reads these."""
+
+    wide: int
+    reader: RowReader
+    delimiter: str = ","
+
+    def read(self, part: Lines | Cut) -> tuple[Sequence[int], list[Item]]:
+        """Line numbers, and what is read of each row, or why nothing is; a blank line is no row."""
+        if isinstance(part, Lines):
             # A row without a quote is its line, cut at the delimiters.
-            found, count = [it.rstrip("\r\n").split(delimiter) for it in lines], len(lines)
-            numbers = range(line + 1, line + 1 + count)
+            found = [line.rstrip("\r\n").split(self.delimiter) for line in part.lines]
+            part = Cut(range(part.before + 1, part.before + 1 + len(found)), found)
+        numbers, found = part.numbers, part.rows
         if [""] in found:
             numbers = [number for number, row in zip(numbers, found) if row != [""]]
             found = [row for row in found if row != [""]]
-        if found:
-            yield numbers, items_of(found, wide, read_row)
+        return numbers, self.reader.items(found, self.wide)
+
+
+def rows(text: Iterator[str], line: int, how: Rows, work: Work) -> Iterator[Any]:
+    """What is judged of the rows behind a line, some at once."""
+
+    def judged(part: Lines | Cut) -> Any:
+        numbers, items = how.read(part)
+        return work.judge(numbers, items) if items else None
+
+    parts = cut(text, line, how.delimiter, BATCH if work.jobs == 1 else FAR)
+    return filter(None, map(judged, parts) if work.jobs == 1 else apart.ordered(judged, parts, work.jobs))
+
+
+def cut(text: Iterator[str], line: int, delimiter: str, most: int) -> Iterator[Lines | Cut]:
+    """The lines of a table behind a line, at most so many at once but where a row goes on over lines."""
+    while lines := list(islice(text, most)):
+        if any('"' in it for it in lines) or max(map(len, lines)) >= LONGEST:
+            numbers, found, count = quoted(lines, text, line, delimiter)
+            yield Cut(numbers, found)
+        else:
+            count = len(lines)
+            yield Lines(line, lines)
         line += count
 
 
@@ -140,23 +220,6 @@ def quoted(lines: list[str], text: Iterator[str], line: int, delimiter: str) -> 
             found.append(BadLine(why))
         count += table.line_num
     return numbers, found, count
-
-
-def items_of(rows: Iterable[Any], wide: int, read_row: RowReader) -> list[Any]:
-    """What is read of each row, or why nothing is."""
-    items = []
-    add = items.append
-    for row in rows:
-        try:
-            if row.__class__ is BadLine:
-                add(row)
-            elif len(row) == wide:
-                add(read_row(row))
-            else:
-                add(BadLine(f"{several(len(row), 'field')}, where the header line has {wide}"))
-        except (BadLine, LeftOut) as why:
-            add(why)
-    return items
 
 
 def batches(pairs: Iterator[tuple[int, Any]]) -> Iterator[tuple[list[int], list[Any]]]:
@@ -193,6 +256,31 @@ def column(header: list[str], *names: str) -> int:
     return place
 
 
+class Values:
+    """What takes the attribute values from rows: `places` says where they stand, and is nothing for a blank one."""
+
+    def __init__(self, names: list[str], places: list[int | None], wide: int) -> None:
+        # A place behind the row's end stands for a column that is not there.
+        take = [wide if place is None else place for place in places]
+        self.names, self.blank = names, [""] if None in places else []
+        self.take = itemgetter(*take) if len(take) > 1 else lambda row: tuple([row[place] for place in take])
+
+    def of(self, row: list[str]) -> tuple[str, ...]:
+        """The values of a row."""
+        values = self.take(row + self.blank if self.blank else row)
+        if not "".join(values).isascii():
+            for value, name in zip(values, self.names):
+                utf8(value, name)
+        return values
+
+    def of_all(self, rows: list[list[str]]) -> list[tuple[str, ...]]:
+        """The values of rows."""
+        if self.blank:
+            return list(map(self.of, rows))
+        found = list(map(self.take, rows))
+        return found if "".join(chain.from_iterable(found)).isascii() else list(map(self.of, rows))
+
+
 class Columns:
     """The columns that are kept as attributes, and which of them were found."""
 
@@ -203,27 +291,14 @@ class Columns:
         # In how many files a column is not, where there are several.
         self.lacking = Counter()
 
-    def reader(self, header: list[str]) -> Callable[[list[str]], tuple[str, ...]]:
-        """What takes the attribute values from a row below this header line."""
+    def reader(self, header: list[str]) -> Values:
+        """What takes the attribute values from rows below this header line."""
         places = [place_of(header, *names) for names in self.names]
         self.missing -= {names[0] for names, at in zip(self.names, places) if at is not None}
         if self.missing and len(self.files) == 1:
             raise BadLine(f"there is no column {self.first_missing()!r}")
         self.lacking.update(names[0] for names, at in zip(self.names, places) if at is None)
-
-        # A place behind the row's end stands for a column that is not there.
-        take = [len(header) if place is None else place for place in places]
-        blank = [""] if None in places else []
-        values_of = itemgetter(*take) if len(take) > 1 else lambda row: tuple([row[place] for place in take])
-
-        def read(row: list[str]) -> tuple[str, ...]:
-            values = values_of(row + blank if blank else row)
-            if not "".join(values).isascii():
-                for value, (name, _) in zip(values, self.pairs):
-                    utf8(value, name)
-            return values
-
-        return read if places else lambda row: ()
+        return Values([name for name, _ in self.pairs], places, len(header))
 
     def first_missing(self) -> str | None:
         """The first column that no file had, if there is one."""

@@ -8,7 +8,6 @@ row.
 from __future__ import annotations
 
 import argparse
-import csv
 import json
 import re
 import sys
@@ -16,17 +15,20 @@ import tempfile
 from argparse import Namespace
 from collections.abc import Callable, Iterable, Iterator, Sequence
 from contextlib import nullcontext
-from itertools import groupby
+from itertools import groupby, islice
 from pathlib import Path
 from typing import IO, Any, TextIO
 
 from mftb import playing
+from mftb.answers import read_script
 from mftb.asking import Row, Store
 from mftb.commands import ended, example, say
 from mftb.draw.plot import in_degrees
 from mftb.legfiles import beside
 from mftb.playing import Tracks
 from mftb.program import NAMING
+from mftb.sources import BATCH
+from mftb.texts import Known, field, further_fields
 
 EXAMPLE = """example:
   tools/table harbour.mftb script.txt -o answers.csv
@@ -37,7 +39,8 @@ The columns are: question (its number), words, feature, begin, end, x0, y0, x1, 
 dimensions x0, y0, z0, x1, y1, z1), and the attributes by their names. csv is for
 pandas.read_csv and for .import of sqlite3; wkt is csv with one column wkt in place of the
 coordinates; json is a list of objects; geojson is for QGIS, kepler.gl and geopandas.read_file:
-there a feature of `features` is its whole track. gpkg is a GeoPackage, whose layers are `legs`, for
+there a feature of `features` has its legs in the question's period, or its whole track with
+--whole; so it has in gpkg and trips. gpkg is a GeoPackage, whose layers are `legs`, for
 QGIS's Temporal Controller, and `tracks`, with moments as M; trips is GeoJSON with a moment a
 position, for a trip layer of kepler.gl. The status is 3 where a line was refused.
 The answers are those of mftb; this tool is no part of any proof."""
@@ -69,6 +72,18 @@ class Layout:
         blank = [""] * (self.values - 5 - len(places))
         values = [*row.values, *[""] * (len(self.types) - len(row.values))]
         return [str(row.number), row.words, row.feature, row.begin, row.end, *places, *blank, *values]
+
+    def lines(self, rows: Iterable[Row]) -> Iterator[str]:
+        """Rows as lines of CSV."""
+        names, more, width = Known(field), Known(further_fields), len(self.types)
+        for row in rows:
+            number, words, feature, begin, end, places, values = row
+            if not places or len(values) != width or self.is_wkt:
+                yield ",".join(map(field, self.fields(row))) + "\n"
+                continue
+            first, last = places
+            ends = f"{','.join(first)},{','.join(last)}"
+            yield f"{number},{names[words]},{names[feature]},{begin},{end},{ends}{more[values]}\n"
 
     def object(self, row: Row) -> dict[str, Any]:
         """A row as an object, without what it does not have."""
@@ -127,9 +142,10 @@ def line_of(places: Sequence[Sequence[str]]) -> str:
 
 def write_csv(out: TextIO, store: Store, rows: Iterable[Row], is_wkt: bool) -> None:
     layout = Layout(store, is_wkt)
-    table = csv.writer(out, lineterminator="\n")
-    table.writerow(layout.names)
-    table.writerows(map(layout.fields, rows))
+    out.write(",".join(map(field, layout.names)) + "\n")
+    lines = layout.lines(rows)
+    while found := list(islice(lines, BATCH)):
+        out.write("".join(found))
 
 
 def write_list(out: TextIO, rows: Iterable[Row], shown: Callable[[Row], Any], start: str, end: str) -> None:
@@ -154,7 +170,7 @@ def write_geojson(out: TextIO, store: Store, rows: Iterable[Row], tracks: Tracks
 
     def shown(row: Row) -> dict[str, Any]:
         said = {name: it for name, it in layout.object(row).items() if name not in ends}
-        ways = [row] if row.begin else tracks.get(row.feature, [])
+        ways = [row] if row.begin else tracks.of(row)
         return {"type": "Feature", "geometry": geometry(ways), "properties": said}
 
     write_list(out, rows, shown, '{"type": "FeatureCollection", "features": [', "]}")
@@ -181,10 +197,10 @@ def geometry(legs: Iterable[Row]) -> dict[str, Any] | None:
 
 def full_rows(rows: Iterable[Row | None], tracks: Tracks) -> Iterator[Row]:
     """The rows, those of features with the moments and the values of their last legs."""
-    for row in rows:
+    for row in rows if tracks.legs else filter(None, rows):
         if row is None:
             continue
-        track = tracks.get(row.feature) if not row.begin else None
+        track = tracks.legs.get(row.feature) if not row.begin else None
         yield row._replace(values=track[-1].values) if track else row
 
 
@@ -237,8 +253,9 @@ def table(options: Namespace) -> int:
         out, is_refused = store.run(script, options.files, words)
         with out:
             store.read_info()
-            tracks = store.tracks(features_of(store.rows(out, script)))
-            write(options, store, store.rows(out, script), tracks)
+            asks = any(line.startswith("features") for line in read_script(script))
+            legs = store.tracks(features_of(store.rows(out, script))) if asks else {}
+            write(options, store, store.rows(out, script), Tracks(legs, options.whole))
     if options.format in ("geojson", "trips") and not in_degrees(store.crs):
         say("table", f"{store.crs}: GeoJSON's coordinates are taken as degrees")
     return 3 if is_refused else 0
@@ -257,6 +274,7 @@ def words() -> Namespace:
     parser.add_argument("--ask", action="append", default=[], metavar="LINE", help="a line in place of a script")
     parser.add_argument("--question", type=int, metavar="N", help="only the Nth answer")
     parser.add_argument("--format", choices=["csv", "json", "geojson", "wkt", "gpkg", "trips"], default="csv")
+    parser.add_argument("--whole", action="store_true", help="the whole tracks of the features that were named")
     parser.add_argument("-o", dest="output", metavar="OUT", help="the table (standard output)")
     parser.add_argument("--split", metavar="DIR", help="a file a question in this folder")
     parser.add_argument("--program", metavar="MFTB", help=NAMING)

@@ -11,7 +11,9 @@ from collections.abc import Callable, Sequence
 from datetime import date
 from decimal import Decimal
 from functools import lru_cache
+from typing import Any
 
+NEEDS_QUOTES = re.compile('[",\r\n]')
 PLAIN_DECIMAL = re.compile(r"[+-]?(?:[0-9]+\.?[0-9]*|\.[0-9]+)")
 # A decimal with an exponent, as pandas writes small ones.
 EXPONENT = re.compile(r"[+-]?(?:[0-9]{1,20}\.?[0-9]{0,20}|\.[0-9]{1,20})[eE][+-]?[0-9]{1,2}")
@@ -104,6 +106,21 @@ def utf8(text: str, what: str) -> bytes:
         raise BadLine(f"{what} is not UTF-8 (see --encoding)") from None
 
 
+# Fields
+
+
+def field(text: str) -> str:
+    """A field of CSV, in quotes where it needs them."""
+    if NEEDS_QUOTES.search(text):
+        return '"' + text.replace('"', '""') + '"'
+    return text
+
+
+def further_fields(values: tuple[str, ...]) -> str:
+    """Fields that stand behind others, each with its comma."""
+    return "".join(["," + field(value) for value in values])
+
+
 # Moments
 
 
@@ -138,6 +155,20 @@ def read_instant(text: str) -> int:
     return moment(day, clock) + (offset if sign == "-" else -offset)
 
 
+class Known(dict):
+    """What was made of texts or numbers that were met: of the last 100,000 or so."""
+
+    def __init__(self, make: Callable[[Any], str]) -> None:
+        super().__init__()
+        self.make = make
+
+    def __missing__(self, given: Any) -> str:
+        if len(self) >= 100_000:
+            self.clear()
+        self[given] = made = self.make(given)
+        return made
+
+
 class Clock:
     """Reads instants that begin with a day of ten signs and a sign between, and go on with hh:mm:ss.
 
@@ -161,6 +192,14 @@ class Clock:
             return self.days[text[:11]] + self.minutes[text[11:17]] + self.seconds[text[17:]]
         except KeyError:
             return self.met(text)
+
+    def moments(self, texts: Sequence[str]) -> list[int]:
+        """The moments of instants."""
+        days, minutes, seconds = self.days, self.minutes, self.seconds
+        try:
+            return [days[text[:11]] + minutes[text[11:17]] + seconds[text[17:]] for text in texts]
+        except KeyError:
+            return list(map(self.moment, texts))
 
     def met(self, text: str) -> int:
         """The moment of an instant whose day may be new."""

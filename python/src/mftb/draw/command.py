@@ -3,7 +3,7 @@
 The files are in the profile of docs/user/FILES.md, and their legs are grey; without a file those
 of the store are. An answer is what a run of a script printed: its records of legs (of `legs`, `box`
 and `trajectory`) are drawn in colour, by feature; where it has none, the tracks of the features
-that `features` named.
+that `features` named, in the question's period where --script says it (all of them with --whole).
 """
 
 from __future__ import annotations
@@ -104,13 +104,14 @@ class Files:
         self.first = min(self.first, start + first * unit)
         self.last = max(self.last, start + last * unit)
 
-    def bounds(self, names: Iterable[str], is_whole: bool) -> list[Place]:
-        """Two corners of the legs of some features, or of all legs; nothing where there is none."""
+    def bounds(self, shown: Shown | None, is_whole: bool) -> list[Place]:
+        """Two corners of what is shown of features, or of all legs; nothing where there is none."""
         every = Extent()
-        for _, row, _, *ends in self.legs():
-            if not names or row[0] in names:
-                every.add(*ends[:2])
-                every.add(*ends[2:])
+        for file, row, number, *ends in self.legs():
+            one, two = ends[:2], ends[2:]
+            for piece in shown.pieces(file, row, number, one, two) if shown else [(one, two)]:
+                every.add(*piece[0])
+                every.add(*piece[1])
         return every.corners(is_whole)
 
     def corners(self) -> list[Place]:
@@ -148,7 +149,9 @@ class Shown:
             found = answers.read_answers(options.answer, options.script)
             self.given = answers.chosen(found, options.question)
         self.hits = list(answers.hits(self.given, files.dimension))
-        self.names: dict[str, None] = {} if self.hits else answers.names(self.given)
+        self.is_whole = options.whole
+        # The features whose tracks are shown, and in which periods.
+        self.names: dict[str, list[answers.Period | None]] = {} if self.hits else answers.names(self.given)
         boxes = [answer.box() for answer in self.given] if options.question else []
         self.box = options.box or next((box for box in boxes if box), None)
         if options.label not in files.columns:
@@ -163,6 +166,25 @@ class Shown:
             is_new = self.legs.setdefault(where, hit.first) == hit.first
             self.legs[where] = hit.first if is_new else None
 
+    def pieces(
+        self, file: LegFile | stored.Stored, row: list[str], number: int, one: Place, two: Place
+    ) -> list[tuple[Place, Place]]:
+        """What is shown of a leg in the track of its feature: its part in each period that was asked for."""
+        periods = self.names.get(row[0], [])
+        if not periods or self.is_whole or None in periods:
+            return [(one, two)] if periods else []
+        first, last = moment(file, row, number), moment(file, row, number + 1)
+        parts = [(max(first, begin), min(last, end)) for begin, end in filter(None, periods)]
+        span = max(last - first, 1)
+        return [
+            (
+                between(one, two, (begin - first) / span),
+                between(one, two, (end - first) / span) if last > first else two,
+            )
+            for begin, end in parts
+            if begin <= end
+        ]
+
     def title(self, files: Source) -> str:
         """The question, or the names of the files."""
         if self.given and len(self.given) == 1 and self.given[0].words:
@@ -172,6 +194,11 @@ class Shown:
     def row_label(self, row: list[str]) -> str:
         """What a feature is called, by a record of the files or of an answer."""
         return row[self.label] if self.label < len(row) else row[0]
+
+
+def between(one: Place, two: Place, share: float) -> Place:
+    """The place after a share of the way between two."""
+    return one[0] + (two[0] - one[0]) * share, one[1] + (two[1] - one[1]) * share
 
 
 def rounded(places: Iterable[Sequence[float]]) -> tuple[float, ...]:
@@ -195,7 +222,7 @@ def seen(options: Namespace, files: Source, shown: Shown) -> list[Place]:
         wide = max(box[2] - box[0], box[3] - box[1]) if shown.names else 0
         found += [(box[0] - wide, box[1] - wide), (box[2] + wide, box[3] + wide)]
     if options.whole or not found:
-        every = files.bounds({} if options.whole else shown.names, options.whole) + found
+        every = files.bounds(shown if shown.names and not options.whole else None, options.whole) + found
         if not every:
             raise texts.Refused(f"no feature of the answer is in the {files.kind}")
         return every
@@ -243,9 +270,11 @@ class Scene:
         """Takes a leg of a feature of the answer; whether it is drawn in colour."""
         name = row[0]
         if self.shown.names:
-            self.labels[name] = self.shown.row_label(row)
-            self.take(name, self.view.at(one), self.view.at(two))
-            return True
+            found = self.shown.pieces(file, row, number, one, two)
+            for begin, end in found:
+                self.labels[name] = self.shown.row_label(row)
+                self.take(name, self.view.at(begin), self.view.at(end))
+            return bool(found)
         offset = self.shown.legs.get((name, *rounded((one, two))))
         if offset is not None:
             self.votes[moment(file, row, number) - offset] += 1

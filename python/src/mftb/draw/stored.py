@@ -10,12 +10,15 @@ from decimal import Decimal
 from io import TextIOWrapper
 from itertools import chain, islice
 from pathlib import Path
-from typing import IO
+from typing import TYPE_CHECKING, IO
 
 from mftb import asking
 from mftb.answers import HEAD
 from mftb.draw.plot import Extent, Place, Seen, View
 from mftb.texts import Refused, instant
+
+if TYPE_CHECKING:
+    from mftb.draw.command import Shown
 
 # The greatest magnitude of a coordinate, and the least span between two.
 GREATEST, LEAST = 100_000_000, 1e-7
@@ -67,18 +70,19 @@ class Stored:
         left, low, right, top = self.store.extent
         return [(left, low), (right, top)]
 
-    def bounds(self, names: Iterable[str], _is_whole: bool = False) -> list[Place]:
-        """Two corners of the legs of some features, or of all that the store has."""
-        if not names:
+    def bounds(self, shown: Shown | None, _is_whole: bool = False) -> list[Place]:
+        """Two corners of what is shown of features, or of all that the store has."""
+        if not shown:
             return self.corners()
         every = Extent()
         begin, end = ((moment - self.start) / 1000 for moment in (self.first, self.last))
         # A name that no line can hold is passed over.
-        lines = [f"trajectory {name}" for name in names if not {"\n", "\r"} & {*name}]
-        for _, row, _, *ends in self.legs_of(lines):
+        lines = [f"trajectory {name}" for name in shown.names if not {"\n", "\r"} & {*name}]
+        for file, row, number, *ends in self.legs_of(lines):
             if float(row[1]) <= end and float(row[2]) >= begin:
-                every.add(*ends[:2])
-                every.add(*ends[2:])
+                for one, two in shown.pieces(file, row, number, ends[:2], ends[2:]):
+                    every.add(*one)
+                    every.add(*two)
         return every.corners()
 
     def milliseconds(self, text: str) -> int:

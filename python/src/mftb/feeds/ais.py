@@ -6,11 +6,15 @@ The layout is told by the header line. A feature is an MMSI; x is the longitude,
 from __future__ import annotations
 
 from argparse import Namespace
-from collections.abc import Callable, Sequence
+from collections.abc import Callable, Iterator, Sequence
+from dataclasses import dataclass
 from functools import lru_cache
+from itertools import compress, repeat
+from operator import itemgetter
 
 from mftb import sources, texts
 from mftb.feeds import arguments, conversion
+from mftb.feeds.judging import Batch, Item, Judge, Position
 
 EXAMPLE = """example:
   tools/from_ais --columns VesselName --skip-bad positions.csv -o ships.csv
@@ -70,24 +74,75 @@ def row_reader(
     header: list[str], kept: sources.Columns, names: tuple, moment: Callable[[str], int], form: str
 ) -> sources.RowReader:
     at, mmsi, x, y = (sources.column(header, *own) for own in names)
-    kind = sources.place_of(header, "Type of mobile")
-    time, who, *axes = (header[place] for place in (at, mmsi, x, y))
-    values = kept.reader(header)
-    moment, is_usual, name = texts.Clock(moment).moment, texts.USUAL_PLACE, texts.feature_name
+    reader = Reports(header, at, mmsi, (x, y), kept.reader(header), texts.Clock(moment), form)
+    return sources.RowReader(reader.one, reader.many)
 
-    def read(row: list[str]) -> conversion.Position:
-        if kind is not None and is_no_ship(row[kind]):
+
+@dataclass
+class Reports:
+    """What reads reports: where their fields stand, and how their instants are read."""
+
+    header: list[str]
+    at: int
+    mmsi: int
+    axes: tuple[int, int]
+    values: sources.Values
+    clock: texts.Clock
+    form: str
+
+    def __post_init__(self) -> None:
+        self.kind = sources.place_of(self.header, "Type of mobile")
+        self.place_of = itemgetter(*self.axes)
+        self.features = Features(self.header[self.mmsi])
+
+    def one(self, row: list[str]) -> Position:
+        """The position of a report."""
+        if self.kind is not None and is_no_ship(row[self.kind]):
             raise texts.LeftOut("of base stations and aids to navigation")
         try:
-            when = moment(row[at])
+            when = self.clock.moment(row[self.at])
         except ValueError:
-            raise texts.BadLine(f"{time} {row[at]!r} is no instant of the form {form}") from None
-        place = row[x], row[y]
-        if not is_usual(f"{row[x]} {row[y]}"):
-            place = texts.degrees(*place, axes)
-        return conversion.position_of((name(row[mmsi], who), when, place, values(row), 0))
+            what = f"{self.header[self.at]} {row[self.at]!r}"
+            raise texts.BadLine(f"{what} is no instant of the form {self.form}") from None
+        place = texts.degrees(*self.place_of(row), [self.header[axis] for axis in self.axes])
+        return Position(self.features[row[self.mmsi]], when, place, self.values.of(row))
 
-    return read
+    def many(self, rows: list[list[str]]) -> list[Item] | None:
+        """The positions of reports, column by column; those of another form than the usual one are read one by one."""
+        are_usual = self.are_usual(rows)
+        usual = list(compress(rows, are_usual))
+        try:
+            moments = self.clock.moments(list(map(itemgetter(self.at), usual)))
+            features = [self.features[name] for name in map(itemgetter(self.mmsi), usual)]
+            places, values = map(self.place_of, usual), self.values.of_all(usual)
+        except (ValueError, texts.BadLine):
+            return None
+        found = zip(features, moments, places, values, repeat(0))
+        if len(usual) == len(rows):
+            return list(found)
+        item, wide = sources.RowReader(self.one).item, len(self.header)
+        return [next(found) if is_usual else item(row, wide) for is_usual, row in zip(are_usual, rows)]
+
+    def are_usual(self, rows: list[list[str]]) -> list[bool]:
+        """Of each report whether it is one of a ship, with a position in its usual form."""
+        found = map(bool, map(texts.USUAL_PLACE, map(" ".join, map(self.place_of, rows))))
+        if self.kind is None:
+            return list(found)
+        kinds = list(map(itemgetter(self.kind), rows))
+        ships = {kind for kind in set(kinds) if not is_no_ship(kind)}
+        return [is_place and kind in ships for is_place, kind in zip(found, kinds)]
+
+
+class Features(dict):
+    """The features' names by the fields that were met."""
+
+    def __init__(self, what: str) -> None:
+        super().__init__()
+        self.what = what
+
+    def __missing__(self, field: str) -> str:
+        self[field] = name = texts.feature_name(field, self.what)
+        return name
 
 
 @lru_cache(maxsize=1000)
@@ -96,7 +151,11 @@ def is_no_ship(kind: str) -> bool:
 
 
 def reader(options: Namespace) -> conversion.FileReader:
-    return lambda path: sources.read_table(path, lambda header: layout(header, options.kept), options.encoding)
+    def read(path: str, judge: Judge) -> Iterator[Batch]:
+        work = sources.Work(judge, options.jobs)
+        return sources.read_table(path, lambda header: layout(header, options.kept), work, options.encoding)
+
+    return read
 
 
 def parse(given: Sequence[str] | None = None) -> Namespace:
@@ -105,6 +164,13 @@ def parse(given: Sequence[str] | None = None) -> Namespace:
         __doc__, EXAMPLE, gap="10m", why="since ships at anchor report every 3 minutes", most="100kn", usual="100kn"
     )
     arguments.add_encoding(words)
+    words.add_argument(
+        "--jobs",
+        type=arguments.jobs,
+        default=1,
+        metavar="N",
+        help="read by so many processes; what is written is the same (without: 1)",
+    )
     return words.parse_args(given)
 
 

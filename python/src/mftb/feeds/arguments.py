@@ -35,6 +35,13 @@ def encoding(text: str) -> str:
         raise argparse.ArgumentTypeError(f"{text!r} is no encoding such as utf-8, latin-1 or cp1252") from None
 
 
+def jobs(text: str) -> int:
+    """A number of processes."""
+    if not (text.isascii() and text.isdigit() and 0 < int(text) <= 256):
+        raise argparse.ArgumentTypeError(f"{text!r} is no number of processes from 1 to 256")
+    return int(text)
+
+
 def column_list(text: str) -> list[tuple[str, str]]:
     """The names and types of NAME[=TYPE],..., where a name with a comma stands in quotes."""
     return [(name, kind or "xsd:string") for name, kind in pairs(text)]

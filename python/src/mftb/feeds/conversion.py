@@ -18,53 +18,34 @@ import io
 import marshal
 import math
 import os
-import re
 import signal
 import sqlite3
 import sys
 import tempfile
 from argparse import Namespace
 from collections import Counter
-from collections.abc import Callable, Iterable, Iterator, Mapping, Sequence
-from decimal import Decimal
-from functools import lru_cache, partial
+from collections.abc import Callable, Iterable, Iterator, Mapping
 from itertools import islice
-from typing import NamedTuple, TextIO, TypeAlias
+from typing import TextIO, TypeAlias
 
 from mftb.commands import ended, say
 from mftb.feeds import seams
 from mftb.feeds.fixes import Speed, Unwrapped, meets, over_date_line
+from mftb.feeds.judging import Batch, Bounds, Judge, Plain, Position, Sieve, position_of
 from mftb.legfiles import beside
 from mftb.sources import BATCH, Columns
-from mftb.texts import BadLine, LeftOut, Refused, feature_name, instant, several
+from mftb.texts import Known, LeftOut, Refused, field, further_fields, instant, several
 
-NEEDS_QUOTES = re.compile('[",\r\n]')
 # Positions between two words of progress, and lines that cannot be read of which each is named.
 STRIDE, NAMED = 50_000, 20
-# The form of marshal that looks for no value that stands twice.
-PLAIN = 2
 
 
 class IsThere(Refused):
     """That all positions of the files were converted before."""
 
 
-class Position(NamedTuple):
-    """Where a feature was at a moment (in milliseconds since 1970), with its attribute values."""
-
-    feature: str
-    moment: int
-    place: tuple
-    values: tuple = ()
-    segment: int = 0
-
-
-position_of = partial(tuple.__new__, Position)
-
-
-# What is read of a line: a position, or why there is none.
-Item: TypeAlias = Position | Exception
-FileReader: TypeAlias = Callable[[str], Iterator[tuple[int, Item]]]
+# What reads a file, and gives what is judged of its lines, some at once.
+FileReader: TypeAlias = Callable[[str, Judge], Iterator[Batch]]
 Reader: TypeAlias = Callable[[Namespace], FileReader]
 
 # Reading
@@ -76,112 +57,32 @@ class Spool:
     def __init__(self) -> None:
         self.file, self.sizes, self.bounds = tempfile.TemporaryFile(), [], Bounds()
 
-    def add(self, positions: list[Position]) -> None:
-        """Keeps a batch of positions."""
-        if positions:
-            self.bounds.cover(positions)
-            self.sizes.append(self.file.write(marshal.dumps(list(map(tuple, positions)), PLAIN)))
+    def add(self, batch: Batch) -> None:
+        """Keeps the positions of a batch."""
+        if batch.count:
+            self.bounds.join(batch.bounds)
+            self.sizes.append(self.file.write(batch.packed))
 
-    def __iter__(self) -> Iterator[Position]:
+    def __iter__(self) -> Iterator[Plain]:
         self.file.seek(0)
         for size in self.sizes:
-            yield from map(position_of, marshal.loads(self.file.read(size)))
+            yield from marshal.loads(self.file.read(size))
 
 
 class Sorted:
     """Positions by their moments, those of one moment as they came; memory does not grow."""
 
-    def __init__(self, positions: Iterable[Position]) -> None:
+    def __init__(self, positions: Iterable[Plain]) -> None:
         # An empty name is a temporary file, which is removed when it is closed.
         self.store = sqlite3.connect("")
         self.store.execute("pragma temp_store = file")
         self.store.execute("create table position (moment integer, number integer primary key, rest blob)")
-        rest = ((it.moment, marshal.dumps(tuple(it))) for it in positions)
+        rest = ((it[1], marshal.dumps(it)) for it in positions)
         self.store.executemany("insert into position (moment, rest) values (?, ?)", rest)
 
-    def __iter__(self) -> Iterator[Position]:
+    def __iter__(self) -> Iterator[Plain]:
         for (rest,) in self.store.execute("select rest from position order by moment, number"):
-            yield Position(*marshal.loads(rest))
-
-
-class Bounds:
-    """The first and the last moment of positions, and the corners of their places."""
-
-    def __init__(self) -> None:
-        self.first = self.last = None
-        self.low, self.high = [], []
-
-    def cover(self, positions: Sequence[tuple]) -> None:
-        """Takes positions in, which are tuples; there is at least one."""
-        moments = [it[1] for it in positions]
-        moments += [] if self.first is None else [self.first, self.last]
-        self.first, self.last = min(moments), max(moments)
-        axes = [(texts, list(map(float, texts))) for texts in zip(*[it[2] for it in positions])]
-        lows, highs = (self.low, self.high) if self.low else ([None] * len(axes),) * 2
-        self.low = [corner(*axis, min, end) for axis, end in zip(axes, lows)]
-        self.high = [corner(*axis, max, end) for axis, end in zip(axes, highs)]
-
-
-def corner(texts: Sequence[str], numbers: Sequence[float], most: Callable[..., float], end: str | None) -> str:
-    """The first of the least texts of numbers, or of the greatest, where `end` was that so far."""
-    # As floats keep the order, they only spare most comparisons of the decimals.
-    found = most(numbers)
-    if end is not None and most(found, float(end)) != found:
-        return end
-    ties = dict.fromkeys(text for text, number in zip(texts, numbers) if number == found)
-    if end is not None and float(end) == found:
-        ties = {end: None, **ties}
-    return most(ties, key=Decimal) if len(ties) > 1 else next(iter(ties))
-
-
-class Sieve:
-    """What the words of the command line leave out, line by line, or add to a position."""
-
-    def __init__(self, options: Namespace, begins: Mapping[str, Position]) -> None:
-        self.options, self.begins = options, begins
-        # The first feature that is not later than where it ended, and its moments.
-        self.early = []
-
-    def __bool__(self) -> bool:
-        options = self.options
-        wanted = options.start, options.end, options.source, options.prefix
-        return any(it is not None for it in wanted) or bool(self.begins)
-
-    def take(self, path: str, line: int, item: Item) -> Item:
-        """The position that is left of an item, or why none is."""
-        options = self.options
-        if isinstance(item, Exception):
-            return item
-        if options.prefix is not None:
-            try:
-                item = item._replace(feature=feature_name(options.prefix + item.feature, "the name with --prefix"))
-            except BadLine as why:
-                return why
-        if options.start is not None and item.moment < options.start:
-            return LeftOut("before --from")
-        if options.end is not None and item.moment > options.end:
-            return LeftOut("after --to")
-        if options.source is not None:
-            item = item._replace(values=(*item.values, f"{path}:{line}"))
-        begin = self.begins.get(item.feature)
-        if begin is None or item.moment > begin.moment:
-            return item
-        if not self.early:
-            self.early = [item, item]
-        if item.feature == self.early[0].feature:
-            self.early = [min(self.early[0], item, key=when), max(self.early[1], item, key=when)]
-        return LeftOut(f"not later than {options.before}")
-
-    def question(self) -> str:
-        """Whether these files were loaded before, in words."""
-        first, last = self.early
-        end = instant(self.begins[first.feature].moment)
-        times = f"is here from {instant(first.moment)} to {instant(last.moment)}"
-        return f"already loaded? {first.feature!r} {times}, and ended at {end}"
-
-
-def when(position: Position) -> int:
-    return position.moment
+            yield marshal.loads(rest)
 
 
 class Feed:
@@ -206,32 +107,30 @@ class Feed:
 
     def survey(self) -> None:
         """Judges every line, and sees what the header needs and whether there is an order."""
-        ends = {}
-        for path, lines, items in self.batches():
-            self.lines += len(items)
-            kept = [item for item in items if item.__class__ is Position]
-            if len(kept) < len(items):
-                for line, item in zip(lines, items):
-                    if item.__class__ is not Position:
-                        self.leave_out(path, line, item)
-                lines = [line for line, item in zip(lines, items) if item.__class__ is Position]
-            self.spool.add(kept)
-            self.follow(path, lines, kept, ends)
+        ends: dict[str, int] = {}
+        for path, batch in self.batches():
+            self.lines += batch.lines
+            for line, why in batch.faults:
+                self.leave_out(path, line, why)
+            for feature, (first, last) in batch.early.items():
+                self.sieve.note(feature, first, last)
+            self.spool.add(batch)
+            self.follow(path, batch, ends)
         self.features = len(ends)
         self.judge(ends)
         self.order()
 
-    def follow(self, path: str, lines: Iterable[int], positions: Sequence[Position], ends: dict[str, int]) -> None:
+    def follow(self, path: str, batch: Batch, ends: dict[str, int]) -> None:
         """Notes where each feature is now, and the first that goes back in time."""
-        moments = [it[1] for it in positions]
-        if not self.disorder and [self.latest, *moments] != sorted([self.latest, *moments]):
-            for line, (feature, moment, _, _, _) in zip(lines, positions):
-                if moment < ends.get(feature, moment):
-                    self.disorder = f"{path} line {line}: {feature!r} goes back in time"
-                    break
-                ends[feature] = moment
-        self.latest = max([self.latest, *moments])
-        ends.update(zip([it[0] for it in positions], moments))
+        if not self.disorder and batch.count:
+            back = [] if batch.disorder is None else [batch.disorder]
+            if batch.bounds.first < self.latest:
+                back += [(line, name) for name, (when, line) in batch.firsts.items() if when < ends.get(name, when)]
+            if back:
+                line, feature = min(back)
+                self.disorder = f"{path} line {line}: {feature!r} goes back in time"
+            self.latest = max(self.latest, batch.bounds.last)
+        ends.update(batch.lasts)
 
     def leave_out(self, path: str, line: int, why: Exception) -> None:
         """Counts a line without a position; one that cannot be read ends all, or is named."""
@@ -251,19 +150,16 @@ class Feed:
         if not self.quiet:
             say(self.tool, what)
 
-    def batches(self) -> Iterator[tuple[str, Sequence[int], list]]:
+    def batches(self) -> Iterator[tuple[str, Batch]]:
         """What the files have, with a word of progress on a terminal."""
         terminal, read = sys.stderr.isatty(), self.reader(self.options)
-        take = self.sieve.take if self.sieve else None
         for path in self.options.files:
             number = 0
-            for lines, items in read(path):
-                if terminal and number // STRIDE < (number + len(items)) // STRIDE:
-                    say(self.tool, f"{path} line {lines[-1]}", end="")
-                number += len(items)
-                if take:
-                    items = [take(path, line, item) for line, item in zip(lines, items)]
-                yield path, lines, items
+            for batch in read(path, Judge(path, self.sieve)):
+                if terminal and number // STRIDE < (number + batch.lines) // STRIDE:
+                    say(self.tool, f"{path} line {batch.last_line}", end="")
+                number += batch.lines
+                yield path, batch
             if not number:
                 self.say(f"{path} has nothing to convert; it is passed over")
 
@@ -315,38 +211,44 @@ class Legs:
         self.leaves_out = options.most is not None
         self.speed = Speed(options.most or options.usual, options.in_degrees)
         self.is_over = over_date_line if options.in_degrees else lambda one, two: False
-        # Of each feature the last position that was kept, and whether that is in a leg.
-        self.last = {name: (begin, True) for name, begin in begins.items()}
+        # Of each feature the last position that was kept, whether that is in a leg, and its x and y.
+        self.last = {name: (begin, True, *map(float, begin.place[:2])) for name, begin in begins.items()}
         # Of a feature whose first position is in no leg, one that was too fast from there.
         self.doubts = {}
 
-    def of(self, positions: Iterable[Position]) -> Iterator[tuple[Position, Position]]:
-        last, gap, nothing = self.last, self.gap, (None, True)
+    def ends(self) -> dict[str, Position]:
+        """Where each feature ended."""
+        return {name: position_of(end) for name, (end, *_) in self.last.items()}
+
+    def of(self, positions: Iterable[Plain]) -> Iterator[tuple[Plain, Plain]]:
+        last, gap, nothing = self.last, self.gap, (None, True, 0.0, 0.0)
         is_over, exceeded, glance = self.is_over, self.speed.exceeded, self.speed.glance
         for here in positions:
             feature, moment, place, _, segment = here
-            before, in_leg = last.get(feature, nothing)
+            x, y = float(place[0]), float(place[1])
+            before, in_leg, from_x, from_y = last.get(feature, nothing)
             if before is not None:
-                _, earlier, start, _, part = before
-                span = moment - earlier
-                if 0 < span <= gap and segment == part and not is_over(start[0], place[0]):
+                span = moment - before[1]
+                # Longitudes of one sign are on one side of the date line.
+                is_near = x * from_x > 0 or not is_over(before[2][0], place[0])
+                if 0 < span <= gap and segment == before[4] and is_near:
                     # What is slow enough at a glance needs no second one.
-                    apart = abs(float(place[0]) - float(start[0])) + abs(float(place[1]) - float(start[1]))
-                    if apart > glance * span and exceeded(before, here):
+                    if abs(x - from_x) + abs(y - from_y) > glance * span and exceeded(before, here):
                         before = self.too_fast(before, in_leg, here)
                     if before is not None:
                         yield before, here
-                        last[feature] = here, True
+                        last[feature] = here, True, x, y
                     continue
                 if self.is_repeated(before, here):
                     continue
             if not in_leg:
                 self.counts["alone"] += 1
-            last[feature] = here, False
-        self.counts["alone"] += sum(not in_leg for _, in_leg in last.values())
+            last[feature] = here, False, x, y
+        self.counts["alone"] += sum(not in_leg for _, in_leg, *_ in last.values())
 
-    def is_repeated(self, before: Position, here: Position) -> bool:
+    def is_repeated(self, before: Plain, here: Plain) -> bool:
         """Counts why there is no leg between two positions; whether it is a repeated instant."""
+        before, here = position_of(before), position_of(here)
         if before.segment != here.segment:
             self.counts["between segments"] += 1
         elif before.moment == here.moment:
@@ -358,7 +260,7 @@ class Legs:
             self.counts["over the date line"] += 1
         return False
 
-    def too_fast(self, before: Position, in_leg: bool, here: Position) -> Position | None:
+    def too_fast(self, before: Plain, in_leg: bool, here: Plain) -> Plain | None:
         """The position from which a leg leads here all the same, if there is one.
 
         Of two positions of which one is wrong, the later one is left out; but where the earlier
@@ -367,15 +269,17 @@ class Legs:
         if not self.leaves_out:
             self.counts["fast"] += 1
             return before
-        other = None if in_leg else self.doubts.get(here.feature)
+        feature = here[0]
+        other = None if in_leg else self.doubts.get(feature)
         if other and self.agree(other, here):
-            return self.doubts.pop(here.feature)
+            return self.doubts.pop(feature)
         self.counts["too fast"] += 1
         if not in_leg:
-            self.doubts[here.feature] = here
+            self.doubts[feature] = here
         return None
 
-    def agree(self, one: Position, two: Position) -> bool:
+    def agree(self, one: Plain, two: Plain) -> bool:
+        one, two = position_of(one), position_of(two)
         near = 0 < two.moment - one.moment <= self.gap and one.segment == two.segment
         apart = self.is_over(one.place[0], two.place[0]) or self.speed.exceeded(one, two)
         return near and not apart
@@ -384,15 +288,6 @@ class Legs:
 # The output
 
 
-@lru_cache(maxsize=10_000)
-def field(text: str) -> str:
-    """A field of CSV, in quotes where it needs them."""
-    if NEEDS_QUOTES.search(text):
-        return '"' + text.replace('"', '""') + '"'
-    return text
-
-
-@lru_cache(maxsize=2000)
 def seconds(milliseconds: int) -> str:
     """A span in seconds, as the shortest decimal."""
     whole, part = divmod(milliseconds, 1000)
@@ -409,30 +304,28 @@ def write(out: TextIO, feed: Feed) -> None:
     names = [text for pair in options.written for text in pair]
     for line in head, ["@columns", "mfidref", "trajectory", *names]:
         out.write(",".join(map(field, line)) + "\n")
-    legs = kept_legs(feed)
+    legs, names, times, more = kept_legs(feed), Known(field), Known(seconds), Known(further_fields)
     while found := list(islice(legs, BATCH)):
         feed.written += len(found)
-        out.write("".join([record(one, two, start) for one, two in found]))
+        # A leg's times count from `start`.
+        lines = [
+            f"{names[name]},{times[begin - start]},{times[two[1] - start]},{' '.join(place + two[2])}{more[values]}\n"
+            for (name, begin, place, values, _), two in found
+        ]
+        out.write("".join(lines))
 
 
-def record(one: Position, two: Position, start: int) -> str:
-    """The line of a leg between two positions, whose times count from `start`."""
-    feature, begin, place, values, _ = one
-    times = f"{field(feature)},{seconds(begin - start)},{seconds(two[1] - start)}"
-    more = "," + ",".join(map(field, values)) if values else ""
-    return f"{times},{' '.join(place + two[2])}{more}\n"
-
-
-def kept_legs(feed: Feed) -> Iterator[tuple[Position, Position]]:
+def kept_legs(feed: Feed) -> Iterator[tuple[Plain, Plain]]:
     """The legs that are written, with a word of progress on a terminal."""
     box, terminal = feed.options.bbox, sys.stderr.isatty()
     legs = feed.legs.of(feed.ordered)
     if box is None and not terminal:
         yield from legs
+        return
     for number, (one, two) in enumerate(legs):
         if number % STRIDE == 0 and terminal:
             say(feed.tool, f"leg {number}", end="")
-        if box is None or meets(box, one.place, two.place):
+        if box is None or meets(box, one[2], two[2]):
             yield one, two
         else:
             feed.counts["outside"] += 1
@@ -451,8 +344,7 @@ def save(feed: Feed) -> None:
         write(out, feed)
         out.flush()
         if state:
-            ends = {name: end for name, (end, _) in feed.legs.last.items()}
-            seams.write_state(state, options, ends)
+            seams.write_state(state, options, feed.legs.ends())
 
 
 def begins_of(tool: str, reader: Reader, options: Namespace) -> dict[str, Position]:
@@ -480,7 +372,7 @@ def ends_of_feed(tool: str, reader: Reader, options: Namespace) -> dict[str, Pos
     for _ in feed.legs.of(feed.ordered):
         pass
     # A later file's segments are its own.
-    return {name: end._replace(segment=0) for name, (end, _) in feed.legs.last.items()}
+    return {name: end._replace(segment=0) for name, end in feed.legs.ends().items()}
 
 
 def why_no_leg(feed: Feed) -> str:

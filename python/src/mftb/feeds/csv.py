@@ -13,6 +13,7 @@ from zoneinfo import ZoneInfo
 
 from mftb import texts
 from mftb.feeds import arguments, conversion, layouts
+from mftb.feeds.judging import Position
 from mftb.sources import RowReader
 
 EXAMPLE = """example:
@@ -36,7 +37,7 @@ def layout(table: layouts.Table, options: Namespace, clock: layouts.Clock) -> Ro
     name, time, *axes = (table.header[place] for place in (who, at, x, y))
     comma = options.decimal == ","
 
-    def read(row: list[str]) -> conversion.Position:
+    def read(row: list[str]) -> Position:
         if not row[x].strip() and not row[y].strip():
             raise texts.LeftOut("without a position")
         try:
@@ -49,9 +50,9 @@ def layout(table: layouts.Table, options: Namespace, clock: layouts.Clock) -> Ro
         if z is not None:
             place += (layouts.plain_number(row[z], table.header[z], comma),)
         place = tuple([texts.plain_decimal(text, "a coordinate") for text in place])
-        return conversion.Position(texts.feature_name(row[who], name), when, place, values(row))
+        return Position(texts.feature_name(row[who], name), when, place, values.of(row))
 
-    return read
+    return RowReader(read)
 
 
 def reader(options: Namespace) -> conversion.FileReader:
@@ -62,7 +63,7 @@ def reader(options: Namespace) -> conversion.FileReader:
     def layout_of(table: layouts.Table) -> RowReader:
         return layout(table, options, clock)
 
-    return lambda path: layouts.read(path, names, options, layout_of)
+    return lambda path, judge: layouts.read(path, names, options, layout_of, judge)
 
 
 def zone(text: str) -> tzinfo | None:

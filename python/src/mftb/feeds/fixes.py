@@ -8,7 +8,7 @@ from decimal import Decimal
 from typing import TYPE_CHECKING, TypeAlias
 
 if TYPE_CHECKING:
-    from mftb.feeds.conversion import Position
+    from mftb.feeds.judging import Plain, Position
 
 Place: TypeAlias = Sequence[str]
 EARTH = 6_371_008.8
@@ -38,9 +38,9 @@ class Speed:
         self.most = most / 1000
         self.glance = self.most / (DEGREE if in_degrees else 1)
 
-    def exceeded(self, before: Position, here: Position) -> bool:
+    def exceeded(self, before: Plain, here: Plain) -> bool:
         """Whether it takes more to go from one position to a later one."""
-        one, two, span = before.place, here.place, here.moment - before.moment
+        one, two, span = before[2], here[2], here[1] - before[1]
         wide, high = float(two[0]) - float(one[0]), float(two[1]) - float(one[1])
         if abs(wide) + abs(high) <= self.glance * span:
             return False
@@ -50,18 +50,19 @@ class Speed:
 class Unwrapped:
     """Positions whose longitudes go on where a feature passes the date line."""
 
-    def __init__(self, positions: Iterable[Position], begins: Mapping[str, Position]) -> None:
+    def __init__(self, positions: Iterable[Plain], begins: Mapping[str, Position]) -> None:
         self.positions, self.begins = positions, begins
 
-    def __iter__(self) -> Iterator[Position]:
+    def __iter__(self) -> Iterator[Plain]:
         ends = {feature: float(end.place[0]) for feature, end in self.begins.items()}
         for here in self.positions:
-            x = float(here.place[0])
-            turns = round((ends.get(here.feature, x) - x) / 360)
+            feature, moment, place, values, segment = here
+            x = float(place[0])
+            turns = round((ends.get(feature, x) - x) / 360)
             if turns:
-                text = f"{Decimal(here.place[0]) + 360 * turns:f}"
-                here, x = here._replace(place=(text, *here.place[1:])), float(text)
-            ends[here.feature] = x
+                text = f"{Decimal(place[0]) + 360 * turns:f}"
+                here, x = (feature, moment, (text, *place[1:]), values, segment), float(text)
+            ends[feature] = x
             yield here
 
 

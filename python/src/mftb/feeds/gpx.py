@@ -14,6 +14,7 @@ from xml.parsers import expat
 
 from mftb import sources, texts
 from mftb.feeds import arguments, conversion
+from mftb.feeds.judging import Batch, Item, Judge, Position
 
 EXAMPLE = """example:
   tools/from_gpx --columns ele=xsd:decimal morning.gpx evening.gpx -o rides.csv
@@ -102,7 +103,7 @@ class File:
             self.track[tag] = text
         self.place = above
 
-    def position(self) -> conversion.Item:
+    def position(self) -> Item:
         """The position of the point that ended, or why there is none."""
         options = self.tracks.options
         if self.feature is None:
@@ -114,7 +115,7 @@ class File:
             if options.three:
                 place += (texts.plain_decimal(self.own("ele"), "ele"),)
             values = tuple([self.value(names) for names in options.kept.names])
-            return conversion.Position(feature, moment(time), place, values, self.tracks.segment())
+            return Position(feature, moment(time), place, values, self.tracks.segment())
         except (texts.BadLine, texts.LeftOut) as why:
             return why
 
@@ -142,11 +143,11 @@ def moment(text: str) -> int:
 
 def reader(options: Namespace) -> conversion.FileReader:
     tracks = Tracks(options)
-    return lambda path: read(path, tracks)
+    return lambda path, judge: read(path, tracks, judge)
 
 
-def read(path: str, tracks: Tracks) -> Iterator[tuple[int, conversion.Item]]:
-    """Batches of a file's points: line numbers, and of each point its position, or why it has none."""
+def read(path: str, tracks: Tracks, judge: Judge) -> Iterator[Batch]:
+    """What is judged of a file's points, some at once."""
     file = File(path, tracks)
     with sources.opened(path) as source:
         piece = skip_blanks(source)
@@ -154,7 +155,8 @@ def read(path: str, tracks: Tracks) -> Iterator[tuple[int, conversion.Item]]:
             return
         while piece:
             file.parse(piece)
-            yield from sources.batches(iter(file.found))
+            for numbers, items in sources.batches(iter(file.found)):
+                yield judge(numbers, items)
             file.found.clear()
             piece = source.read(1 << 16)
         file.parse(b"")

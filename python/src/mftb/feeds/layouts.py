@@ -11,9 +11,9 @@ from datetime import datetime, time, timedelta, timezone, tzinfo
 from decimal import ROUND_FLOOR, Decimal
 from functools import lru_cache
 from itertools import chain
-from typing import Any
 
 from mftb import sources
+from mftb.feeds.judging import Batch, Judge
 from mftb.texts import PLAIN_DECIMAL, BadLine, Refused
 
 DELIMITERS = ",;\t|"
@@ -169,9 +169,9 @@ class Table:
 
 
 def read(
-    path: str, names: list[str], options: Namespace, layout: Callable[[Table], sources.RowReader]
-) -> Iterator[tuple[int, Any]]:
-    """Batches of a table: line numbers, and of each line its position, or why it has none."""
+    path: str, names: list[str], options: Namespace, layout: Callable[[Table], sources.RowReader], judge: Judge
+) -> Iterator[Batch]:
+    """What is judged of the lines of a table, some at once."""
     with sources.opened(path) as raw:
         text = sources.as_text(raw, options.encoding)
         start = text.read(1 << 16) + text.readline()
@@ -183,7 +183,8 @@ def read(
         if table.has_header:
             sources.first_row(head)
         try:
-            read_row = layout(table)
+            reader = layout(table)
         except BadLine as why:
             raise Refused(f"{path} line 1: {why}") from None
-        yield from sources.rows(lines, head.line_num, len(table.header), read_row, table.delimiter)
+        how = sources.Rows(len(table.header), reader, table.delimiter)
+        yield from sources.rows(lines, head.line_num, how, sources.Work(judge))

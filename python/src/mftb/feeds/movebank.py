@@ -10,6 +10,7 @@ from collections.abc import Callable, Sequence
 
 from mftb import sources, texts
 from mftb.feeds import arguments, conversion
+from mftb.feeds.judging import Position
 
 EXAMPLE = """example:
   tools/from_movebank --columns individual-taxon-canonical-name --skip-bad storks.csv -o legs.csv
@@ -52,7 +53,7 @@ def layout(header: list[str], kept: sources.Columns, midnight: bool, studies: St
     time, animal, *axes = (header[place] for place in (at, who, x, y))
     is_outlier, values = outlier_reader(header), kept.reader(header)
 
-    def read(row: list[str]) -> conversion.Position:
+    def read(row: list[str]) -> Position:
         if is_outlier(row):
             raise texts.LeftOut("marked as outliers")
         when = moment(row[at], time, midnight)
@@ -62,9 +63,9 @@ def layout(header: list[str], kept: sources.Columns, midnight: bool, studies: St
         name = texts.feature_name(row[who], animal)
         if study is not None:
             studies.see(name, row[study])
-        return conversion.Position(name, when, place, values(row))
+        return Position(name, when, place, values.of(row))
 
-    return read
+    return sources.RowReader(read)
 
 
 def outlier_reader(header: list[str]) -> Callable[[list[str]], bool]:
@@ -119,7 +120,7 @@ def reader(options: Namespace) -> conversion.FileReader:
         return layout(header, options.kept, options.midnight, studies)
 
     options.remarks.append(studies.remark)
-    return lambda path: sources.read_table(path, layout_of, options.encoding)
+    return lambda path, judge: sources.read_table(path, layout_of, sources.Work(judge), options.encoding)
 
 
 def parse(given: Sequence[str] | None = None) -> Namespace:

@@ -14,7 +14,7 @@ from mftb.sources import opened
 from mftb.texts import BadLine, Refused, instant, plain_decimal, read_instant
 
 if TYPE_CHECKING:
-    from mftb.feeds.conversion import Position
+    from mftb.feeds.judging import Position
 
 # A feature, and the moment, the place and the values of its last position.
 End: TypeAlias = tuple[str, int, tuple[str, ...], tuple[str, ...]]
