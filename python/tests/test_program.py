@@ -268,6 +268,49 @@ class Program(Case):
             self.assertEqual(status, 0)
             self.assertRegex(" ".join(said.split()), r"--cache-pages <N> [^\[]*\[default: 256\]")
 
+    def test_a_store_takes_as_many_legs_and_features_as_it_is_told(self):
+        """The example has 5 legs, of which record 6 has 2, and 3 features, of which that record is the third."""
+        self.write("S1.csv", STANDARD)
+        self.write("load.txt", "load S1.csv\n")
+        for words, answer in (
+            (["--most-legs", "4"], "refused F19 at 6\n"),
+            (["--most-features", "2"], "refused F20 at 6\n"),
+            (["--most-legs", "5", "--most-features", "3"], "ok 1\n4,5,3\n"),
+            (["--most-legs", "2147483648", "--most-features", "2147483648"], "ok 1\n4,5,3\n"),
+        ):
+            self.write("sized.mftb", "")
+            said = self.answer("run", "-q", *words, "sized.mftb", "load.txt", "S1.csv")
+            self.assertEqual(said, (0, answer, ""))
+
+        # The limits stand in page 0, behind 24 bytes.
+        limits = self.bytes_of("sized.mftb")[24:40]
+        self.assertEqual(limits, (1 << 31).to_bytes(8, "big") * 2)
+
+    def test_limits_are_from_1_to_2_to_the_31(self):
+        self.write("count.txt", "count\n")
+        for name in ("--most-legs", "--most-features"):
+            for number in ("0", "2147483649", "-1", "many"):
+                status, out, faults = self.answer("run", f"{name}={number}", "sized.mftb", "count.txt")
+                self.assertEqual((status, out), (2, ""))
+                self.assertIn(name, faults)
+        self.assertFalse(self.path("sized.mftb").exists())
+
+    def test_a_store_that_is_there_keeps_its_limits(self):
+        self.write_example()
+        self.write("count.txt", "count\n")
+        five = ["--most-legs", "5"]
+        self.write("sized.mftb", "")
+        self.assertEqual(self.answer("run", *five, "sized.mftb", "script.txt", "S1.csv"), (0, ANSWERS, ""))
+        made = self.bytes_of("sized.mftb")
+        counted = (0, "ok 1\n5,3\n", "")
+        for words in ([], five, ["--most-features", "1048576"]):
+            self.assertEqual(self.answer("run", *words, "sized.mftb", "count.txt"), counted)
+        line = "mftb: other limits: the store takes 5 legs and 1048576 features\n"
+        for words in (["--most-legs", "6"], ["--most-features", "4"]):
+            self.fails(line, "run", *words, "sized.mftb", "count.txt", status=2)
+            self.fails(line, "run", *words, "sized.mftb", "script.txt", "S1.csv", status=2)
+        self.assertEqual(self.bytes_of("sized.mftb"), made)
+
     def test_a_part_of_a_file_is_printed(self):
         self.write("whole.csv", STANDARD)
         status, out, _ = self.answer("part", "1", "2", "whole.csv")

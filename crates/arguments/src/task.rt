@@ -29,6 +29,10 @@ pub struct Run<'a> {
     pub store: &'a str,
     /// How many pages its cache holds at most, at least 1.
     pub cache_pages: u32,
+    /// How many legs it is to hold at most, from 1 to 2^31, where that is said.
+    pub most_legs: Option<u32>,
+    /// How many features.
+    pub most_features: Option<u32>,
     /// The name of the script.
     pub script: &'a str,
     /// The names of the files that it may load.

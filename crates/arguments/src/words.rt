@@ -27,6 +27,8 @@ enum Form<'a> {
     FlagOrLetter(char),
     /// `--NAME VALUE`, a number.
     Number(&'a str),
+    /// `--NAME N`, a number from 1 to 2^31.
+    Limit,
     /// `--NAME N`, a number of 1 at least, and that where it is not there.
     CountOr(&'a str),
 }
@@ -45,9 +47,9 @@ impl<'a> Word<'a> {
     }
 }
 
-/// A number of that at least.
-fn at_least<'a>(least: u32) -> ValueParser<'a> {
-    ValueParser::signed(i64::from(least), i64::from(u32::MAX))
+/// A number between two others.
+fn between<'a>(least: u32, most: u32) -> ValueParser<'a> {
+    ValueParser::signed(i64::from(least), i64::from(most))
 }
 
 /// A word that has to be there.
@@ -60,7 +62,7 @@ fn required<'a>(alloc: Global, word: Word<'a>) -> Arg<'a> {
 
 /// A word that has to be there, and is a number of that at least.
 fn count<'a>(alloc: Global, word: Word<'a>, least: u32) -> Arg<'a> {
-    required(alloc, word).value_parser(at_least(least))
+    required(alloc, word).value_parser(between(least, u32::MAX))
 }
 
 /// A word that has to be there, and may begin with a minus.
@@ -86,18 +88,29 @@ fn letter_flag<'a>(alloc: Global, word: Word<'a>, letter: char) -> Arg<'a> {
     flag(alloc, word).short(letter)
 }
 
-/// A word `--NAME VALUE`, a number of that at least.
-fn number<'a>(alloc: Global, word: Word<'a>, value: &'a str, least: u32) -> Arg<'a> {
+/// A word `--NAME VALUE`.
+fn option<'a>(alloc: Global, word: Word<'a>, value: &'a str) -> Arg<'a> {
     Arg::new(alloc, word.name)
         .long(word.name)
         .value_name(value)
         .help(word.help)
-        .value_parser(at_least(least))
+}
+
+/// A word `--NAME VALUE`, a number.
+fn number<'a>(alloc: Global, word: Word<'a>, value: &'a str) -> Arg<'a> {
+    option(alloc, word, value).value_parser(between(0, u32::MAX))
+}
+
+/// A word `--NAME N`, a number from 1 to 2^31.
+fn limit<'a>(alloc: Global, word: Word<'a>) -> Arg<'a> {
+    option(alloc, word, "N").value_parser(between(1, 1 << 31))
 }
 
 /// A word `--NAME N`, a number of 1 at least, and that where it is not there.
 fn count_or<'a>(alloc: Global, word: Word<'a>, default: &'a str) -> Arg<'a> {
-    number(alloc, word, "N", 1).default_value(default)
+    option(alloc, word, "N")
+        .value_parser(between(1, u32::MAX))
+        .default_value(default)
 }
 
 /// What `clap` is told of a word.
@@ -109,7 +122,8 @@ fn arg_of<'a>(alloc: Global, word: Word<'a>) -> Arg<'a> {
         Form::Names => names(alloc, word),
         Form::Flag => flag(alloc, word),
         Form::FlagOrLetter(letter) => letter_flag(alloc, word, letter),
-        Form::Number(value) => number(alloc, word, value, 0),
+        Form::Number(value) => number(alloc, word, value),
+        Form::Limit => limit(alloc, word),
         Form::CountOr(default) => count_or(alloc, word, default),
     }
 }
@@ -134,6 +148,24 @@ fn cache_pages<'a>() -> Word<'a> {
         Form::CountOr("256"),
         "cache-pages",
         "How many pages of the file are kept in memory, 4096 bytes each",
+    )
+}
+
+/// The word `--most-legs N`.
+fn most_legs<'a>() -> Word<'a> {
+    Word::new(
+        Form::Limit,
+        "most-legs",
+        "How many legs a STORE that is made takes, up to 2147483648 [default: 16777216]",
+    )
+}
+
+/// The word `--most-features N`.
+fn most_features<'a>() -> Word<'a> {
+    Word::new(
+        Form::Limit,
+        "most-features",
+        "How many features a STORE that is made takes, up to 2147483648 [default: 1048576]",
     )
 }
 
@@ -192,6 +224,8 @@ fn run_command<'a>(alloc: Global) -> Result<Command<'a>, AllocError> {
             "The files that the script may load, by these names",
         ),
         cache_pages(),
+        most_legs(),
+        most_features(),
         in_place(),
         existing(),
         Word::new(
@@ -405,6 +439,8 @@ fn run_of<'a>(alloc: Global, matches: &ArgMatches<'a>) -> Result<Run<'a>, Error>
     Ok(Run {
         store: word_of(matches, "STORE"),
         cache_pages: number_of(matches, "cache-pages", CACHE_PAGES),
+        most_legs: matches.get_one("most-legs"),
+        most_features: matches.get_one("most-features"),
         script: word_of(matches, "SCRIPT"),
         files: Vec::from_slice(alloc, names)?,
         in_place: flag_of(matches, "in-place"),

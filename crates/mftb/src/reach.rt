@@ -1,7 +1,7 @@
 //! How far the legs of a store reach, as its file says.
 use crate::root::box_below;
-use header::root_of;
-use legs::Box3;
+use header::{limits_in, root_of};
+use legs::{Box3, Limits};
 use pages::{Kind, Payload, unseal};
 use std::fs::File;
 use std::os::unix::fs::FileExt;
@@ -51,6 +51,16 @@ fn reach_in<F: FileExt>(file: &F) -> Reach {
             Some(payload) => reach_below(&payload),
             None => Reach::Unknown,
         },
+    }
+}
+
+/// How much the store of that name may hold, where its page 0 says it.
+pub(crate) fn limits_of<R: Files<File = File>>(rt: &R, name: &str) -> Option<Limits> {
+    let file = File::open(rt, name).ok()?;
+    let header = read_page(&file, 0)?;
+    match header.kind {
+        Kind::Header => limits_in(&header.bytes),
+        _ => None,
     }
 }
 

@@ -5,15 +5,18 @@ use crate::locks::hold_name;
 use crate::names::Names;
 use crate::opening::{is_absent, is_special, open_asked, open_in_place, sweep};
 use crate::outcome::Outcome;
-use crate::reach::{Reach, reach_of};
+use crate::reach::{Reach, limits_of, reach_of};
 use crate::reading::read_files;
 use crate::system_folder::SystemFolder;
 use crate::telling::{Given, tell, tell_made};
 use arguments::{Run, Telling};
+use legs::Limits;
 use monitor::{Followed, Noted, Notes, Progress, Told};
 use outputs::Output;
 use pages::PageStore;
-use sessions::{Fault, MOST_BYTES, Opening, answer, database, read_named, run_on_copy};
+use sessions::{
+    Fault, MOST_BYTES, MOST_FEATURES, MOST_LEGS, Opening, answer, database, read_named, run_on_copy,
+};
 use std::fs::File;
 use std::hash::RandomState;
 use std::io::Eprint;
@@ -62,8 +65,8 @@ fn run_over<'a, S: PageStore + Drop, O: Output>(
     work: &Work,
     out: &mut O,
 ) -> (S, Ended<'a>) {
-    let how = work.how;
-    let opened = database(how.alloc, how.keys, store, how.is_new, how.cache_pages);
+    let how = &work.how;
+    let opened = database(how, store);
     let (store, said, closed) = answer(how.alloc, opened, &work.script, &work.files, out);
     let unsaid = unsaid(&said, closed);
     (store, (said, unsaid))
@@ -133,7 +136,7 @@ fn run_beside<'a, R: rt::Files<File = File> + rt::Clock + Eprint, O: Output>(
     out: &mut O,
 ) -> Result<(), Fault<'a>> {
     let mut folder = SystemFolder::take(rt, &work.names, progress)?;
-    let result = run_on_copy(&mut folder, work.how, &work.script, &work.files, out);
+    let result = run_on_copy(&mut folder, &work.how, &work.script, &work.files, out);
     folder.give_back();
     result
 }
@@ -155,7 +158,7 @@ fn run_as_asked<'a, R: rt::Files<File = File> + rt::Clock + Eprint, O: Output>(
     progress: &Progress<'_, R>,
     out: &mut O,
 ) -> Ended<'a> {
-    let how = work.how;
+    let how = &work.how;
     let loads = match has_load(how.alloc, &work.script) {
         Ok(loads) => loads,
         Err(fault) => return (Err(Fault::Run(fault)), None),
@@ -179,6 +182,33 @@ fn files_of<'a, R: rt::Files + AllocGlobal>(rt: &R, run: &Run<'a>) -> Result<Fil
     read_files(rt, &run.files)
 }
 
+/// How much a store may hold that a run makes.
+fn limits(run: &Run<'_>) -> Limits {
+    let legs = run.most_legs.map_or(MOST_LEGS, u64::from);
+    let features = run.most_features.unwrap_or(MOST_FEATURES);
+    Limits::new(legs.clamp(1, 1 << 31), features.clamp(1, 1 << 31)).unwrap()
+}
+
+/// Whether a run asks for limits that are not these.
+fn asks_for_others(run: &Run<'_>, limits: Limits) -> bool {
+    run.most_legs.is_some_and(|most| u64::from(most) != limits.legs())
+        || run.most_features.is_some_and(|most| most != limits.features())
+}
+
+/// Refuses a store that is there, where a run asks for other limits than it has.
+fn hold_limits<'a, R: rt::Files<File = File>>(
+    rt: &R,
+    run: &Run<'_>,
+    store: &str,
+) -> Result<(), Fault<'a>> {
+    match limits_of(rt, store) {
+        Some(limits) if asks_for_others(run, limits) => {
+            Err(Fault::OtherLimits(limits.legs(), limits.features()))
+        }
+        _ => Ok(()),
+    }
+}
+
 /// Reads all that is named, and looks whether the store is there.
 fn read_work<'a, R: rt::Files<File = File> + AllocGlobal + RandomSource>(
     rt: &R,
@@ -194,11 +224,13 @@ fn read_work<'a, R: rt::Files<File = File> + AllocGlobal + RandomSource>(
         alloc: rt.alloc(),
         keys,
         is_new: is_absent(rt, names.store.as_str()),
+        limits: limits(run),
         cache_pages: run.cache_pages.max(1),
     };
     if how.is_new && run.is_existing {
         return Err(Fault::NoSuchStore);
     }
+    hold_limits(rt, run, names.store.as_str())?;
     Ok(Work {
         script,
         files,
@@ -237,7 +269,7 @@ pub(crate) fn run<
         Ok(work) => work,
         Err(fault) => return (out, Err(fault)),
     };
-    let how = work.how;
+    let how = &work.how;
     let is_shown = is_terminal && run.telling != Telling::Never;
     let progress = Progress::new(rt, Told::new(run.progress, is_shown), &work.script);
     let is_told = run.telling.is_told(is_terminal);

@@ -280,6 +280,9 @@ fn opening_words(fault: &Fault) -> Option<&'static str> {
             Some("what wrote it was cut short; load its files into a new store")
         }
         Fault::InUse => Some("another run holds it"),
+        Fault::OtherLimits(..) => {
+            Some("a store keeps the limits that it was made with; load its files into a new store")
+        }
         _ => None,
     }
 }

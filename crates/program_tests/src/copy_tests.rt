@@ -1,5 +1,6 @@
 //! A run on a copy in a folder in memory, of which each call fails in turn.
 use crate::memory_folder::{Calls, MemFolder};
+use legs::Limits;
 use outputs::CountedOutput;
 use sessions::{Opening, run_on_copy};
 use std::alloc::Global;
@@ -35,12 +36,13 @@ fn runs(rt: &HostRuntime, folder: &mut MemFolder, script: &[u8]) -> Result<bool,
         alloc: rt.alloc(),
         keys: RandomState::new(rt)?,
         is_new: folder.file().is_none(),
+        limits: Limits::new(100, 10).unwrap(),
         cache_pages: 1,
     };
     let mut out = Vec::with_capacity(rt.alloc(), 100)?;
     let files = files(rt.alloc())?;
     let mut output = CountedOutput::new(&mut out);
-    Ok(run_on_copy(folder, how, script, &files, &mut output).is_ok())
+    Ok(run_on_copy(folder, &how, script, &files, &mut output).is_ok())
 }
 
 /// The loads of a store, one after another.

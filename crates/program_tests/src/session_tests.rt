@@ -1,7 +1,8 @@
 //! How long a file may be, the lines of faults, and a session over a store that fails.
+use legs::Limits;
 use outputs::CountedOutput;
 use pages::{Fuse, MemStore};
-use sessions::{Fault, MOST_BYTES, answer, database, read_named};
+use sessions::{Fault, MOST_BYTES, MOST_FEATURES, MOST_LEGS, Opening, answer, database, read_named};
 use std::fs;
 use std::hash::RandomState;
 use std::test::Fail;
@@ -27,7 +28,7 @@ fn a_file_that_is_too_long_is_not_read(rt: HostRuntime) -> Result<(), Fail> {
 }
 
 /// Faults, and the line of each.
-const FAULTS: [(Fault, &str); 16] = [
+const FAULTS: [(Fault, &str); 17] = [
     (Fault::Run(RunFault::Memory), "memory"),
     (Fault::Run(RunFault::Store), "store"),
     (Fault::Run(RunFault::Damaged(7)), "page 7 damaged"),
@@ -44,6 +45,10 @@ const FAULTS: [(Fault, &str); 16] = [
     (Fault::CannotRead("a.csv"), "cannot read a.csv"),
     (Fault::NotEmpty, "new store not empty"),
     (Fault::InUse, "store in use"),
+    (
+        Fault::OtherLimits(5, 3),
+        "other limits: the store takes 5 legs and 3 features",
+    ),
 ];
 
 #[test]
@@ -62,7 +67,14 @@ fn the_first_fault_is_said(rt: HostRuntime) -> Result<(), Fail> {
     files.add("S1.csv", Vec::from_slice(alloc, STANDARD.as_bytes())?)?;
     // Page 0 is written and made to last, and the third call fails: the load, and then the closing.
     let store = Fuse::new(MemStore::new(alloc, 100), 2, false);
-    let opened = database(alloc, keys, store, true, 1);
+    let how = Opening {
+        alloc,
+        keys,
+        is_new: true,
+        limits: Limits::new(MOST_LEGS, MOST_FEATURES).unwrap(),
+        cache_pages: 1,
+    };
+    let opened = database(&how, store);
     let mut taken = Vec::new(alloc);
     let mut out = CountedOutput::new(&mut taken);
     let (_, said, closed) = answer(alloc, opened, b"load S1.csv".as_slice(), &files, &mut out);

@@ -4,7 +4,7 @@ use Rattle.std.proofs.KnownBytes.{Appends-nil}
 use Rattle.std.specs.Prelude.{is_ok, IfErr, IfOk, IfSome, IsOk, OnErr, OnOk}
 use Rattle.legs.specs.Book.{Book, empty_book}
 use Rattle.legs.specs.Costs.{ShapeView}
-use Rattle.legs.specs.Limits.{limits_of, LimitsView}
+use Rattle.legs.specs.Limits.{LimitsView}
 use Rattle.outputs.specs.Output.{OutputView}
 use Rattle.pages.specs.Sealed.{sealed}
 use Rattle.pages.specs.Store.{Store, IsSynced, Keeps, Writes}
@@ -19,7 +19,7 @@ use Rattle.trajdb.proofs.SafeLemmas.{apart}
 use Rattle.trajdb.specs.Run.{HasRun}
 use Rattle.register.specs.declared.fault.CatalogueFault.{CatalogueFault}
 use Rattle.trajdb.specs.declared.RunFault.{RunFault}
-use Rattle.sessions.specs.Answers.{said, Answers, ClosesAfter, Ends, FailsToLoad, RunsOver, SendsFront, new_limits, new_shape}
+use Rattle.sessions.specs.Answers.{said, Answers, ClosesAfter, Ends, FailsToLoad, RunsOver, SendsFront, new_shape}
 use Rattle.sessions.specs.declared.fault.Fault.{Fault}
 use Rattle.sessions.specs.Folder.{BeginsWith, History, HoldsNow, IsRefusedBeside, Makes, NameIsKept, OpensOrMakes, RunsBeside, store_in}
 use Rattle.sessions.proofs.AnswerLemmas.{front_done}
@@ -72,17 +72,17 @@ module _ {E F G : Type 0} (opened : Result DbView E) (ran : Result (Unit {0}) F)
       })
 
 -- the database that is opened over a copy has the book that the run begins with
-pub begun_with : {E : Type 0} (opened : Result DbView E) (first past : Store) → first ≡ past → (is_new : Bool) (shape : ShapeView) (limits : LimitsView) (book : Book) → IsTrue first.is_faithful
-    → IfOk opened (λ db. IsTrue is_new → IsTrue first.is_faithful → first.count ≡ 0 → HasBook new_shape (limits_of 16777216 1048576) empty_book db)
+pub begun_with : {E : Type 0} (opened : Result DbView E) (first past : Store) → first ≡ past → (is_new : Bool) (given : LimitsView) (shape : ShapeView) (limits : LimitsView) (book : Book) → IsTrue first.is_faithful
+    → IfOk opened (λ db. IsTrue is_new → IsTrue first.is_faithful → first.count ≡ 0 → HasBook new_shape given empty_book db)
     → IfOk opened (λ db. IsTrue first.is_faithful → (shape : ShapeView) (limits : LimitsView) (book : Book) → HoldsBook first shape limits book → HasBook shape limits book db)
-    → BeginsWith is_new past shape limits book → IfOk opened (HasBook shape limits book)
-begun_with (Err e) first past same is_new shape limits book faithful new kept begins = tt
-begun_with (Ok db) first past same is_new shape limits book faithful new kept (inl h) =
+    → BeginsWith is_new given past shape limits book → IfOk opened (HasBook shape limits book)
+begun_with (Err e) first past same is_new given shape limits book faithful new kept begins = tt
+begun_with (Ok db) first past same is_new given shape limits book faithful new kept (inl h) =
     kept faithful shape limits book (subst (λ s. HoldsBook s shape limits book) (sym same) h)
-begun_with (Ok db) first past same is_new shape limits book faithful new kept (inr (n, z, s, l, b)) =
+begun_with (Ok db) first past same is_new given shape limits book faithful new kept (inr (n, z, s, l, b)) =
     subst (λ t. HasBook t limits book db) (sym s)
     (subst (λ m. HasBook new_shape m book db) (sym l)
-    (subst (λ k. HasBook new_shape (limits_of 16777216 1048576) k db) (sym b) (new n faithful (subst (λ (k : Store). k.count ≡ 0) (sym same) z))))
+    (subst (λ k. HasBook new_shape given k db) (sym b) (new n faithful (subst (λ (k : Store). k.count ≡ 0) (sym same) z))))
 
 -- nothing was sent
 pub front_none : (limits : LimitsView) (book : Book) (files : List (List ℕ × List ℕ)) (sent : Option (List ℕ)) (lines : List (List ℕ)) → SendsFront limits book files sent sent lines
@@ -190,16 +190,16 @@ module _ {S O : Type 0} (seen : S → Store) (shown : O → OutputView) (files :
   over_ended answered closed (Err back) h = tt
 
 -- a database is made, or it is not, of a store without pages
-pub made_or_not : {S : Type 0} (seen : S → Store) (pages : ℕ) (r : Result DbView (S × CatalogueFault)) (s : Store)
-    → IfOk r (λ db. IsTrue s.is_faithful → HasBook new_shape new_limits empty_book db) → IfOk r (λ db. db.book ≡ empty_book) → IfOk r (λ db. db.limits ≡ new_limits) → IfOk r (λ db. shape_of db ≡ new_shape) → IfOk r (λ db. IsTrue s.is_faithful → HasPages db) → IfOk r (λ db. db.begun ≡ true)
-    → IfOk r (λ db. db.failed ≡ false) → IfOk r (λ db. capacity_of db ≡ pages) → IfOk r (λ db. Writes 0 (sealed 0 (header_payload new_shape new_limits)) s (store_of db)) → IfOk r (λ db. IsSynced (store_of db))
-    → IfErr r (λ back. IsTrue s.is_faithful → IsSavingStop back.1) → IfErr r (λ back. IsCaused s (seen back.0) back.1) → IfErr r (λ back. Keeps s (seen back.0)) → IfErr r (λ back. IsLeft new_shape new_limits s (seen back.0))
-    → Makes seen s pages r
-made_or_not seen most (Ok db) s new book limits shape pages begun lives capacity writes synced made caused keeps left = (λ f. (new f, pages f), book, limits, shape, begun, lives, capacity, writes, synced)
-made_or_not seen most (Err back) s new book limits shape pages begun lives capacity writes synced made caused keeps left = (made, caused, keeps, left)
+pub made_or_not : {S : Type 0} (seen : S → Store) (limits : LimitsView) (pages : ℕ) (r : Result DbView (S × CatalogueFault)) (s : Store)
+    → IfOk r (λ db. IsTrue s.is_faithful → HasBook new_shape limits empty_book db) → IfOk r (λ db. db.book ≡ empty_book) → IfOk r (λ db. db.limits ≡ limits) → IfOk r (λ db. shape_of db ≡ new_shape) → IfOk r (λ db. IsTrue s.is_faithful → HasPages db) → IfOk r (λ db. db.begun ≡ true)
+    → IfOk r (λ db. db.failed ≡ false) → IfOk r (λ db. capacity_of db ≡ pages) → IfOk r (λ db. Writes 0 (sealed 0 (header_payload new_shape limits)) s (store_of db)) → IfOk r (λ db. IsSynced (store_of db))
+    → IfErr r (λ back. IsTrue s.is_faithful → IsSavingStop back.1) → IfErr r (λ back. IsCaused s (seen back.0) back.1) → IfErr r (λ back. Keeps s (seen back.0)) → IfErr r (λ back. IsLeft new_shape limits s (seen back.0))
+    → Makes seen s limits pages r
+made_or_not seen given most (Ok db) s new book limits shape pages begun lives capacity writes synced made caused keeps left = (λ f. (new f, pages f), book, limits, shape, begun, lives, capacity, writes, synced)
+made_or_not seen given most (Err back) s new book limits shape pages begun lives capacity writes synced made caused keeps left = (made, caused, keeps, left)
 
 -- one that is made has the empty book
-pub made_empty : {S : Type 0} (seen : S → Store) (is_new : Bool) (pages : ℕ) (r : Result DbView (S × CatalogueFault)) (s : Store) → OpensOrMakes seen s is_new pages r
-    → IfOk r (λ db. IsTrue is_new → IsTrue s.is_faithful → s.count ≡ 0 → HasBook new_shape new_limits empty_book db)
-made_empty seen is_new pages (Ok db) s o = λ n f z. ((o.makes n z).0 f).0
-made_empty seen is_new pages (Err back) s o = tt
+pub made_empty : {S : Type 0} (seen : S → Store) (is_new : Bool) (limits : LimitsView) (pages : ℕ) (r : Result DbView (S × CatalogueFault)) (s : Store) → OpensOrMakes seen s is_new limits pages r
+    → IfOk r (λ db. IsTrue is_new → IsTrue s.is_faithful → s.count ≡ 0 → HasBook new_shape limits empty_book db)
+made_empty seen is_new limits pages (Ok db) s o = λ n f z. ((o.makes n z).0 f).0
+made_empty seen is_new limits pages (Err back) s o = tt

@@ -3,7 +3,7 @@ use Rattle.std.specs.Prelude.{ℕ, ◌≡◌, ◌≢◌, ◌⊎◌, ◌<◌, ◌
 use Rattle.std.specs.Io.KnownBytes.{Appends}
 use Rattle.legs.specs.Book.{Book}
 use Rattle.legs.specs.Costs.{ShapeView}
-use Rattle.legs.specs.Limits.{limits_of, LimitsView}
+use Rattle.legs.specs.Limits.{LimitsView}
 use Rattle.outputs.specs.Output.{OutputView}
 use Rattle.pages.specs.Store.{Store, Faulted, IsSynced}
 use Rattle.boxsearch.specs.Index.{written, words}
@@ -22,15 +22,11 @@ use Rattle.trajdb.specs.declared.Report.{Report}
 use Rattle.trajdb.specs.declared.RunFault.{RunFault}
 use Rattle.trajdb.specs.declared.RunFault.TheVariants as run
 use Rattle.sessions.specs.declared.fault.Fault.{Fault}
-use Rattle.sessions.specs.declared.fault.Fault.TheVariants.{Run, Open, CannotRead, CannotWrite, NotEmpty, NoPart, InUse, NoStore, NoSuchStore, Bounds}
+use Rattle.sessions.specs.declared.fault.Fault.TheVariants.{Run, Open, CannotRead, CannotWrite, NotEmpty, NoPart, InUse, NoStore, NoSuchStore, OtherLimits, Bounds}
 
 -- the shape of the tree of a new database
 abbrev pub new_shape : ShapeView
 new_shape = record { leaf = 50; inner = 72 }
-
--- and under these limits
-abbrev pub new_limits : LimitsView
-new_limits = limits_of 16777216 1048576
 
 -- what was sent is exactly the text of the run over a book, and the store holds the book after it, in
 -- a tree of that shape
@@ -216,6 +212,7 @@ IsOverFault old after new left (NoPart part parts) = ⊥
 IsOverFault old after new left InUse = ⊥
 IsOverFault old after new left (NoStore cause) = ⊥
 IsOverFault old after new left NoSuchStore = ⊥
+IsOverFault old after new left (OtherLimits legs features) = ⊥
 IsOverFault old after new left (Bounds code) = ⊥
 
 -- why a store of version 1 that holds a book is not brought over: memory ran out or the new store is full, which then
@@ -242,4 +239,5 @@ IsNotOver new left (NoPart part parts) = ⊥
 IsNotOver new left InUse = ⊥
 IsNotOver new left (NoStore cause) = ⊥
 IsNotOver new left NoSuchStore = ⊥
+IsNotOver new left (OtherLimits legs features) = ⊥
 IsNotOver new left (Bounds code) = ⊥

@@ -19,9 +19,9 @@ use Rattle.trajdb.specs.Run.{HasRun}
 use Rattle.register.specs.declared.fault.CatalogueFault.{CatalogueFault}
 use Rattle.trajdb.specs.declared.RunFault.{RunFault}
 use Rattle.trajdb.specs.declared.RunFault.TheVariants.{Memory, Store as StoreFailed}
-use Rattle.sessions.specs.Answers.{Answers, new_limits, new_shape}
+use Rattle.sessions.specs.Answers.{Answers, new_shape}
 use Rattle.sessions.specs.declared.fault.Fault.{Fault}
-use Rattle.sessions.specs.declared.fault.Fault.TheVariants.{Bounds, CannotRead, CannotWrite, InUse, NoPart, NoStore, NoSuchStore, NotEmpty, Open, Run}
+use Rattle.sessions.specs.declared.fault.Fault.TheVariants.{Bounds, CannotRead, CannotWrite, InUse, NoPart, NoStore, NoSuchStore, OtherLimits, NotEmpty, Open, Run}
 
 -- the pages of the file of that name at each moment so far, the last one first; `None` where there was no file
 abbrev pub History : Type 0
@@ -49,12 +49,13 @@ abbrev pub store_in : History → Store
 store_in [] = file_store []
 store_in (now ∷ past) = file_store (pages_in now)
 
--- a run begins with a book: the one that a store holds, or the empty one, where the store has no page and is made
-abbrev pub BeginsWith : Bool → Store → ShapeView → LimitsView → Book → Type 0
-BeginsWith is_new store shape limits book =
+-- a run begins with a book: the one that a store holds, or the empty one under given limits, where the store has no page
+-- and is made
+abbrev pub BeginsWith : Bool → (given : LimitsView) → Store → ShapeView → LimitsView → Book → Type 0
+BeginsWith is_new given store shape limits book =
     HoldsBook store shape limits book
     ⊎ (IsTrue is_new × (store.count ≡ 0) × (shape ≡ new_shape)
-    × (limits ≡ new_limits) × (book ≡ empty_book))
+    × (limits ≡ given) × (book ≡ empty_book))
 
 -- a store is as another one in all but its count of faults, what is synced and whether it may be lost
 abbrev pub HasPagesOf : Store → Store → Type 0
@@ -99,6 +100,7 @@ IsOfFolder (NoPart number count) = ⊥
 IsOfFolder InUse = Unit {0}
 IsOfFolder (NoStore cause) = Unit {0}
 IsOfFolder NoSuchStore = ⊥
+IsOfFolder (OtherLimits legs features) = ⊥
 IsOfFolder (Bounds code) = ⊥
 
 -- it refused a call, which it counts, and this fault is why it did so last: it made no copy, did not make it last, or did
@@ -126,25 +128,25 @@ pub record RunsBeside (shape : ShapeView) (limits : LimitsView) (book : Book)
   pub kept : NameIsKept store old new
   pub held : HoldsNow shape limits answers.after new
 
--- of a store without pages a database is made with the empty book that has begun and not failed, with a cache of so many
+-- of a store without pages a database is made under these limits with the empty book that has begun and not failed, with a cache of so many
 -- pages: its store has page 0 alone, which of a faithful one is its header, and is synced; over a faithful one it is sound,
 -- and its pages are as its state says. Or it is not: as the store failed, or may have no page, where that is said, and over a faithful one else for want
 -- of memory alone; what is left has no page, or page 0 alone, which of a faithful one is that header, unless it failed
-abbrev pub Makes : {S : Type 0} (seen : S → Store) (store : Store) (cache_pages : ℕ)
+abbrev pub Makes : {S : Type 0} (seen : S → Store) (store : Store) (limits : LimitsView) (cache_pages : ℕ)
     → Result DbView (S × CatalogueFault) → Type 0
-Makes seen store cache_pages (Ok db) =
-    (IsTrue store.is_faithful → HasBook new_shape new_limits empty_book db × HasPages db)
-    × (db.book ≡ empty_book) × (db.limits ≡ new_limits) × (shape_of db ≡ new_shape)
+Makes seen store limits cache_pages (Ok db) =
+    (IsTrue store.is_faithful → HasBook new_shape limits empty_book db × HasPages db)
+    × (db.book ≡ empty_book) × (db.limits ≡ limits) × (shape_of db ≡ new_shape)
     × (db.begun ≡ true) × (db.failed ≡ false) × (capacity_of db ≡ cache_pages)
-    × Writes 0 (sealed 0 (header_payload new_shape new_limits)) store (store_of db)
+    × Writes 0 (sealed 0 (header_payload new_shape limits)) store (store_of db)
     × IsSynced (store_of db)
-Makes seen store cache_pages (Err back) =
+Makes seen store limits cache_pages (Err back) =
     (IsTrue store.is_faithful → IsSavingStop back.1) × IsCaused store (seen back.0) back.1
-    × Keeps store (seen back.0) × IsLeft new_shape new_limits store (seen back.0)
+    × Keeps store (seen back.0) × IsLeft new_shape limits store (seen back.0)
 
--- a store is opened, or made a database where it has no page and that is asked for, with a cache of so many pages; or it
+-- a store is opened, or made a database under these limits where it has no page and that is asked for, with a cache of so many pages; or it
 -- is not, and why
 pub record OpensOrMakes {S : Type 0} (seen : S → Store) (store : Store) (is_new : Bool)
-    (cache_pages : ℕ) (opened : Result DbView (S × CatalogueFault)) : Type 0 where
+    (limits : LimitsView) (cache_pages : ℕ) (opened : Result DbView (S × CatalogueFault)) : Type 0 where
   pub opens : (is_new ≡ false) ⊎ (0 < store.count) → OpenCall seen store cache_pages opened
-  pub makes : IsTrue is_new → store.count ≡ 0 → Makes seen store cache_pages opened
+  pub makes : IsTrue is_new → store.count ≡ 0 → Makes seen store limits cache_pages opened

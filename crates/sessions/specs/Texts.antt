@@ -7,7 +7,7 @@ use Rattle.trajdb.specs.declared.RunFault.TheVariants as run
 use Rattle.sessions.specs.declared.cause.Cause.{Cause}
 use Rattle.sessions.specs.declared.cause.Cause.TheVariants.{Absent, NoRight, Folder, NoFolder, Full, ReadOnly, TooLong, Limited, Empty, Other}
 use Rattle.sessions.specs.declared.fault.Fault.{Fault}
-use Rattle.sessions.specs.declared.fault.Fault.TheVariants.{Run, Open, CannotRead, CannotWrite, NotEmpty, NoPart, InUse, NoStore, NoSuchStore, Bounds}
+use Rattle.sessions.specs.declared.fault.Fault.TheVariants.{Run, Open, CannotRead, CannotWrite, NotEmpty, NoPart, InUse, NoStore, NoSuchStore, OtherLimits, Bounds}
 
 -- why a rectangle or a period is refused
 abbrev pub bounds_words : LineCode → List ℕ
@@ -44,6 +44,9 @@ fault_text (NoPart part parts) =
 fault_text InUse = codes "store in use"
 fault_text (NoStore cause) = codes "store"
 fault_text NoSuchStore = codes "no such store"
+fault_text (OtherLimits legs features) =
+    codes "other limits: the store takes " ++ (decimal legs ++ (codes " legs and "
+    ++ (decimal features ++ codes " features")))
 fault_text (Bounds code) = bounds_words code
 
 -- why a file of the system was not opened, made, read or written
@@ -70,6 +73,7 @@ status_of (NoPart part parts) = 2
 status_of InUse = 1
 status_of (NoStore cause) = 1
 status_of NoSuchStore = 1
+status_of (OtherLimits legs features) = 2
 status_of (Bounds code) = 2
 
 -- a store that failed is the fault
@@ -83,4 +87,5 @@ IsOfStore (NoPart part parts) = ⊥
 IsOfStore InUse = ⊥
 IsOfStore (NoStore cause) = Unit {0}
 IsOfStore NoSuchStore = ⊥
+IsOfStore (OtherLimits legs features) = ⊥
 IsOfStore (Bounds code) = ⊥

@@ -9,26 +9,10 @@ ghost use Rattle.sessions.specs.Folder.{BeginsWith, NameIsKept, IsRefusedByFolde
 
 use crate::fault::Fault;
 use crate::folder::Folder;
-use crate::session::{answer, database};
+use crate::session::{Opening, answer, database};
 use outputs::Output;
 use pages::PageStore;
-use std::alloc::Global;
-use std::hash::RandomState;
 use trajdb::Files;
-
-/// How the database of a store is made or opened.
-#[derive(Clone, Copy)]
-pub struct Opening {
-    /// Where its memory comes from.
-    pub alloc: Global,
-    /// With what its names are hashed: a stranger who chooses the names of a file is not to know
-    /// it.
-    pub keys: RandomState,
-    /// Whether it is made where the store has no page.
-    pub is_new: bool,
-    /// How many pages its cache holds at most, of 4096 bytes each; at least 1.
-    pub cache_pages: u32,
-}
 
 /// Gives the store's name to a copy whose pages are on the disk, and makes that last.
 fn give<'a, F: Folder>(folder: &mut F, mut store: F::Store) -> Result<(), Fault<'a>>
@@ -88,19 +72,19 @@ fn keep<'a, F: Folder>(folder: &mut F, store: F::Store) -> Result<(), Fault<'a>>
 /// folder refuses it (`Folder::copy`, `Folder::sync`, `Folder::replace`), and as `answer` does.
 pub fn run_on_copy<'a, F: Folder, O: Output>(
     folder: &mut F,
-    how: Opening,
+    how: &Opening,
     script: &[u8],
     files: &Files,
     out: &mut O,
 ) -> Result<(), Fault<'a>>
-    requires { 0 < how.cache_pages }
+    requires { 0 < how.now.cache_pages }
 
     // What was sent is exactly the text of the run over the book that the store held, or the empty
     // one where it is made; the store's name stood for what it stood for until, at one moment, it
     // was given to a file that holds the book after it.
     ensures runs { OnOk result (IfSome (F.held folder.old)
         (λ past. (shape : ShapeView) (limits : LimitsView) (book : Book)
-        → BeginsWith how.is_new (store_in past) shape limits book
+        → BeginsWith how.now.is_new how.now.limits (store_in past) shape limits book
         → RunsBeside shape limits book files.now (O.seen out.old).contents
         (O.seen out.new).contents (lines_of script.now) (F.held folder.old) (F.held folder.new))) }
 
@@ -120,7 +104,7 @@ pub fn run_on_copy<'a, F: Folder, O: Output>(
     ensures stays { OnErr result (F.held folder.new ≡ F.held folder.old) }
     ensures sent { OnErr result (IfSome (F.held folder.old)
         (λ past. (shape : ShapeView) (limits : LimitsView) (book : Book)
-        → BeginsWith how.is_new (store_in past) shape limits book
+        → BeginsWith how.now.is_new how.now.limits (store_in past) shape limits book
         → SendsFront limits book files.now (O.seen out.old).contents (O.seen out.new).contents
         (lines_of script.now))) }
 
@@ -128,7 +112,7 @@ pub fn run_on_copy<'a, F: Folder, O: Output>(
     // memory, or for a store that failed or is full.
     ensures refused { IfErr result (λ fault. IfSome (F.held folder.old)
         (λ past. (shape : ShapeView) (limits : LimitsView) (book : Book)
-        → BeginsWith how.is_new (store_in past) shape limits book
+        → BeginsWith how.now.is_new how.now.limits (store_in past) shape limits book
         → IsRefusedBeside limits book files.now (O.seen out.old).contents
         (O.seen out.new).contents (lines_of script.now) fault)) }
 {
@@ -139,7 +123,7 @@ pub fn run_on_copy<'a, F: Folder, O: Output>(
             return Err(fault);
         }
     };
-    let database = database(how.alloc, how.keys, store, how.is_new, how.cache_pages);
+    let database = database(how, store);
     let (store, answered, _closed) = answer(how.alloc, database, script, files, out);
     match answered {
         Ok(()) => keep(folder, store),

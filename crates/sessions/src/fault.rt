@@ -30,6 +30,8 @@ pub enum Fault<'a> {
     NoStore(Cause),
     /// There is no such store, and none is to be made.
     NoSuchStore,
+    /// The store is there, and takes at most so many legs and features, and not as many as were asked for.
+    OtherLimits(u64, u32),
     /// The rectangle or the period is refused, as a line of a script would be.
     Bounds(LineCode),
 }
@@ -40,7 +42,7 @@ impl Fault<'_> {
         ensures { result ≡ status_of self.now }
     {
         match self {
-            Fault::NoPart(..) | Fault::Bounds(_) => 2,
+            Fault::NoPart(..) | Fault::OtherLimits(..) | Fault::Bounds(_) => 2,
             _ => 1,
         }
     }
@@ -137,6 +139,9 @@ impl Display for Fault<'_> {
             }
             Fault::InUse => f.write_str("store in use"),
             Fault::NoSuchStore => f.write_str("no such store"),
+            Fault::OtherLimits(legs, features) => {
+                write!(f, "other limits: the store takes {legs} legs and {features} features")
+            }
             Fault::Bounds(code) => f.write_str(bounds_text(*code)),
         }
     }

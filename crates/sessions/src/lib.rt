@@ -18,7 +18,7 @@ mod reading;
 mod session;
 
 pub use answering::send_all;
-pub use beside::{Opening, run_on_copy};
+pub use beside::run_on_copy;
 pub use cause::Cause;
 pub use checking::check_and_close;
 pub use fault::Fault;
@@ -29,4 +29,4 @@ pub use part::send_part;
 pub use part_files::{PartFolder, put_parts};
 pub use read_only::ReadOnly;
 pub use reading::{MOST_BYTES, read_named};
-pub use session::{CACHE_PAGES, answer, database, run_and_close};
+pub use session::{CACHE_PAGES, MOST_FEATURES, MOST_LEGS, Opening, answer, database, run_and_close};

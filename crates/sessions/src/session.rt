@@ -9,7 +9,7 @@ ghost use Rattle.pages.specs.Store.{Faulted, IsSynced};
 ghost use Rattle.trajdb.specs.Db.{shape_of, store_of, HasPages, IsSoundDb};
 ghost use Rattle.trajdb.specs.Lasting.{HasBook, IsIdle};
 ghost use Rattle.sessions.specs.Folder.{OpensOrMakes};
-ghost use Rattle.sessions.specs.Answers.{new_limits, said, Answers, RunBegins, RunsAndCloses, RunsOver, SendsFront};
+ghost use Rattle.sessions.specs.Answers.{said, Answers, RunBegins, RunsAndCloses, RunsOver, SendsFront};
 
 use crate::fault::Fault;
 use legs::Limits;
@@ -23,35 +23,37 @@ use trajdb::{Db, Files, OpenFault, RunFault};
 /// How many pages the cache of a database holds where no other number is given, of 4096 bytes each.
 pub const CACHE_PAGES: u32 = 256;
 
-/// The most legs of a database.
-const MOST_LEGS: u64 = 1 << 24;
+/// The most legs of a new database where no other number is given.
+pub const MOST_LEGS: u64 = 1 << 24;
 
-/// The most features of a database.
-const MOST_FEATURES: u32 = 1 << 20;
+/// The most features of a new database where no other number is given.
+pub const MOST_FEATURES: u32 = 1 << 20;
 
-/// How much a new database may hold.
-fn limits() -> Limits
-    ensures { result ≡ new_limits }
-{
-    Limits::new(MOST_LEGS, MOST_FEATURES).unwrap()
+/// How the database of a store is made or opened.
+#[derive(Clone, Copy)]
+pub struct Opening {
+    /// Where its memory comes from.
+    pub alloc: Global,
+    /// With what its names are hashed: a stranger who chooses the names of a file is not to know
+    /// it.
+    pub keys: RandomState,
+    /// Whether it is made where the store has no page.
+    pub is_new: bool,
+    /// How much it may hold, where it is made.
+    pub limits: Limits,
+    /// How many pages its cache holds at most, of 4096 bytes each; at least 1.
+    pub cache_pages: u32,
 }
 
-/// The database of a store, or a new one over a store without pages that is to be made, for at most
-/// 16777216 legs and 1048576 features. Its cache holds at most that many pages, of 4096 bytes each;
-/// names are hashed with the keys, which a stranger who chooses the names of a file is not to know.
+/// The database of a store, or a new one over a store without pages that is to be made.
 ///
 /// Where it is refused, the store is handed back, and why, as `Db::create` and `Db::open` say it.
-pub fn database<S: PageStore>(
-    alloc: Global,
-    keys: RandomState,
-    store: S,
-    is_new: bool,
-    cache_pages: u32,
-) -> Result<Db<S>, (S, OpenFault)>
-    requires { 0 < cache_pages }
+pub fn database<S: PageStore>(how: &Opening, store: S) -> Result<Db<S>, (S, OpenFault)>
+    requires { 0 < how.now.cache_pages }
     // A store that has a page, or of which none is to be made, is opened, be what it holds sound or not; any other is made
     // an empty database, which has page 0 alone, and is synced, or is handed back.
-    ensures opens { OpensOrMakes S.seen (S.seen store) is_new cache_pages result }
+    ensures opens { OpensOrMakes S.seen (S.seen store) how.now.is_new how.now.limits
+        how.now.cache_pages result }
 
     // One that holds a book is a database with that book, and over any faithful store its pages are as its state says.
     ensures kept { IfOk result (λ db. IsTrue (S.seen store).is_faithful
@@ -61,11 +63,12 @@ pub fn database<S: PageStore>(
     ensures idle { IfOk result (λ db. IsTrue (S.seen store).is_faithful → IsIdle db) }
     ensures lives { IfOk result (λ db. db.failed ≡ false) }
 {
-    if is_new && store.len() == 0 {
+    let cache_pages = how.cache_pages as usize;
+    if how.is_new && store.len() == 0 {
         let shape = Shape::new(50, 72).unwrap();
-        return Db::create(alloc, keys, store, shape, cache_pages as usize, limits());
+        return Db::create(how.alloc, how.keys, store, shape, cache_pages, how.limits);
     }
-    Db::open(alloc, keys, store, cache_pages as usize)
+    Db::open(how.alloc, how.keys, store, cache_pages)
 }
 
 /// Runs the script over a database, closes it, and gives its store back, with what the run and what
