@@ -126,20 +126,34 @@ class Program(Case):
         status, out, _ = self.answer("run", "two.mftb", "again.txt", "S1.csv")
         self.assertEqual((status, out), (0, "refused F18 at 3\n"))
 
-    def test_a_store_stays_where_the_output_fails(self):
-        self.write_example()
-        self.write("cut.mftb", "")
-        self.cut("run", "cut.mftb", "script.txt", "S1.csv")
-        self.assertEqual(self.bytes_of("cut.mftb"), b"")
-        self.assertFalse(self.path("cut.mftb.mftb-copy").exists())
-        self.assertFalse(self.path("cut.mftb.mftb-lock").exists())
-
-    def test_what_was_loaded_in_place_is_kept_where_the_output_fails(self):
+    def test_what_was_loaded_is_kept_where_the_output_fails(self):
         self.write_example()
         self.write("count.txt", "count\n")
-        self.write("kept.mftb", "")
-        self.cut("run", "--in-place", "kept.mftb", "script.txt", "S1.csv")
-        self.assertEqual(self.answer("run", "kept.mftb", "count.txt"), (0, "ok 1\n5,3\n", ""))
+        for name, words in (("copied.mftb", []), ("placed.mftb", ["--in-place"])):
+            self.write(name, "")
+            self.cut("run", *words, name, "script.txt", "S1.csv")
+            self.assertEqual(self.answer("run", name, "count.txt"), (0, "ok 1\n5,3\n", ""))
+            self.assertEqual(self.answer("check", name), (0, "ok 1\n6,5,3\n", ""))
+            self.assertFalse(self.path(f"{name}.mftb-copy").exists())
+            self.assertFalse(self.path(f"{name}.mftb-lock").exists())
+
+    def test_what_was_loaded_is_kept_where_a_question_fails(self):
+        """The leaf of `b` is page 2, of which a byte is altered; `d` has one leg of its own."""
+        self.write_example()
+        self.write("sound.mftb", "")
+        self.assertEqual(self.answer("run", "sound.mftb", "script.txt", "S1.csv")[0], 0)
+        altered = bytearray(self.bytes_of("sound.mftb"))
+        altered[9000] = 77
+        head = STANDARD.splitlines(keepends=True)[:2]
+        self.write("S2.csv", "".join(head) + "d,10,20,0 0 1 1,walking,1\n")
+        self.write("more.txt", "load S2.csv\ntrajectory b\nload S2.csv\n")
+        self.write("count.txt", "count\n")
+        for words in ([], ["--in-place"]):
+            self.path("altered.mftb").write_bytes(altered)
+            stopped = self.answer("run", *words, "altered.mftb", "more.txt", "S2.csv")
+            self.assertEqual(stopped, (1, "ok 1\n1,1,1\n", "mftb: page 2 damaged\n"))
+            self.assertEqual(self.answer("run", "altered.mftb", "count.txt"), (0, "ok 1\n6,4\n", ""))
+            self.assertFalse(self.path("altered.mftb.mftb-copy").exists())
 
     def test_a_closing_that_fails_too_has_a_line_of_its_own(self):
         self.write_example()

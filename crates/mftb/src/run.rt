@@ -15,7 +15,7 @@ use monitor::{Followed, Noted, Notes, Progress, Told};
 use outputs::Output;
 use pages::PageStore;
 use sessions::{
-    Fault, MOST_BYTES, MOST_FEATURES, MOST_LEGS, Opening, answer, database, read_named, run_on_copy,
+    Ended, Fault, MOST_BYTES, MOST_FEATURES, MOST_LEGS, Opening, answer, database, read_named, run_on_copy,
 };
 use std::fs::File;
 use std::hash::RandomState;
@@ -34,28 +34,27 @@ struct Work {
     ghost cached: { 0 < how.cache_pages },
 }
 
-/// What a run came to, and why the store was not closed, where that does not say so.
-type Ended<'a> = (Result<(), Fault<'a>>, Option<RunFault>);
-
-/// Whether that fault is what is said of a run.
-fn is_said(said: &Result<(), Fault<'_>>, fault: RunFault) -> bool {
-    match said {
-        Err(Fault::Run(ran)) => *ran == fault,
-        _ => false,
+/// A run that was refused before it began.
+fn refused<'a>(fault: Fault<'a>) -> Ended<'a> {
+    Ended {
+        ran: Err(fault),
+        kept: Err(fault),
     }
 }
 
-/// Why a store was not closed, where the fault of the run does not say so; of a database that failed the run does.
-fn unsaid(said: &Result<(), Fault<'_>>, closed: Result<(), RunFault>) -> Option<RunFault> {
-    match closed {
-        Ok(()) => None,
-        Err(fault) => {
-            if fault == RunFault::Failed || is_said(said, fault) {
-                None
-            } else {
-                Some(fault)
-            }
-        }
+/// Why a run failed: it was not brought to its end, or else what it did is not kept.
+fn said<'a>(ended: Ended<'a>) -> Result<(), Fault<'a>> {
+    match ended.ran {
+        Ok(()) => ended.kept,
+        Err(fault) => Err(fault),
+    }
+}
+
+/// Why what a run did is not kept, where its own fault does not say so; of a database that failed it does.
+fn unsaid<'a>(ended: Ended<'a>) -> Option<Fault<'a>> {
+    match (ended.ran, ended.kept) {
+        (Err(ran), Err(kept)) if kept != ran && kept != Fault::Run(RunFault::Failed) => Some(kept),
+        _ => None,
     }
 }
 
@@ -67,9 +66,7 @@ fn run_over<'a, S: PageStore + Drop, O: Output>(
 ) -> (S, Ended<'a>) {
     let how = &work.how;
     let opened = database(how, store);
-    let (store, said, closed) = answer(how.alloc, opened, &work.script, &work.files, out);
-    let unsaid = unsaid(&said, closed);
-    (store, (said, unsaid))
+    answer(how.alloc, opened, &work.script, &work.files, out)
 }
 
 /// Runs a script that only asks over a store that is there. It is opened to be read alone.
@@ -85,7 +82,7 @@ fn ask<'a, R: rt::Files<File = File> + rt::Clock + Eprint, O: Output>(
             let (_store, ended) = run_over(Noted::new(store, progress), work, out);
             ended
         }
-        Err(fault) => (Err(fault), None),
+        Err(fault) => refused(fault),
     }
 }
 
@@ -101,7 +98,7 @@ fn open_and_run<'a, R: rt::Files<File = File> + rt::Clock + Eprint, O: Output>(
             let (_store, ended) = run_over(Noted::new(store, progress), work, out);
             ended
         }
-        Err(fault) => (Err(fault), None),
+        Err(fault) => refused(fault),
     }
 }
 
@@ -115,7 +112,7 @@ fn run_in_place<'a, R: rt::Files<File = File> + rt::Clock + Eprint, O: Output>(
 ) -> Ended<'a> {
     let names = &work.names;
     let lock = match hold_name(rt, names.lock.as_str()) {
-        Err(Fault::InUse) => return (Err(Fault::InUse), None),
+        Err(Fault::InUse) => return refused(Fault::InUse),
         held => held.ok(),
     };
     let ended = open_and_run(rt, work, progress, out);
@@ -134,11 +131,14 @@ fn run_beside<'a, R: rt::Files<File = File> + rt::Clock + Eprint, O: Output>(
     work: &Work,
     progress: &Progress<'_, R>,
     out: &mut O,
-) -> Result<(), Fault<'a>> {
-    let mut folder = SystemFolder::take(rt, &work.names, progress)?;
-    let result = run_on_copy(&mut folder, &work.how, &work.script, &work.files, out);
+) -> Ended<'a> {
+    let mut folder = match SystemFolder::take(rt, &work.names, progress) {
+        Ok(folder) => folder,
+        Err(fault) => return refused(fault),
+    };
+    let ended = run_on_copy(&mut folder, &work.how, &work.script, &work.files, out);
     folder.give_back();
-    result
+    ended
 }
 
 /// How a run ended in which so many lines and files were refused.
@@ -161,14 +161,14 @@ fn run_as_asked<'a, R: rt::Files<File = File> + rt::Clock + Eprint, O: Output>(
     let how = &work.how;
     let loads = match has_load(how.alloc, &work.script) {
         Ok(loads) => loads,
-        Err(fault) => return (Err(Fault::Run(fault)), None),
+        Err(fault) => return refused(Fault::Run(fault)),
     };
     if !how.is_new && !loads {
         ask(rt, work, progress, out)
     } else if is_in_place || is_special(rt, work.names.store.as_str()) {
         run_in_place(rt, work, progress, out)
     } else {
-        (run_beside(rt, work, progress, out), None)
+        run_beside(rt, work, progress, out)
     }
 }
 
@@ -275,16 +275,16 @@ pub(crate) fn run<
     let is_told = run.telling.is_told(is_terminal);
     let is_empty = how.is_new || is_without_legs(rt, work.names.store.as_str(), is_told);
     let mut out = Followed::new(out, &progress, Notes::new(how.alloc, is_told, is_empty));
-    let (ended, unsaid) = run_as_asked(rt, run.in_place, &work, &progress, &mut out);
+    let ended = run_as_asked(rt, run.in_place, &work, &progress, &mut out);
     progress.clear();
-    if let Some(fault) = unsaid {
-        let fault = work.names.caused(Fault::Run(fault));
+    if let Some(fault) = unsaid(ended) {
+        let fault = work.names.caused(fault);
         let _ = eprintln!(rt; "mftb: {fault}");
     }
-    let is_made = ended.is_ok() && how.is_new && progress.loads() == 0;
+    let is_made = ended.kept.is_ok() && how.is_new && progress.loads() == 0;
     if is_made && run.telling != Telling::Never {
         tell_made(rt, run.store);
     }
     let (out, notes) = out.into_parts();
-    (out, told(rt, run, &work, &notes, ended))
+    (out, told(rt, run, &work, &notes, said(ended)))
 }

@@ -1,12 +1,12 @@
-//! A run on a copy in a folder in memory, of which each call fails in turn.
+//! A run on a copy in a folder in memory, of which each call fails in turn, or whose output does.
 use crate::memory_folder::{Calls, MemFolder};
 use legs::Limits;
 use outputs::CountedOutput;
-use sessions::{Opening, run_on_copy};
+use sessions::{Ended, Fault, Opening, run_on_copy};
 use std::alloc::Global;
 use std::hash::RandomState;
 use std::test::Fail;
-use trajdb::Files;
+use trajdb::{Files, RunFault};
 
 /// A file of two features, and one of a third.
 const FIRST: &str = "\
@@ -22,6 +22,9 @@ const SECOND: &str = "\
 c,0,3,0 0 3 3
 ";
 
+/// More than any answer here has.
+const ROOM: usize = 100;
+
 /// The files.
 fn files(alloc: Global) -> Result<Files, Fail> {
     let mut files = Files::new(alloc);
@@ -30,8 +33,14 @@ fn files(alloc: Global) -> Result<Files, Fail> {
     Ok(files)
 }
 
-/// Whether a script is run over the folder, with one page in memory.
-fn runs(rt: &HostRuntime, folder: &mut MemFolder, script: &[u8]) -> Result<bool, Fail> {
+/// How a run of a script over the folder ends, with one page in memory, and an output that takes as many bytes as there
+/// are in `room`.
+fn ends(
+    rt: &HostRuntime,
+    folder: &mut MemFolder,
+    script: &[u8],
+    room: &mut [u8],
+) -> Result<Ended<'static>, Fail> {
     let how = Opening {
         alloc: rt.alloc(),
         keys: RandomState::new(rt)?,
@@ -39,10 +48,17 @@ fn runs(rt: &HostRuntime, folder: &mut MemFolder, script: &[u8]) -> Result<bool,
         limits: Limits::new(100, 10).unwrap(),
         cache_pages: 1,
     };
-    let mut out = Vec::with_capacity(rt.alloc(), 100)?;
     let files = files(rt.alloc())?;
-    let mut output = CountedOutput::new(&mut out);
-    Ok(run_on_copy(folder, &how, script, &files, &mut output).is_ok())
+    let mut left = room;
+    let mut output = CountedOutput::new(&mut left);
+    Ok(run_on_copy(folder, &how, script, &files, &mut output))
+}
+
+/// Whether a script is run over the folder, and what it did is kept.
+fn runs(rt: &HostRuntime, folder: &mut MemFolder, script: &[u8]) -> Result<bool, Fail> {
+    let mut room = [0u8; ROOM];
+    let ended = ends(rt, folder, script, &mut room)?;
+    Ok(ended.ran.is_ok() && ended.kept.is_ok())
 }
 
 /// The loads of a store, one after another.
@@ -98,5 +114,41 @@ fn each_call_of_a_load_fails_in_turn(rt: HostRuntime) -> Result<(), Fail> {
     // The copy, what is written and read, what is made last, and the name.
     assert!(rt; calls_of(&rt, 0)? > 5);
     assert!(rt; calls_of(&rt, 1)? > 5);
+    Ok(())
+}
+
+/// A script whose answers have 11, 9 and 11 bytes.
+const SCRIPT: &[u8] = b"load first\ncount\nload second\n";
+
+/// Bytes for which an output has room, and what the store counts then: a load is done before it is answered.
+const ROOMS: [(usize, &[u8]); 6] = [
+    (0, b"ok 1\n2,2\n"),
+    (10, b"ok 1\n2,2\n"),
+    (11, b"ok 1\n2,2\n"),
+    (20, b"ok 1\n3,3\n"),
+    (30, b"ok 1\n3,3\n"),
+    (31, b"ok 1\n3,3\n"),
+];
+
+/// Whether a run stops for its output where that has no room for all answers, and what it did is kept.
+fn stops(rt: &HostRuntime, folder: &mut MemFolder, room: usize) -> Result<bool, Fail> {
+    let mut taken = [0u8; ROOM];
+    let ended = ends(rt, folder, SCRIPT, &mut taken[..room])?;
+    let is_said = match ended.ran {
+        Ok(()) => room == 31,
+        Err(fault) => room < 31 && fault == Fault::Run(RunFault::Output),
+    };
+    Ok(is_said && ended.kept.is_ok() && folder.given() == 1 && !folder.has_copy())
+}
+
+#[test]
+fn what_was_done_is_kept_where_the_output_fails(rt: HostRuntime) -> Result<(), Fail> {
+    for (room, counts) in &ROOMS {
+        let mut folder = MemFolder::new(rt.alloc(), Calls::new(u64::MAX));
+        assert!(rt; stops(&rt, &mut folder, *room)?);
+        let mut taken = [0u8; 9];
+        let ended = ends(&rt, &mut folder, b"count\n", &mut taken)?;
+        assert!(rt; ended.ran.is_ok() && taken.as_slice() == *counts);
+    }
     Ok(())
 }

@@ -77,8 +77,8 @@ fn the_first_fault_is_said(rt: HostRuntime) -> Result<(), Fail> {
     let opened = database(&how, store);
     let mut taken = Vec::new(alloc);
     let mut out = CountedOutput::new(&mut taken);
-    let (_, said, closed) = answer(alloc, opened, b"load S1.csv".as_slice(), &files, &mut out);
-    assert!(rt; said == Err(Fault::Run(RunFault::Store)) && taken.is_empty());
-    assert!(rt; closed == Err(RunFault::Failed));
+    let (_, ended) = answer(alloc, opened, b"load S1.csv".as_slice(), &files, &mut out);
+    assert!(rt; ended.ran == Err(Fault::Run(RunFault::Store)) && taken.is_empty());
+    assert!(rt; ended.kept == Err(Fault::Run(RunFault::Failed)));
     Ok(())
 }

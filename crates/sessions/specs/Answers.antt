@@ -47,6 +47,22 @@ pub record SendsFront (limits : LimitsView) (book : Book) (files : List (List �
   pub answers : IsRunText limits files book (take done lines) text
   pub is_front : IsPrefixOf front text
 
+-- what was sent of a run that ended so: the answers to some first lines, and to all lines where it was brought to its end;
+-- all of these answers, or where the output failed a front of them that has all but the last one
+pub record SendsLines (limits : LimitsView) (book : Book) (files : List (List ℕ × List ℕ))
+    (sent sent' : Option (List ℕ)) (lines : List (List ℕ)) (ran : Result (Unit {0}) Fault) : Type 0 where
+  pub done : ℕ
+  pub text : List ℕ
+  pub answers : IsRunText limits files book (take done lines) text
+  pub front : List ℕ
+  pub sends : Appends sent sent' front
+  pub is_front : IsPrefixOf front text
+  pub whole : OnOk ran (done ≡ length lines)
+  pub all : ran ≢ Err (Run run.Output) → front ≡ text
+  pub cut : ran ≡ Err (Run run.Output)
+      → (before : List ℕ) × IsRunText limits files book (take (done - 1) lines) before
+      × IsPrefixOf before front
+
 -- what the closing of a database with a book leaves, by what it answered: the store holds the book, or where memory ran
 -- out or the store is full, it is one that is not finished; where the store failed, it is that, or all of its pages but
 -- page 0 are those of one that holds the book, and are synced
@@ -139,18 +155,18 @@ said (Ok x) (Ok y) = Ok tt
 said (Ok x) (Err fault) = Err (Run fault)
 said (Err fault) closed = Err (Run fault)
 
--- a database that was made or opened is run over and closed, and the fault of these is answered, and what the closing
--- came to; where there is none, why is answered, nothing is to be closed, the store is the one that was given back, and
--- nothing was sent
+-- a database that was made or opened is run over and closed, and the fault of these is answered, and that of the closing,
+-- for which what the run did is not kept; where there is none, why is answered twice, the store is the one that was given
+-- back, and nothing was sent
 abbrev pub RunsOver : {S O : Type 0} (seen : S → Store) (shown : O → OutputView)
     → Result DbView (S × CatalogueFault) → List (List ℕ × List ℕ) → (out out' : O)
-    → List (List ℕ) → Result (Unit {0}) Fault → (closed : Result (Unit {0}) RunFault) → Store
-    → Type 0
-RunsOver seen shown (Ok db) files out out' lines answered closed store =
-    (ran : Result (Unit {0}) RunFault) × (answered ≡ said ran closed)
+    → List (List ℕ) → (answered kept : Result (Unit {0}) Fault) → Store → Type 0
+RunsOver seen shown (Ok db) files out out' lines answered kept store =
+    (ran : Result (Unit {0}) RunFault) × (closed : Result (Unit {0}) RunFault)
+    × (answered ≡ said ran closed) × (kept ≡ said (Ok tt) closed)
     × RunsAndCloses shown db files out out' lines ran closed store
-RunsOver seen shown (Err back) files out out' lines answered closed store =
-    (answered ≡ Err (Open back.1)) × (closed ≡ Ok tt) × (store ≡ seen back.0)
+RunsOver seen shown (Err back) files out out' lines answered kept store =
+    (answered ≡ Err (Open back.1)) × (kept ≡ Err (Open back.1)) × (store ≡ seen back.0)
     × (shown out' ≡ shown out)
 
 -- the store holds the book of a database, in a tree of its shape; the report says how many legs and features the book has,

@@ -1,5 +1,5 @@
 -- What the name of a store stands for, from moment to moment, and what a run makes of it.
-use Rattle.std.specs.Prelude.{ℕ, ◌≡◌, ◌<◌, ◌⊎◌, ◌^◌, ◌-◌, List, [], ◌∷◌, length, Bool, Option, Some, None, IfSome, IsTrue, Err, Ok, Result, false, true, ⊤}
+use Rattle.std.specs.Prelude.{ℕ, ◌≡◌, ◌<◌, ◌⊎◌, ◌^◌, ◌-◌, List, [], ◌∷◌, length, take, Bool, Option, Some, None, IfSome, IsTrue, Err, Ok, Result, false, true, ⊤}
 use Rattle.legs.specs.Book.{Book, empty_book}
 use Rattle.legs.specs.Costs.{ShapeView}
 use Rattle.legs.specs.Limits.{LimitsView}
@@ -15,11 +15,11 @@ use Rattle.trajdb.specs.Db.{capacity_of, shape_of, store_of, DbView, HasPages, I
 use Rattle.trajdb.specs.Faults.{IsNotOutput}
 use Rattle.trajdb.specs.Lasting.{HasBook}
 use Rattle.trajdb.specs.Promises.{OpenCall}
-use Rattle.trajdb.specs.Run.{HasRun}
+use Rattle.trajdb.specs.Run.{run_book}
 use Rattle.register.specs.declared.fault.CatalogueFault.{CatalogueFault}
 use Rattle.trajdb.specs.declared.RunFault.{RunFault}
-use Rattle.trajdb.specs.declared.RunFault.TheVariants.{Memory, Store as StoreFailed}
-use Rattle.sessions.specs.Answers.{Answers, new_shape}
+use Rattle.trajdb.specs.declared.RunFault.TheVariants.{Failed, Memory, Store as StoreFailed}
+use Rattle.sessions.specs.Answers.{new_shape, IsAtLoad, SendsLines}
 use Rattle.sessions.specs.declared.fault.Fault.{Fault}
 use Rattle.sessions.specs.declared.fault.Fault.TheVariants.{Bounds, CannotRead, CannotWrite, InUse, NoPart, NoStore, NoSuchStore, OtherLimits, NotEmpty, Open, Run}
 
@@ -109,24 +109,32 @@ abbrev pub IsRefusedByFolder : (before after : ℕ) (last : Option Fault) → Fa
 IsRefusedByFolder before after last fault =
     IsOfFolder fault × HasRisen before after × (last ≡ Some fault)
 
--- how a run on a copy over a book is refused: nothing was sent of it, or all was, or it says which kind of fault it is: of
--- the output, want of memory, or of a store that failed or is full; that it is so, this does not say
-abbrev pub IsRefusedBeside : LimitsView → Book → List (List ℕ × List ℕ)
-    → (sent sent' : Option (List ℕ)) → List (List ℕ) → Fault → Type 0
-IsRefusedBeside limits book files sent sent' lines fault =
-    (sent' ≡ sent)
-    ⊎ (((after : Book) × HasRun limits files sent sent' book after lines)
-    ⊎ ((why : RunFault) × (fault ≡ Run why) × (IsNotOutput why → IsLoadFault why)))
+-- how a run on a copy is refused: nothing was sent of it, or it says which kind of fault it is: of the output, want of
+-- memory, or of a store that failed or is full; that it is so, this does not say
+abbrev pub IsRefusedBeside : (sent sent' : Option (List ℕ)) → Fault → Type 0
+IsRefusedBeside sent sent' fault =
+    (sent' ≡ sent) ⊎ ((why : RunFault) × (fault ≡ Run why) × (IsNotOutput why → IsLoadFault why))
 
--- the store of a run over a book that is answered, and of which nothing else than its pages takes the name, which then
--- stands for a file that holds the book after the run: a later run finds it
+-- why what a run on a copy did is not kept, where no folder refused it: there was no database, which is why it was
+-- refused, and nothing was sent; a load of a file that is there failed; or the database was not closed, as memory ran out,
+-- or as its store failed or is full
+abbrev pub IsDropped : List (List ℕ × List ℕ) → (sent sent' : Option (List ℕ)) → List (List ℕ)
+    → (ran : Result (Unit {0}) Fault) → Fault → Type 0
+IsDropped files sent sent' lines ran fault =
+    ((sent' ≡ sent) × (ran ≡ Err fault))
+    ⊎ (((fault ≡ Run Failed) × (k : ℕ) × IsAtLoad files lines k)
+    ⊎ ((why : RunFault) × (fault ≡ Run why) × IsLoadFault why))
+
+-- the store of a run over a book that is kept, and of which nothing else than its pages takes the name, which then stands
+-- for a file that holds the book after the lines whose answers were sent: a later run finds it
 pub record RunsBeside (shape : ShapeView) (limits : LimitsView) (book : Book)
     (files : List (List ℕ × List ℕ)) (sent sent' : Option (List ℕ)) (lines : List (List ℕ))
-    (old new : Option History) : Type 0 where
+    (ran : Result (Unit {0}) Fault) (old new : Option History) : Type 0 where
+  pub sends : SendsLines limits book files sent sent' lines ran
   pub store : Store
-  pub answers : Answers shape limits book files sent sent' lines store
+  pub holds : HoldsBook store shape limits (run_book limits files book (take sends.done lines))
   pub kept : NameIsKept store old new
-  pub held : HoldsNow shape limits answers.after new
+  pub held : HoldsNow shape limits (run_book limits files book (take sends.done lines)) new
 
 -- of a store without pages a database is made under these limits with the empty book that has begun and not failed, with a cache of so many
 -- pages: its store has page 0 alone, which of a faithful one is its header, and is synced; over a faithful one it is sound,

@@ -11,6 +11,7 @@ ghost use Rattle.trajdb.specs.Lasting.{HasBook, IsIdle};
 ghost use Rattle.sessions.specs.Folder.{OpensOrMakes};
 ghost use Rattle.sessions.specs.Answers.{said, Answers, RunBegins, RunsAndCloses, RunsOver, SendsFront};
 
+use crate::ended::Ended;
 use crate::fault::Fault;
 use legs::Limits;
 use outputs::Output;
@@ -128,26 +129,25 @@ fn answer_of<'a>(ran: Result<(), RunFault>, closed: Result<(), RunFault>) -> Res
 /// Runs the script over the database of a store, closes it, and gives the store back, as
 /// `run_and_close` does (`Run`). Where there is no database it is refused as that was (`Open`).
 ///
-/// What is answered is the run's fault, or else the closing's; what the closing came to stands behind it, and is `Ok`
-/// where there is no database.
+/// `Ended::ran` is the run's fault, or else the closing's, and `Ended::kept` the closing's.
 pub fn answer<'a, S: PageStore, O: Output>(
     alloc: Global,
     database: Result<Db<S>, (S, OpenFault)>,
     script: &[u8],
     files: &Files,
     out: &mut O,
-) -> (S, Result<(), Fault<'a>>, Result<(), RunFault>)
+) -> (S, Ended<'a>)
     // What was sent is exactly the text of the run over the book, and the store then holds the book
     // after it, in a tree of the same shape.
-    ensures runs { OnOk result.1 (IfOk database (λ db. IsSoundDb db → HasPages db → IsIdle db
+    ensures runs { OnOk result.1.ran (IfOk database (λ db. IsSoundDb db → HasPages db → IsIdle db
         → Answers (shape_of db) db.limits db.book files.now (O.seen out.old).contents
         (O.seen out.new).contents (lines_of script.now) (S.seen result.0))) }
 
     // Where the database had begun, or a file was accepted, all of the store is synced then.
-    ensures synced { OnOk result.1 (IfOk database (λ db. RunBegins db files.now
+    ensures synced { OnOk result.1.ran (IfOk database (λ db. RunBegins db files.now
         (lines_of script.now) → IsSynced (S.seen result.0))) }
     // Where it is refused, what was sent is the front of that text.
-    ensures sent { OnErr result.1 (IfOk database (λ db. IsSoundDb db → db.failed ≡ false
+    ensures sent { OnErr result.1.ran (IfOk database (λ db. IsSoundDb db → db.failed ≡ false
         → SendsFront db.limits db.book files.now (O.seen out.old).contents (O.seen out.new).contents
         (lines_of script.now))) }
 
@@ -155,15 +155,26 @@ pub fn answer<'a, S: PageStore, O: Output>(
     // have failed only where it did; where there is no database it is the one that was given back, and
     // nothing is sent.
     ensures over { RunsOver S.seen O.seen database files.now out.old out.new
-        (lines_of script.now) result.1 result.2 (S.seen result.0) }
-    ensures caused { IfOk database (λ db. IsErrOf result.1 (Fault.Run RunFault.Store)
+        (lines_of script.now) result.1.ran result.1.kept (S.seen result.0) }
+    ensures caused { IfOk database (λ db. IsErrOf result.1.ran (Fault.Run RunFault.Store)
         → Faulted (store_of db) (S.seen result.0)) }
 {
     match database {
         Ok(database) => {
             let (store, ran, closed) = run_and_close(alloc, database, script, files, out);
-            (store, answer_of(ran, closed), closed)
+            let ended = Ended {
+                ran: answer_of(ran, closed),
+                kept: answer_of(Ok(()), closed),
+            };
+            (store, ended)
         }
-        Err((store, fault)) => (store, Err(Fault::Open(fault)), Ok(())),
+        Err((store, fault)) => {
+            let refused = Err(Fault::Open(fault));
+            let ended = Ended {
+                ran: refused,
+                kept: refused,
+            };
+            (store, ended)
+        }
     }
 }
