@@ -4,5 +4,5 @@
 mod task;
 mod words;
 
-pub use task::{Bounds, Check, Info, Migrate, Moments, Part, Parts, RowKind, Run, Task, Telling};
+pub use task::{Check, Info, Migrate, Moments, Part, Parts, RowKind, Run, Task, Telling, Where};
 pub use words::read_words;

@@ -95,15 +95,6 @@ pub struct Parts<'a> {
     pub folder: &'a str,
 }
 
-/// A rectangle and a period, as they were written.
-#[derive(Clone, Copy)]
-pub struct Bounds<'a> {
-    /// X1, Y1, X2 and Y2.
-    pub corners: [&'a str; 4],
-    /// T1 and T2.
-    pub times: [&'a str; 2],
-}
-
 /// What is printed of stays.
 #[derive(Clone, Copy)]
 pub enum RowKind {
@@ -115,6 +106,15 @@ pub enum RowKind {
     Dwell,
 }
 
+/// Of which rectangles `mftb moments` is asked.
+#[derive(Clone, Copy)]
+pub enum Where<'a> {
+    /// Of one: X1, Y1, X2 and Y2, as they were written.
+    Rect([&'a str; 4]),
+    /// Of those of the file of that name.
+    Rects(&'a str),
+}
+
 /// What `mftb moments` is asked to do.
 #[derive(Clone, Copy)]
 pub struct Moments<'a> {
@@ -122,8 +122,10 @@ pub struct Moments<'a> {
     pub store: &'a str,
     /// How many pages its cache holds at most, at least 1.
     pub cache_pages: u32,
-    /// The rectangle and the period.
-    pub bounds: Bounds<'a>,
+    /// The rectangles.
+    pub place: Where<'a>,
+    /// T1 and T2, as they were written.
+    pub times: [&'a str; 2],
     /// What is printed.
     pub rows: RowKind,
     /// When it is said why nothing is printed.

@@ -1,6 +1,6 @@
 //! The words of the command line.
 use crate::task::{
-    Bounds, Check, Info, Migrate, Moments, Part, Parts, RowKind, Run, Task, Telling,
+    Check, Info, Migrate, Moments, Part, Parts, RowKind, Run, Task, Telling, Where,
 };
 use clap::builder::ValueParser;
 use clap::error::ErrorKind;
@@ -25,6 +25,8 @@ enum Form<'a> {
     Flag,
     /// `--NAME`, without a value, and that letter for it.
     FlagOrLetter(char),
+    /// `--NAME VALUE`.
+    Value(&'a str),
     /// `--NAME VALUE`, a number.
     Number(&'a str),
     /// `--NAME N`, a number from 1 to 2^31.
@@ -122,6 +124,7 @@ fn arg_of<'a>(alloc: Global, word: Word<'a>) -> Arg<'a> {
         Form::Names => names(alloc, word),
         Form::Flag => flag(alloc, word),
         Form::FlagOrLetter(letter) => letter_flag(alloc, word, letter),
+        Form::Value(value) => option(alloc, word, value),
         Form::Number(value) => number(alloc, word, value),
         Form::Limit => limit(alloc, word),
         Form::CountOr(default) => count_or(alloc, word, default),
@@ -135,7 +138,15 @@ fn command<'a>(
     about: &'a str,
     words: &[Word<'a>],
 ) -> Result<Command<'a>, AllocError> {
-    let mut command = Command::new(alloc, name).about(about);
+    with_words(alloc, Command::new(alloc, name).about(about), words)
+}
+
+/// A command with more words, in their order.
+fn with_words<'a>(
+    alloc: Global,
+    mut command: Command<'a>,
+    words: &[Word<'a>],
+) -> Result<Command<'a>, AllocError> {
     for word in words {
         command = command.arg(arg_of(alloc, *word))?;
     }
@@ -319,26 +330,59 @@ fn parts_command<'a>(alloc: Global) -> Result<Command<'a>, AllocError> {
     )
 }
 
-/// What a bound of `mftb moments` is.
-fn bound_form<'a>(takes_negative: bool) -> Form<'a> {
-    if takes_negative {
-        Form::Bound
-    } else {
-        Form::Required
+/// How the words of `mftb moments` are read.
+#[derive(Clone, Copy)]
+struct Reading {
+    /// Whether a bound may be a number below 0.
+    takes_negative: bool,
+    /// Whether `--rects FILE` stands in the place of a rectangle.
+    has_rects: bool,
+}
+
+impl Reading {
+    /// How these words are read.
+    fn of(words: &[String]) -> Reading {
+        Reading {
+            takes_negative: has_negative(words),
+            has_rects: words.iter().any(|word| is_rects(word.as_str())),
+        }
+    }
+
+    /// What a bound is.
+    fn bound<'a>(self) -> Form<'a> {
+        if self.takes_negative {
+            Form::Bound
+        } else {
+            Form::Required
+        }
     }
 }
 
-/// The words of `mftb moments`.
-fn moments_command<'a>(alloc: Global, takes_negative: bool) -> Result<Command<'a>, AllocError> {
-    let bound = bound_form(takes_negative);
-    let words = [
-        Word::new(Form::Required, "STORE", "The file that keeps the database"),
+/// Whether a word is `--rects`, with its value or without.
+fn is_rects(word: &str) -> bool {
+    word == "--rects" || word.starts_with("--rects=")
+}
+
+/// The words of a rectangle.
+fn corners<'a>(bound: Form<'a>) -> [Word<'a>; 4] {
+    [
         Word::new(bound, "X1", "The least x"),
         Word::new(bound, "Y1", "The least y"),
         Word::new(bound, "X2", "The greatest x"),
         Word::new(bound, "Y2", "The greatest y"),
+    ]
+}
+
+/// The words of `mftb moments` behind those of a rectangle.
+fn moments_words<'a>(bound: Form<'a>) -> [Word<'a>; 8] {
+    [
         Word::new(bound, "T1", "The first moment, as 2012-01-17T12:33:41Z"),
         Word::new(bound, "T2", "The last moment"),
+        Word::new(
+            Form::Value("FILE"),
+            "rects",
+            "Ask of each rectangle of FILE (CSV: name,x1,y1,x2,y2), without X1 Y1 X2 Y2",
+        ),
         Word::new(
             Form::Flag,
             "visits",
@@ -352,9 +396,23 @@ fn moments_command<'a>(alloc: Global, takes_negative: bool) -> Result<Command<'a
         cache_pages(),
         explain(),
         quiet(),
-    ];
+    ]
+}
+
+/// The words of `mftb moments`.
+fn moments_command<'a>(alloc: Global, reading: Reading) -> Result<Command<'a>, AllocError> {
+    let bound = reading.bound();
+    let store = [Word::new(
+        Form::Required,
+        "STORE",
+        "The file that keeps the database",
+    )];
     let about = "Prints when legs are inside a rectangle in a period, as exact fractions";
-    command(alloc, "moments", about, &words)
+    let mut command = command(alloc, "moments", about, &store)?;
+    if !reading.has_rects {
+        command = with_words(alloc, command, &corners(bound))?;
+    }
+    with_words(alloc, command, &moments_words(bound))
 }
 
 /// The words of `mftb info`.
@@ -380,14 +438,14 @@ fn bare<'a>(alloc: Global) -> Command<'a> {
 }
 
 /// The words of the program, and its commands in the order in which the help says them.
-fn mftb<'a>(alloc: Global, takes_negative: bool) -> Result<Command<'a>, AllocError> {
+fn mftb<'a>(alloc: Global, reading: Reading) -> Result<Command<'a>, AllocError> {
     bare(alloc)
         .subcommand(run_command(alloc)?)?
         .subcommand(check_command(alloc)?)?
         .subcommand(migrate_command(alloc)?)?
         .subcommand(part_command(alloc)?)?
         .subcommand(parts_command(alloc)?)?
-        .subcommand(moments_command(alloc, takes_negative)?)?
+        .subcommand(moments_command(alloc, reading)?)?
         .subcommand(info_command(alloc)?)
 }
 
@@ -462,19 +520,26 @@ fn rows_of(matches: &ArgMatches) -> RowKind {
     }
 }
 
+/// Of which rectangles it is asked.
+fn place_of<'a>(matches: &ArgMatches<'a>) -> Where<'a> {
+    match matches.get_str("rects") {
+        Some(file) => Where::Rects(file),
+        None => Where::Rect([
+            word_of(matches, "X1"),
+            word_of(matches, "Y1"),
+            word_of(matches, "X2"),
+            word_of(matches, "Y2"),
+        ]),
+    }
+}
+
 /// What `mftb moments` is asked to do.
 fn moments_of<'a>(matches: &ArgMatches<'a>) -> Moments<'a> {
-    let corners = [
-        word_of(matches, "X1"),
-        word_of(matches, "Y1"),
-        word_of(matches, "X2"),
-        word_of(matches, "Y2"),
-    ];
-    let times = [word_of(matches, "T1"), word_of(matches, "T2")];
     Moments {
         store: word_of(matches, "STORE"),
         cache_pages: number_of(matches, "cache-pages", CACHE_PAGES),
-        bounds: Bounds { corners, times },
+        place: place_of(matches),
+        times: [word_of(matches, "T1"), word_of(matches, "T2")],
         rows: rows_of(matches),
         telling: telling_of(matches),
     }
@@ -550,7 +615,7 @@ fn clash_of(matches: &ArgMatches) -> Option<&'static str> {
 /// So any other word behind a minus stays a flag. Two flags that exclude each other are refused here,
 /// once no word is missing.
 pub fn read_words<'a>(alloc: Global, words: &'a [String]) -> Result<Task<'a>, Error> {
-    let mut program = mftb(alloc, has_negative(words))?;
+    let mut program = mftb(alloc, Reading::of(words))?;
     let matches = program.try_get_matches_from_mut(words)?;
     match matches.subcommand() {
         Some((name, found)) => ask(alloc, &mut program, name, found),

@@ -1,63 +1,60 @@
-//! A rectangle and a period on the command line.
-use arguments::Bounds;
+//! Rectangles and periods, as they are written in words.
+use fixedpoint::{Coord, read_coord};
 use legs::Rect;
-use querylang::{Command, LineCode, LineFault, parse_line};
+use querylang::LineCode;
 use sessions::Fault;
-use std::alloc::{AllocError, Global};
-use timebase::Period;
+use timebase::{Ms, Period, TimeFault, read_instant};
 use trajdb::RunFault;
-
-/// The line of a script that asks for the `box` of a rectangle and a period.
-pub(crate) fn line_of(alloc: Global, bounds: &Bounds<'_>) -> Result<String, AllocError> {
-    let [x1, y1, x2, y2] = bounds.corners;
-    let [t1, t2] = bounds.times;
-    format!(in alloc; "box {x1} {y1} {x2} {y2} {t1} {t2}")
-}
-
-/// Whether a blank or a line end is among the bytes of a text.
-fn has_blank(bytes: &[u8]) -> bool {
-    bytes.iter().any(|byte| byte.is_ascii_whitespace())
-}
 
 /// Whether what was written is one word of a line.
 fn is_word(text: &str) -> bool {
-    !text.is_empty() && !has_blank(text.as_bytes())
+    !text.is_empty() && !text.as_bytes().iter().any(|byte| byte.is_ascii_whitespace())
 }
 
-/// Whether each of the texts is.
-fn are_words(texts: &[&str]) -> bool {
+/// Refuses texts of which one is no word.
+pub(crate) fn hold_words<'a>(texts: &[&str]) -> Result<(), Fault<'a>> {
     for text in texts {
         if !is_word(text) {
-            return false;
+            return Err(Fault::Bounds(LineCode::Q3));
         }
     }
-    true
+    Ok(())
 }
 
-/// The rectangle and the period of a `box`.
-fn box_of(command: &Command) -> Option<(Rect, Period)> {
-    match command {
-        Command::Box(rect, period) => Some((*rect, *period)),
-        _ => None,
+/// The coordinate of a word.
+fn coord_of(word: &str) -> Result<Coord, LineCode> {
+    match read_coord(word) {
+        Ok(coord) => Ok(coord),
+        Err(_) => Err(LineCode::Q5),
     }
 }
 
-/// Reads a rectangle and a period as a line `box X1 Y1 X2 Y2 T1 T2` of a script is read.
-pub(crate) fn read_bounds<'a>(
-    alloc: Global,
-    bounds: &Bounds<'_>,
-) -> Result<(Rect, Period), Fault<'a>> {
-    if !are_words(&bounds.corners) || !are_words(&bounds.times) {
-        return Err(Fault::Bounds(LineCode::Q3));
+/// The rectangle of X1, Y1, X2 and Y2, refused as the line of a script is.
+pub(crate) fn rect_of(corners: [&str; 4]) -> Result<Rect, LineCode> {
+    let [x1, y1, x2, y2] = corners;
+    let (x1, y1) = (coord_of(x1)?, coord_of(y1)?);
+    let (x2, y2) = (coord_of(x2)?, coord_of(y2)?);
+    match Rect::new(x1, y1, x2, y2) {
+        Some(rect) => Ok(rect),
+        None => Err(LineCode::Q6),
     }
-    let line = line_of(alloc, bounds)?;
-    match parse_line(alloc, line.as_bytes()) {
-        Ok(Some(command)) => match box_of(&command) {
-            Some(asked) => Ok(asked),
-            None => Err(Fault::Bounds(LineCode::Q3)),
-        },
-        Ok(None) => Err(Fault::Bounds(LineCode::Q3)),
-        Err(LineFault::Refused(code)) => Err(Fault::Bounds(code)),
-        Err(LineFault::Memory) => Err(Fault::Run(RunFault::Memory)),
+}
+
+/// The moment of a word.
+fn moment_of<'a>(word: &str) -> Result<Ms, Fault<'a>> {
+    match read_instant(word) {
+        Ok(moment) => Ok(moment),
+        Err(TimeFault::Memory) => Err(Fault::Run(RunFault::Memory)),
+        Err(_) => Err(Fault::Bounds(LineCode::Q7)),
+    }
+}
+
+/// The period of T1 and T2, refused likewise.
+pub(crate) fn period_of<'a>(times: [&str; 2]) -> Result<Period, Fault<'a>> {
+    let [t1, t2] = times;
+    let (t1, t2) = (moment_of(t1)?, moment_of(t2)?);
+    match Period::new(t1, t2) {
+        Some(period) => Ok(period),
+        None => Err(Fault::Bounds(LineCode::Q8)),
     }
 }

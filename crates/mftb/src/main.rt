@@ -19,6 +19,7 @@ mod outcome;
 mod passages;
 mod reach;
 mod reading;
+mod rects;
 mod root;
 mod run;
 mod start;

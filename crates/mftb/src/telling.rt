@@ -1,9 +1,9 @@
 //! What is said of a run, in words, on standard error.
-use crate::bounds::line_of;
 use crate::catalogued::catalogue_of;
 use crate::reach::{Reach, reach_of};
 use crate::reading::cause_of_reading;
-use arguments::{Bounds, Task, Telling};
+use crate::rects::NamedRect;
+use arguments::{Moments, Task, Telling, Where};
 use catalogue::Catalogue;
 use legs::Box3;
 use monitor::{LineSpan, Note, Notes, What};
@@ -15,6 +15,7 @@ use std::fs::File;
 use std::io::Eprint;
 use std::random::RandomSource;
 use std::{fs, rt};
+use timebase::Period;
 use trajdb::{Files, OpenFault};
 
 /// The name in a command.
@@ -203,20 +204,38 @@ pub(crate) fn tell<R: rt::Files<File = File> + Eprint + AllocGlobal + RandomSour
     }
 }
 
-/// Says why no leg is inside a rectangle in a period, where the store has none there.
+/// Says of a rectangle why no leg is inside it, where the store has none there.
+fn tell_rect<R: Eprint + AllocGlobal>(rt: &R, period: &Period, asked: &NamedRect, reach: &Box3) {
+    if let Ok(Some(words)) = reach_words(rt.alloc(), &Box3::new(&asked.rect, period), reach) {
+        let (name, words) = (Shown(asked.name.as_str()), words.as_str());
+        let _ = if asked.name.is_empty() {
+            eprintln!(rt; "mftb: {words}")
+        } else {
+            eprintln!(rt; "mftb: {name}: {words}")
+        };
+    }
+}
+
+/// Says why no leg is inside those of the rectangles in a period, where the store has none there.
 pub(crate) fn tell_elsewhere<R: rt::Files<File = File> + Eprint + AllocGlobal>(
     rt: &R,
     store: &str,
-    asked: &Box3,
+    period: &Period,
+    rects: &[NamedRect],
+    empty: &[usize],
 ) {
+    if empty.is_empty() {
+        return;
+    }
     match reach_of(rt, store) {
         Reach::Nowhere => {
             let _ = eprintln!(rt; "mftb: the store has no legs");
         }
         Reach::Within(reach) => {
-            if let Ok(Some(words)) = reach_words(rt.alloc(), asked, &reach) {
-                let words = words.as_str();
-                let _ = eprintln!(rt; "mftb: {words}");
+            for place in empty {
+                if let Some(asked) = rects.get(*place) {
+                    tell_rect(rt, period, asked, &reach);
+                }
             }
         }
         Reach::Unknown => {}
@@ -287,13 +306,23 @@ fn opening_words(fault: &Fault) -> Option<&'static str> {
     }
 }
 
+/// The line of a script that asks for the `box` of the words of `mftb moments`.
+fn line_of(alloc: Global, task: &Moments<'_>) -> Result<String, AllocError> {
+    let [x1, y1, x2, y2] = match task.place {
+        Where::Rect(corners) => corners,
+        Where::Rects(_) => ["0"; 4],
+    };
+    let [t1, t2] = task.times;
+    format!(in alloc; "box {x1} {y1} {x2} {y2} {t1} {t2}")
+}
+
 /// Which word of a rectangle and a period is refused, and why.
-fn bounds_words(alloc: Global, bounds: &Bounds, code: LineCode) -> Option<String> {
+fn bounds_words(alloc: Global, task: &Moments<'_>, code: LineCode) -> Option<String> {
     if code == LineCode::Q3 {
         // That is said of the line of a script.
         return None;
     }
-    let line = line_of(alloc, bounds).ok()?;
+    let line = line_of(alloc, task).ok()?;
     let code = Code::read(code.as_str())?;
     line_words(alloc, line.as_bytes(), code).ok()
 }
@@ -312,7 +341,7 @@ fn tell_cause<R: rt::Files<File = File> + Eprint + AllocGlobal>(
         }
         Fault::Bounds(code) => {
             if let Task::Moments(task) = task
-                && let Some(words) = bounds_words(rt.alloc(), &task.bounds, *code)
+                && let Some(words) = bounds_words(rt.alloc(), task, *code)
             {
                 let words = words.as_str();
                 let _ = eprintln!(rt; "mftb: {words}");

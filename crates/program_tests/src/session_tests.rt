@@ -2,7 +2,10 @@
 use legs::Limits;
 use outputs::CountedOutput;
 use pages::{Fuse, MemStore};
-use sessions::{Fault, MOST_BYTES, MOST_FEATURES, MOST_LEGS, Opening, answer, database, read_named};
+use querylang::LineCode;
+use sessions::{
+    Fault, MOST_BYTES, MOST_FEATURES, MOST_LEGS, Opening, RectsFault, answer, database, read_named,
+};
 use std::fs;
 use std::hash::RandomState;
 use std::test::Fail;
@@ -28,7 +31,7 @@ fn a_file_that_is_too_long_is_not_read(rt: HostRuntime) -> Result<(), Fail> {
 }
 
 /// Faults, and the line of each.
-const FAULTS: [(Fault, &str); 17] = [
+const FAULTS: [(Fault, &str); 18] = [
     (Fault::Run(RunFault::Memory), "memory"),
     (Fault::Run(RunFault::Store), "store"),
     (Fault::Run(RunFault::Damaged(7)), "page 7 damaged"),
@@ -48,6 +51,10 @@ const FAULTS: [(Fault, &str); 17] = [
     (
         Fault::OtherLimits(5, 3),
         "other limits: the store takes 5 legs and 3 features",
+    ),
+    (
+        Fault::Rects(3, RectsFault::Corner(LineCode::Q6)),
+        "record 3 of the rectangles: X1 is above X2, or Y1 above Y2",
     ),
 ];
 

@@ -8,4 +8,6 @@ mod pushed;
 
 pub use info_json::push_json;
 pub use info_text::{StoreReport, push_lines};
-pub use moments_text::{Frame, push_dwells, push_stays, push_visits};
+pub use moments_text::{
+    Frame, push_dwell_fields, push_dwells, push_fields, push_label, push_stays, push_visits,
+};

@@ -22,7 +22,7 @@ use Rattle.trajdb.specs.declared.Report.{Report}
 use Rattle.trajdb.specs.declared.RunFault.{RunFault}
 use Rattle.trajdb.specs.declared.RunFault.TheVariants as run
 use Rattle.sessions.specs.declared.fault.Fault.{Fault}
-use Rattle.sessions.specs.declared.fault.Fault.TheVariants.{Run, Open, CannotRead, CannotWrite, NotEmpty, NoPart, InUse, NoStore, NoSuchStore, OtherLimits, Bounds}
+use Rattle.sessions.specs.declared.fault.Fault.TheVariants.{Run, Open, CannotRead, CannotWrite, NotEmpty, NoPart, InUse, NoStore, NoSuchStore, OtherLimits, Rects, Bounds}
 
 -- the shape of the tree of a new database
 abbrev pub new_shape : ShapeView
@@ -230,6 +230,7 @@ IsOverFault old after new left (NoStore cause) = ⊥
 IsOverFault old after new left NoSuchStore = ⊥
 IsOverFault old after new left (OtherLimits legs features) = ⊥
 IsOverFault old after new left (Bounds code) = ⊥
+IsOverFault old after new left (Rects number why) = ⊥
 
 -- why a store of version 1 that holds a book is not brought over: memory ran out or the new store is full, which then
 -- has no page, or says that it is not finished, or has a page 0 alone, whose write failed; or a store failed, and where
@@ -257,3 +258,4 @@ IsNotOver new left (NoStore cause) = ⊥
 IsNotOver new left NoSuchStore = ⊥
 IsNotOver new left (OtherLimits legs features) = ⊥
 IsNotOver new left (Bounds code) = ⊥
+IsNotOver new left (Rects number why) = ⊥

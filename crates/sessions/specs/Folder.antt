@@ -21,7 +21,7 @@ use Rattle.trajdb.specs.declared.RunFault.{RunFault}
 use Rattle.trajdb.specs.declared.RunFault.TheVariants.{Failed, Memory, Store as StoreFailed}
 use Rattle.sessions.specs.Answers.{new_shape, IsAtLoad, SendsLines}
 use Rattle.sessions.specs.declared.fault.Fault.{Fault}
-use Rattle.sessions.specs.declared.fault.Fault.TheVariants.{Bounds, CannotRead, CannotWrite, InUse, NoPart, NoStore, NoSuchStore, OtherLimits, NotEmpty, Open, Run}
+use Rattle.sessions.specs.declared.fault.Fault.TheVariants.{Bounds, CannotRead, CannotWrite, InUse, NoPart, NoStore, NoSuchStore, OtherLimits, Rects, NotEmpty, Open, Run}
 
 -- the pages of the file of that name at each moment so far, the last one first; `None` where there was no file
 abbrev pub History : Type 0
@@ -102,6 +102,7 @@ IsOfFolder (NoStore cause) = Unit {0}
 IsOfFolder NoSuchStore = ⊥
 IsOfFolder (OtherLimits legs features) = ⊥
 IsOfFolder (Bounds code) = ⊥
+IsOfFolder (Rects number why) = ⊥
 
 -- it refused a call, which it counts, and this fault is why it did so last: it made no copy, did not make it last, or did
 -- not give it the name

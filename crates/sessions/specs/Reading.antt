@@ -2,7 +2,7 @@
 use Rattle.std.specs.Prelude.{ℕ, ◌≡◌, List}
 use Rattle.trajdb.specs.declared.RunFault.TheVariants as run
 use Rattle.sessions.specs.declared.fault.Fault.{Fault}
-use Rattle.sessions.specs.declared.fault.Fault.TheVariants.{Run, Open, CannotRead, CannotWrite, NotEmpty, NoPart, InUse, NoStore, NoSuchStore, OtherLimits, Bounds}
+use Rattle.sessions.specs.declared.fault.Fault.TheVariants.{Run, Open, CannotRead, CannotWrite, NotEmpty, NoPart, InUse, NoStore, NoSuchStore, OtherLimits, Rects, Bounds}
 
 -- memory ran out, or the file of that name is said not to be read
 abbrev pub IsUnreadFile : List ℕ → Fault → Type 0
@@ -17,3 +17,4 @@ IsUnreadFile name (NoStore cause) = ⊥
 IsUnreadFile name NoSuchStore = ⊥
 IsUnreadFile name (OtherLimits legs features) = ⊥
 IsUnreadFile name (Bounds code) = ⊥
+IsUnreadFile name (Rects number why) = ⊥

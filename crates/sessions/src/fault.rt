@@ -3,6 +3,7 @@ ghost use Rattle.std.specs.Prelude.{◌≡◌, ◌↔◌, IsTrue};
 ghost use Rattle.sessions.specs.Texts.{bounds_words, status_of, IsOfStore};
 
 use crate::cause::Cause;
+use crate::rects_fault::{RectsFault, rects_text};
 use querylang::LineCode;
 use std::alloc::AllocError;
 use std::fmt;
@@ -34,6 +35,8 @@ pub enum Fault<'a> {
     OtherLimits(u64, u32),
     /// The rectangle or the period is refused, as a line of a script would be.
     Bounds(LineCode),
+    /// A file of rectangles is refused, at the record of that number.
+    Rects(u64, RectsFault),
 }
 
 impl Fault<'_> {
@@ -42,7 +45,7 @@ impl Fault<'_> {
         ensures { result ≡ status_of self.now }
     {
         match self {
-            Fault::NoPart(..) | Fault::OtherLimits(..) | Fault::Bounds(_) => 2,
+            Fault::NoPart(..) | Fault::OtherLimits(..) | Fault::Bounds(_) | Fault::Rects(..) => 2,
             _ => 1,
         }
     }
@@ -95,7 +98,7 @@ impl From<OpenFault> for Fault<'_> {
 }
 
 /// Why a rectangle or a period is refused.
-fn bounds_text(code: LineCode) -> &'static str
+pub(crate) fn bounds_text(code: LineCode) -> &'static str
     ensures { result.now ≡ bounds_words code }
 {
     match code {
@@ -143,6 +146,10 @@ impl Display for Fault<'_> {
                 write!(f, "other limits: the store takes {legs} legs and {features} features")
             }
             Fault::Bounds(code) => f.write_str(bounds_text(*code)),
+            Fault::Rects(record, why) => {
+                let why = rects_text(*why);
+                write!(f, "record {record} of the rectangles: {why}")
+            }
         }
     }
 }

@@ -16,6 +16,7 @@ mod part;
 mod part_files;
 mod read_only;
 mod reading;
+mod rects_fault;
 mod session;
 
 pub use answering::send_all;
@@ -31,4 +32,5 @@ pub use part::send_part;
 pub use part_files::{PartFolder, put_parts};
 pub use read_only::ReadOnly;
 pub use reading::{MOST_BYTES, read_named};
+pub use rects_fault::RectsFault;
 pub use session::{CACHE_PAGES, MOST_FEATURES, MOST_LEGS, Opening, answer, database, run_and_close};

@@ -51,4 +51,6 @@ returns c =
       between = between_is leg rect period cut rises clip enters.num leaves.num enters.den leaves.den enters.positive leaves.positive c.moment_at.ensures.at c.moment_at-2.ensures.at;
       entry = position_is leg cut.lo enters c.position_at.result rises c.moment_at.ensures.at c.position_at.ensures.x c.position_at.ensures.y c.position_at.ensures.z;
       exit = position_is leg cut.hi leaves c.position_at-2.result rises c.moment_at-2.ensures.at c.position_at-2.ensures.x c.position_at-2.ensures.y c.position_at-2.ensures.z;
+      begun = c.end_by.ensures;
+      ended = c.end_by-2.ensures;
     }
