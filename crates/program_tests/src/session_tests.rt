@@ -4,7 +4,7 @@ use outputs::CountedOutput;
 use pages::{Fuse, MemStore};
 use querylang::LineCode;
 use sessions::{
-    Fault, MOST_BYTES, MOST_FEATURES, MOST_LEGS, Opening, RectsFault, answer, database, read_named,
+    Cause, Fault, MOST_BYTES, MOST_FEATURES, MOST_LEGS, Opening, RectsFault, answer, database, read_named,
 };
 use std::fs;
 use std::hash::RandomState;
@@ -25,7 +25,8 @@ c,10,190,12.0 1.0 10.0 2.0 11.0 3.0,vehicle,1
 fn a_file_that_is_too_long_is_not_read(rt: HostRuntime) -> Result<(), Fail> {
     fs::write(&rt, "five.txt", "12345")?;
     assert!(rt; read_named(&rt, "five.txt", 5)?.as_slice() == b"12345".as_slice());
-    assert!(rt; read_named(&rt, "five.txt", 4).err() == Some(Fault::CannotRead("five.txt")));
+    let too_long = Fault::CannotRead("five.txt", Cause::TooLong);
+    assert!(rt; read_named(&rt, "five.txt", 4).err() == Some(too_long));
     assert_eq!(rt; MOST_BYTES, 1_073_741_824);
     Ok(())
 }
@@ -45,7 +46,10 @@ const FAULTS: [(Fault, &str); 18] = [
     (Fault::Open(OpenFault::Unfinished), "store unfinished"),
     (Fault::Open(OpenFault::Version), "store version"),
     (Fault::Open(OpenFault::Malformed), "store malformed"),
-    (Fault::CannotRead("a.csv"), "cannot read a.csv"),
+    (
+        Fault::CannotRead("a.csv", Cause::Absent),
+        "cannot read a.csv",
+    ),
     (Fault::NotEmpty, "new store not empty"),
     (Fault::InUse, "store in use"),
     (

@@ -93,7 +93,7 @@ HoldsNow shape limits book held = IfSome held (λ now. HoldsBook (store_in now) 
 abbrev pub IsOfFolder : Fault → Type 0
 IsOfFolder (Run why) = (why ≡ Memory) ⊎ (why ≡ StoreFailed)
 IsOfFolder (Open why) = ⊥
-IsOfFolder (CannotRead name) = ⊥
+IsOfFolder (CannotRead name cause) = ⊥
 IsOfFolder (CannotWrite name) = ⊥
 IsOfFolder NotEmpty = ⊥
 IsOfFolder (NoPart number count) = ⊥

@@ -8,7 +8,7 @@ use Rattle.sessions.specs.declared.fault.Fault.TheVariants.{Run, Open, CannotRea
 abbrev pub IsUnreadFile : List ℕ → Fault → Type 0
 IsUnreadFile name (Run why) = why ≡ run.Memory
 IsUnreadFile name (Open why) = ⊥
-IsUnreadFile name (CannotRead said) = said.now ≡ name
+IsUnreadFile name (CannotRead said cause) = said.now ≡ name
 IsUnreadFile name (CannotWrite said) = ⊥
 IsUnreadFile name NotEmpty = ⊥
 IsUnreadFile name (NoPart part parts) = ⊥

@@ -45,7 +45,7 @@ fault_text (Open opening.StoreFull) = codes "store full"
 fault_text (Open opening.Unfinished) = codes "store unfinished"
 fault_text (Open opening.Version) = codes "store version"
 fault_text (Open opening.Malformed) = codes "store malformed"
-fault_text (CannotRead name) = codes "cannot read " ++ name.now
+fault_text (CannotRead name cause) = codes "cannot read " ++ name.now
 fault_text (CannotWrite name) = codes "cannot write " ++ name.now
 fault_text NotEmpty = codes "new store not empty"
 fault_text (NoPart part parts) =
@@ -78,7 +78,7 @@ cause_text Other = codes "the system refused a call"
 abbrev pub status_of : Fault → ℕ
 status_of (Run why) = 1
 status_of (Open why) = 1
-status_of (CannotRead name) = 1
+status_of (CannotRead name cause) = 1
 status_of (CannotWrite name) = 1
 status_of NotEmpty = 1
 status_of (NoPart part parts) = 2
@@ -93,7 +93,7 @@ status_of (Rects number why) = 2
 abbrev pub IsOfStore : Fault → Type 0
 IsOfStore (Run why) = why ≡ run.Store
 IsOfStore (Open why) = why ≡ opening.Store
-IsOfStore (CannotRead name) = ⊥
+IsOfStore (CannotRead name cause) = ⊥
 IsOfStore (CannotWrite name) = ⊥
 IsOfStore NotEmpty = ⊥
 IsOfStore (NoPart part parts) = ⊥

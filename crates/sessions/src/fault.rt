@@ -17,8 +17,8 @@ pub enum Fault<'a> {
     Run(RunFault),
     /// The database was not made, opened or brought over.
     Open(OpenFault),
-    /// The script or a file of that name could not be read, or is too long.
-    CannotRead(&'a str),
+    /// The script or a file of that name could not be read, or is too long, and why.
+    CannotRead(&'a str, Cause),
     /// A file of a part could not be written into the folder of that name.
     CannotWrite(&'a str),
     /// The file that a store was to be brought over into is there, and has bytes.
@@ -134,7 +134,7 @@ impl Display for Fault<'_> {
             Fault::Open(OpenFault::Malformed) => f.write_str("store malformed"),
             Fault::Run(RunFault::Failed) => f.write_str("failed"),
             Fault::Run(RunFault::Output) => f.write_str("output"),
-            Fault::CannotRead(name) => write!(f, "cannot read {name}"),
+            Fault::CannotRead(name, _) => write!(f, "cannot read {name}"),
             Fault::CannotWrite(name) => write!(f, "cannot write {name}"),
             Fault::NotEmpty => f.write_str("new store not empty"),
             Fault::NoPart(part, parts) => {

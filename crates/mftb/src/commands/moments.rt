@@ -1,8 +1,8 @@
 //! `mftb moments`: when legs are inside rectangles in a period.
-use crate::asked::{database_to_ask, store_to_ask};
-use crate::bounds::{hold_words, period_of};
-use crate::rects::{NamedRect, rects_of};
-use crate::telling::tell_elsewhere;
+use crate::commands::asking::{database_to_ask, store_to_ask};
+use crate::commands::bounds::{hold_words, period_of};
+use crate::commands::rectangles::{NamedRect, rects_of};
+use crate::explain::telling::tell_elsewhere;
 use arguments::{Moments, RowKind, Where};
 use legs::Rect;
 use mfcsv::Dimension;

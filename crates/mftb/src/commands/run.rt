@@ -1,14 +1,14 @@
 //! `mftb run`: a script over the database that a file keeps.
 ghost use Rattle.std.specs.Prelude.{◌<◌};
 
-use crate::locks::hold_name;
-use crate::names::Names;
-use crate::opening::{is_absent, is_special, open_asked, open_in_place, sweep};
+use crate::system::locks::hold_name;
+use crate::system::names::Names;
+use crate::system::opening::{is_absent, is_special, open_asked, open_in_place, sweep};
 use crate::outcome::Outcome;
-use crate::reach::{Reach, limits_of, reach_of};
-use crate::reading::read_files;
-use crate::system_folder::SystemFolder;
-use crate::telling::{Given, tell, tell_made};
+use crate::explain::reach::{Reach, limits_of, reach_of};
+use crate::commands::reading::read_files;
+use crate::system::folder::SystemFolder;
+use crate::explain::telling::{Given, tell, tell_made};
 use arguments::{Run, Telling};
 use legs::Limits;
 use monitor::{Followed, Noted, Notes, Progress, Told};
@@ -177,11 +177,6 @@ fn is_without_legs<R: rt::Files<File = File>>(rt: &R, name: &str, is_told: bool)
     is_told && reach_of(rt, name) == Reach::Nowhere
 }
 
-/// The files that a run may load.
-fn files_of<'a, R: rt::Files + AllocGlobal>(rt: &R, run: &Run<'a>) -> Result<Files, Fault<'a>> {
-    read_files(rt, &run.files)
-}
-
 /// How much a store may hold that a run makes.
 fn limits(run: &Run<'_>) -> Limits {
     let legs = run.most_legs.map_or(MOST_LEGS, u64::from);
@@ -215,7 +210,7 @@ fn read_work<'a, R: rt::Files<File = File> + AllocGlobal + RandomSource>(
     run: &Run<'a>,
 ) -> Result<Work, Fault<'a>> {
     let script = read_named(rt, run.script, MOST_BYTES)?;
-    let files = files_of(rt, run)?;
+    let files = read_files(rt, &run.files)?;
     let Ok(keys) = RandomState::new(rt) else {
         return Err(Fault::Run(RunFault::Memory));
     };

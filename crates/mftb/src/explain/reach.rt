@@ -1,5 +1,5 @@
 //! How far the legs of a store reach, as its file says.
-use crate::root::box_below;
+use crate::explain::root::box_below;
 use header::{limits_in, root_of};
 use legs::{Box3, Limits};
 use pages::{Kind, Payload, unseal};

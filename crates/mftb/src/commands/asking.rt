@@ -1,7 +1,7 @@
 //! Databases that are only asked.
-use crate::held_file::HeldFile;
-use crate::names::Names;
-use crate::opening::{is_absent, open_asked, sweep};
+use crate::system::file::HeldFile;
+use crate::system::names::Names;
+use crate::system::opening::{absence_of, open_asked, sweep};
 use pages::{FileStore, PageStore};
 use sessions::{Fault, ReadOnly};
 use std::fs::File;
@@ -19,8 +19,8 @@ pub(crate) fn store_to_ask<'a, R: Files<File = File> + AllocGlobal>(
     store: &'a str,
 ) -> Result<AskedStore, Fault<'a>> {
     let names = Names::new(rt, store)?;
-    if is_absent(rt, names.store.as_str()) {
-        return Err(Fault::CannotRead(store));
+    if let Some(cause) = absence_of(rt, names.store.as_str()) {
+        return Err(Fault::CannotRead(store, cause));
     }
     sweep(rt, &names);
     open_asked(rt, &names)

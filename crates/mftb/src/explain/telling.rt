@@ -1,8 +1,7 @@
 //! What is said of a run, in words, on standard error.
-use crate::catalogued::catalogue_of;
-use crate::reach::{Reach, reach_of};
-use crate::reading::cause_of_reading;
-use crate::rects::NamedRect;
+use crate::explain::catalogued::catalogue_of;
+use crate::explain::reach::{Reach, reach_of};
+use crate::commands::rectangles::NamedRect;
 use arguments::{Moments, Task, Telling, Where};
 use catalogue::Catalogue;
 use legs::Box3;
@@ -335,8 +334,8 @@ fn tell_cause<R: rt::Files<File = File> + Eprint + AllocGlobal>(
     fault: &Fault,
 ) {
     match fault {
-        Fault::CannotRead(name) => {
-            let (name, cause) = (Shown(name), cause_of_reading(rt, name));
+        Fault::CannotRead(name, cause) => {
+            let name = Shown(name);
             let _ = eprintln!(rt; "mftb: {name}: {cause}");
         }
         Fault::Bounds(code) => {

@@ -1,5 +1,5 @@
 //! Rectangles, one of the command line or those of a file.
-use crate::bounds::{hold_words, rect_of};
+use crate::commands::bounds::{hold_words, rect_of};
 use arguments::Where;
 use csv::{ByteRecord, ReaderBuilder};
 use legs::Rect;

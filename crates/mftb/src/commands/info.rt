@@ -1,6 +1,6 @@
 //! `mftb info`: what a store holds.
-use crate::asked::{database_to_ask, store_to_ask};
-use crate::root::{Header, read_extent, read_header};
+use crate::commands::asking::{database_to_ask, store_to_ask};
+use crate::explain::root::{Header, read_extent, read_header};
 use arguments::Info;
 use legs::Box3;
 use outputs::Output;

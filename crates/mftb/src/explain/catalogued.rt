@@ -1,5 +1,5 @@
 //! What a store keeps beside its legs, as its file has it.
-use crate::held_file::HeldFile;
+use crate::system::file::HeldFile;
 use catalogue::{Catalogue, restore};
 use pagecache::PageCache;
 use pages::FileStore;

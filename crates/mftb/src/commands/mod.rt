@@ -1,0 +1,12 @@
+//! The commands, each in a file of its own, and what they share.
+pub(crate) mod asking;
+pub(crate) mod bounds;
+pub(crate) mod check;
+pub(crate) mod info;
+pub(crate) mod migrate;
+pub(crate) mod moments;
+pub(crate) mod part;
+pub(crate) mod parts;
+pub(crate) mod reading;
+pub(crate) mod rectangles;
+pub(crate) mod run;
