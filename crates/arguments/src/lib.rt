@@ -4,5 +4,8 @@
 mod task;
 mod words;
 
-pub use task::{Check, Info, Migrate, Moments, Part, Parts, RowKind, Run, Task, Telling, Where};
+pub use task::{
+    Check, Info, InfoForm, Migrate, Moments, Part, Parts, RowKind, Run, StoreMode, Task, Telling, Where,
+    WriteMode,
+};
 pub use words::read_words;

@@ -22,6 +22,33 @@ impl Telling {
     }
 }
 
+/// Whether a store that is absent is made.
+#[derive(Clone, Copy, PartialEq, Eq, Debug)]
+pub enum StoreMode {
+    /// It is made.
+    Made,
+    /// It is refused.
+    Existing,
+}
+
+/// Where a run writes.
+#[derive(Clone, Copy, PartialEq, Eq, Debug)]
+pub enum WriteMode {
+    /// Into a copy beside the store.
+    OnCopy,
+    /// Into the store as it lies there.
+    InPlace,
+}
+
+/// How a store is printed.
+#[derive(Clone, Copy, PartialEq, Eq, Debug)]
+pub enum InfoForm {
+    /// In lines for people.
+    Lines,
+    /// As one object of JSON.
+    Json,
+}
+
 /// What `mftb run` is asked to do.
 #[derive(Drop)]
 pub struct Run<'a> {
@@ -37,16 +64,16 @@ pub struct Run<'a> {
     pub script: &'a str,
     /// The names of the files that it may load.
     pub files: Vec<&'a str>,
-    /// Whether the store is written as it lies there.
-    pub in_place: bool,
+    /// Whether a store that is absent is made.
+    pub store_mode: StoreMode,
+    /// Where it writes.
+    pub write_mode: WriteMode,
     /// Whether it is said what the run is doing.
     pub progress: bool,
     /// When it is said why a line or a file was refused.
     pub telling: Telling,
     /// Whether a line or a file that is refused changes the status.
     pub is_strict: bool,
-    /// Whether a store that is absent is refused.
-    pub is_existing: bool,
 }
 
 /// What `mftb check` is asked to do.
@@ -137,8 +164,8 @@ pub struct Moments<'a> {
 pub struct Info<'a> {
     /// The name of the file that keeps the database.
     pub store: &'a str,
-    /// Whether it is printed as JSON.
-    pub is_json: bool,
+    /// How it is printed.
+    pub form: InfoForm,
 }
 
 /// What the program is asked to do.

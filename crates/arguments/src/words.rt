@@ -1,6 +1,7 @@
 //! The words of the command line.
 use crate::task::{
-    Check, Info, Migrate, Moments, Part, Parts, RowKind, Run, Task, Telling, Where,
+    Check, Info, InfoForm, Migrate, Moments, Part, Parts, RowKind, Run, StoreMode, Task, Telling,
+    Where, WriteMode,
 };
 use clap::builder::ValueParser;
 use clap::error::ErrorKind;
@@ -491,6 +492,24 @@ fn telling_of(matches: &ArgMatches) -> Telling {
     }
 }
 
+/// Whether a store that is absent is made.
+fn store_mode_of(matches: &ArgMatches) -> StoreMode {
+    if flag_of(matches, "existing") {
+        StoreMode::Existing
+    } else {
+        StoreMode::Made
+    }
+}
+
+/// Where a run writes.
+fn write_mode_of(matches: &ArgMatches) -> WriteMode {
+    if flag_of(matches, "in-place") {
+        WriteMode::InPlace
+    } else {
+        WriteMode::OnCopy
+    }
+}
+
 /// What `mftb run` is asked to do.
 fn run_of<'a>(alloc: Global, matches: &ArgMatches<'a>) -> Result<Run<'a>, Error> {
     let names = matches.get_strs("FILES").unwrap_or(&[]);
@@ -501,11 +520,11 @@ fn run_of<'a>(alloc: Global, matches: &ArgMatches<'a>) -> Result<Run<'a>, Error>
         most_features: matches.get_one("most-features"),
         script: word_of(matches, "SCRIPT"),
         files: Vec::from_slice(alloc, names)?,
-        in_place: flag_of(matches, "in-place"),
+        store_mode: store_mode_of(matches),
+        write_mode: write_mode_of(matches),
         progress: flag_of(matches, "progress"),
         telling: telling_of(matches),
         is_strict: flag_of(matches, "strict"),
-        is_existing: flag_of(matches, "existing"),
     })
 }
 
@@ -584,9 +603,14 @@ fn migrate_of<'a>(matches: &ArgMatches<'a>) -> Migrate<'a> {
 
 /// What `mftb info` is asked to do.
 fn info_of<'a>(matches: &ArgMatches<'a>) -> Info<'a> {
+    let form = if flag_of(matches, "json") {
+        InfoForm::Json
+    } else {
+        InfoForm::Lines
+    };
     Info {
         store: word_of(matches, "STORE"),
-        is_json: flag_of(matches, "json"),
+        form,
     }
 }
 

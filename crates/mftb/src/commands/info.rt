@@ -1,7 +1,7 @@
 //! `mftb info`: what a store holds.
 use crate::commands::asking::{database_to_ask, store_to_ask};
 use crate::explain::root::{Header, read_extent, read_header};
-use arguments::Info;
+use arguments::{Info, InfoForm};
 use legs::Box3;
 use outputs::Output;
 use pages::PageStore;
@@ -26,7 +26,7 @@ fn text_of<S: PageStore>(
     database: &Db<S>,
     pages: u32,
     seen: (Header, Option<Box3>),
-    is_json: bool,
+    form: InfoForm,
 ) -> Result<Vec<u8>, RunFault> {
     let (header, extent) = seen;
     let said = StoreReport {
@@ -39,10 +39,9 @@ fn text_of<S: PageStore>(
         extent,
     };
     let mut text = Vec::new(alloc);
-    if is_json {
-        push_json(&mut text, &said)?;
-    } else {
-        push_lines(&mut text, &said)?;
+    match form {
+        InfoForm::Json => push_json(&mut text, &said)?,
+        InfoForm::Lines => push_lines(&mut text, &said)?,
     }
     Ok(text)
 }
@@ -58,7 +57,7 @@ pub(crate) fn print_info<'a, R: Files<File = File> + AllocGlobal + RandomSource,
     let seen = look(&mut store);
     let database = database_to_ask(rt, store, CACHE_PAGES)?;
     let told = match seen {
-        Ok(seen) => match text_of(rt.alloc(), &database, pages, seen, task.is_json) {
+        Ok(seen) => match text_of(rt.alloc(), &database, pages, seen, task.form) {
             Ok(text) => Ok(text),
             Err(fault) => Err(Fault::Run(fault)),
         },

@@ -9,7 +9,7 @@ use crate::explain::reach::{Reach, limits_of, reach_of};
 use crate::commands::reading::read_files;
 use crate::system::folder::SystemFolder;
 use crate::explain::telling::{Given, tell, tell_made};
-use arguments::{Run, Telling};
+use arguments::{Run, StoreMode, Telling, WriteMode};
 use legs::Limits;
 use monitor::{Followed, Noted, Notes, Progress, Told};
 use outputs::Output;
@@ -153,7 +153,7 @@ fn outcome_of(is_strict: bool, refused: u64) -> Outcome {
 /// Runs the script over the store, in the way that it asks for.
 fn run_as_asked<'a, R: rt::Files<File = File> + rt::Clock + Eprint, O: Output>(
     rt: &R,
-    is_in_place: bool,
+    mode: WriteMode,
     work: &Work,
     progress: &Progress<'_, R>,
     out: &mut O,
@@ -165,7 +165,7 @@ fn run_as_asked<'a, R: rt::Files<File = File> + rt::Clock + Eprint, O: Output>(
     };
     if !how.is_new && !loads {
         ask(rt, work, progress, out)
-    } else if is_in_place || is_special(rt, work.names.store.as_str()) {
+    } else if mode == WriteMode::InPlace || is_special(rt, work.names.store.as_str()) {
         run_in_place(rt, work, progress, out)
     } else {
         run_beside(rt, work, progress, out)
@@ -222,7 +222,7 @@ fn read_work<'a, R: rt::Files<File = File> + AllocGlobal + RandomSource>(
         limits: limits(run),
         cache_pages: run.cache_pages.max(1),
     };
-    if how.is_new && run.is_existing {
+    if how.is_new && run.store_mode == StoreMode::Existing {
         return Err(Fault::NoSuchStore);
     }
     hold_limits(rt, run, names.store.as_str())?;
@@ -270,16 +270,17 @@ pub(crate) fn run<
     let is_told = run.telling.is_told(is_terminal);
     let is_empty = how.is_new || is_without_legs(rt, work.names.store.as_str(), is_told);
     let mut out = Followed::new(out, &progress, Notes::new(how.alloc, is_told, is_empty));
-    let ended = run_as_asked(rt, run.in_place, &work, &progress, &mut out);
+    let ended = run_as_asked(rt, run.write_mode, &work, &progress, &mut out);
     progress.clear();
     if let Some(fault) = unsaid(ended) {
         let fault = work.names.caused(fault);
         let _ = eprintln!(rt; "mftb: {fault}");
     }
-    let is_made = ended.kept.is_ok() && how.is_new && progress.loads() == 0;
+    let ended = said(ended);
+    let is_made = ended.is_ok() && how.is_new && progress.loads() == 0;
     if is_made && run.telling != Telling::Never {
         tell_made(rt, run.store);
     }
     let (out, notes) = out.into_parts();
-    (out, told(rt, run, &work, &notes, said(ended)))
+    (out, told(rt, run, &work, &notes, ended))
 }
