@@ -403,11 +403,7 @@ fn moments_words<'a>(bound: Form<'a>) -> [Word<'a>; 8] {
 /// The words of `mftb moments`.
 fn moments_command<'a>(alloc: Global, reading: Reading) -> Result<Command<'a>, AllocError> {
     let bound = reading.bound();
-    let store = [Word::new(
-        Form::Required,
-        "STORE",
-        "The file that keeps the database",
-    )];
+    let store = [Word::new(Form::Required, "STORE", "The file that keeps the database")];
     let about = "Prints when legs are inside a rectangle in a period, as exact fractions";
     let mut command = command(alloc, "moments", about, &store)?;
     if !reading.has_rects {

@@ -1,13 +1,13 @@
 //! The program, over any runtime and writers.
 use crate::commands::check::check;
-use crate::commands::part::print_part;
-use crate::commands::parts::write_parts;
 use crate::commands::info::print_info;
 use crate::commands::migrate::migrate;
-use crate::outcome::Outcome;
 use crate::commands::moments::print_moments;
+use crate::commands::part::print_part;
+use crate::commands::parts::write_parts;
 use crate::commands::run::run;
 use crate::explain::telling::Before;
+use crate::outcome::Outcome;
 use arguments::{Task, read_words};
 use clap::Error;
 use clap::error::ErrorKind;

@@ -27,8 +27,7 @@ goes_on visit stay =
 -- the visit with a stay more at its end
 abbrev pub visit_with : Visit → Stay → Visit
 visit_with visit stay =
-    record visit
-    {
+    record visit {
       leaves = stay.leaves;
       exit = stay.exit;
       leaves_by = stay.leaves_by;

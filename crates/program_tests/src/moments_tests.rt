@@ -58,10 +58,7 @@ fn a_leg_touches_the_end_of_a_line(rt: HostRuntime) -> Result<(), Fail> {
     assert_eq!(rt; parts(stay.enters), (90_000, 7, 12_857_142, 12_857_143));
     assert_eq!(rt; stay.leaves, stay.enters);
     assert!(rt; stay.entry == place(&rt, -603_000_000, 0));
-    assert_eq!(rt;
-        (stay.enters_by, stay.leaves_by),
-        (End::Edge, End::Edge)
-    );
+    assert_eq!(rt; (stay.enters_by, stay.leaves_by), (End::Edge, End::Edge));
     Ok(())
 }
 

@@ -4,7 +4,8 @@ use outputs::CountedOutput;
 use pages::{Fuse, MemStore};
 use querylang::LineCode;
 use sessions::{
-    Cause, Fault, MOST_BYTES, MOST_FEATURES, MOST_LEGS, Opening, RectsFault, answer, database, read_named,
+    Cause, Fault, MOST_BYTES, MOST_FEATURES, MOST_LEGS, Opening, RectsFault, answer, database,
+    read_named,
 };
 use std::fs;
 use std::hash::RandomState;

@@ -143,7 +143,10 @@ impl Display for Fault<'_> {
             Fault::InUse => f.write_str("store in use"),
             Fault::NoSuchStore => f.write_str("no such store"),
             Fault::OtherLimits(legs, features) => {
-                write!(f, "other limits: the store takes {legs} legs and {features} features")
+                write!(
+                    f,
+                    "other limits: the store takes {legs} legs and {features} features"
+                )
             }
             Fault::Bounds(code) => f.write_str(bounds_text(*code)),
             Fault::Rects(record, why) => {

@@ -33,4 +33,6 @@ pub use part_files::{PartFolder, put_parts};
 pub use read_only::ReadOnly;
 pub use reading::{MOST_BYTES, read_named};
 pub use rects_fault::RectsFault;
-pub use session::{CACHE_PAGES, MOST_FEATURES, MOST_LEGS, Opening, answer, database, run_and_close};
+pub use session::{
+    CACHE_PAGES, MOST_FEATURES, MOST_LEGS, Opening, answer, database, run_and_close,
+};

@@ -8,7 +8,11 @@ use trajdb::RunFault;
 
 /// Whether what was written is one word of a line.
 fn is_word(text: &str) -> bool {
-    !text.is_empty() && !text.as_bytes().iter().any(|byte| byte.is_ascii_whitespace())
+    !text.is_empty()
+        && !text
+            .as_bytes()
+            .iter()
+            .any(|byte| byte.is_ascii_whitespace())
 }
 
 /// Refuses texts of which one is no word.

@@ -1,21 +1,22 @@
 //! `mftb run`: a script over the database that a file keeps.
 ghost use Rattle.std.specs.Prelude.{◌<◌};
 
+use crate::commands::reading::read_files;
+use crate::explain::reach::{Reach, limits_of, reach_of};
+use crate::explain::telling::{Given, tell, tell_made};
+use crate::outcome::Outcome;
+use crate::system::folder::SystemFolder;
 use crate::system::locks::hold_name;
 use crate::system::names::Names;
 use crate::system::opening::{is_absent, is_special, open_asked, open_in_place, sweep};
-use crate::outcome::Outcome;
-use crate::explain::reach::{Reach, limits_of, reach_of};
-use crate::commands::reading::read_files;
-use crate::system::folder::SystemFolder;
-use crate::explain::telling::{Given, tell, tell_made};
 use arguments::{Run, StoreMode, Telling, WriteMode};
 use legs::Limits;
 use monitor::{Followed, Noted, Notes, Progress, Told};
 use outputs::Output;
 use pages::PageStore;
 use sessions::{
-    Ended, Fault, MOST_BYTES, MOST_FEATURES, MOST_LEGS, Opening, answer, database, read_named, run_on_copy,
+    Ended, Fault, MOST_BYTES, MOST_FEATURES, MOST_LEGS, Opening, answer, database, read_named,
+    run_on_copy,
 };
 use std::fs::File;
 use std::hash::RandomState;
@@ -186,8 +187,11 @@ fn limits(run: &Run<'_>) -> Limits {
 
 /// Whether a run asks for limits that are not these.
 fn asks_for_others(run: &Run<'_>, limits: Limits) -> bool {
-    run.most_legs.is_some_and(|most| u64::from(most) != limits.legs())
-        || run.most_features.is_some_and(|most| most != limits.features())
+    run.most_legs
+        .is_some_and(|most| u64::from(most) != limits.legs())
+        || run
+            .most_features
+            .is_some_and(|most| most != limits.features())
 }
 
 /// Refuses a store that is there, where a run asks for other limits than it has.

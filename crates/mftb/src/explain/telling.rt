@@ -1,7 +1,7 @@
 //! What is said of a run, in words, on standard error.
+use crate::commands::rectangles::NamedRect;
 use crate::explain::catalogued::catalogue_of;
 use crate::explain::reach::{Reach, reach_of};
-use crate::commands::rectangles::NamedRect;
 use arguments::{Moments, Task, Telling, Where};
 use catalogue::Catalogue;
 use legs::Box3;
