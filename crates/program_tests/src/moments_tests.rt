@@ -62,8 +62,9 @@ fn a_leg_touches_the_end_of_a_line(rt: HostRuntime) -> Result<(), Fail> {
     Ok(())
 }
 
-/// What legs make: how many stays, visits and dwells; what begins and ends the first stay and the first visit; the parts of the first visit;
-/// whose the first two visits are, and of how many legs; and how long both dwells are at least and at most.
+/// What legs make: how many stays, visits and dwells; what begins and ends the first stay and the first visit; the parts
+/// of the first visit; whose the first two visits are, and of how many legs; and how long both dwells are at least and at
+/// most.
 #[derive(Clone, Copy, PartialEq, Eq, Debug)]
 struct Made {
     counts: [usize; 3],

@@ -94,6 +94,7 @@ fn push_quoted(alloc: Global, text: &mut Vec<u8>, name: &str) -> Result<(), RunF
 
 /// Appends the field that stands before each record of a rectangle of that name, and a comma.
 pub fn push_label(alloc: Global, text: &mut Vec<u8>, name: &str) -> Result<(), RunFault>
+    // It is refused for want of memory alone, and else quoted where CSV needs it.
     ensures fault { IfErr result (λ fault. fault ≡ RunFault.Memory) }
     ensures text { OnOk result (text.new.items ≡ text.old.items ++ label_text name.now) }
 {
@@ -236,8 +237,8 @@ pub fn push_fields(
     first: &str,
     dimension: Dimension,
     others: &str,
-) -> Result<(), RunFault>
-    ensures fault { IfErr result (λ fault. fault ≡ RunFault.Memory) }
+) -> Result<(), AllocError>
+    // They are those of the records behind it.
     ensures text { OnOk result (text.new.items
         ≡ text.old.items ++ fields_text first.now dimension others.now) }
 {
@@ -245,7 +246,7 @@ pub fn push_fields(
     text.extend_from_slice(b",enters,leaves,enters_at,leaves_at")?;
     push_word(text, position_fields(dimension))?;
     push_word(text, others)?;
-    Ok(text.push(b'\n')?)
+    text.push(b'\n')
 }
 
 /// Appends what a first and a last moment are, each behind a comma.
@@ -361,12 +362,12 @@ fn push_seconds(text: &mut Vec<u8>, micros: u64) -> Result<(), RunFault>
 
 /// Appends the line that names the fields of dwells, of which `first` are the first.
 #[tactic(auto, unfolding(crate::specs::StayTexts::dwell_fields))]
-pub fn push_dwell_fields(text: &mut Vec<u8>, first: &str) -> Result<(), RunFault>
-    ensures fault { IfErr result (λ fault. fault ≡ RunFault.Memory) }
+pub fn push_dwell_fields(text: &mut Vec<u8>, first: &str) -> Result<(), AllocError>
+    // They are those of the records behind it.
     ensures text { OnOk result (text.new.items ≡ text.old.items ++ dwell_fields first.now) }
 {
     text.extend_from_slice(first.as_bytes())?;
-    Ok(text.extend_from_slice(b",visits,least,most\n")?)
+    text.extend_from_slice(b",visits,least,most\n")
 }
 
 /// Appends the record of a feature's visits.

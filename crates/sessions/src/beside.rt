@@ -110,9 +110,11 @@ pub fn run_on_copy<'a, F: Folder, O: Output>(
     ensures gone { F.has_copy folder.new ≡ false }
     ensures refuses_none { OnOk result.kept (F.refusals folder.new ≡ F.refusals folder.old) }
 
-    // Where it is not kept the name stands for what it stood for, all along; and that is so where the
-    // folder refused, there is no database, a load of a file failed, or the database was not closed.
+    // Where it is not kept the name stands for what it stood for, all along.
     ensures stays { OnErr result.kept (F.held folder.new ≡ F.held folder.old) }
+
+    // It is not kept only where the folder refused, there is no database, a load of a file failed, or
+    // the database was not closed.
     ensures dropped { IfErr result.kept (λ fault. IfSome (F.held folder.old)
         (λ past. (shape : ShapeView) (limits : LimitsView) (book : Book)
         → BeginsWith how.now.is_new how.now.limits (store_in past) shape limits book
