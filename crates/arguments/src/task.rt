@@ -159,6 +159,19 @@ pub struct Moments<'a> {
     pub telling: Telling,
 }
 
+/// What `mftb gaps` is asked to do.
+#[derive(Clone, Copy)]
+pub struct Gaps<'a> {
+    /// The name of the file that keeps the database.
+    pub store: &'a str,
+    /// How many pages its cache holds at most, at least 1.
+    pub cache_pages: u32,
+    /// T1 and T2, as they were written.
+    pub times: [&'a str; 2],
+    /// When it is said why it could not be read.
+    pub telling: Telling,
+}
+
 /// What `mftb info` is asked to do.
 #[derive(Clone, Copy)]
 pub struct Info<'a> {
@@ -183,6 +196,8 @@ pub enum Task<'a> {
     Parts(Parts<'a>),
     /// To say when legs are inside a rectangle.
     Moments(Moments<'a>),
+    /// To say when features have no position.
+    Gaps(Gaps<'a>),
     /// To say what a store holds.
     Info(Info<'a>),
 }

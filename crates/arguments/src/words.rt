@@ -1,7 +1,7 @@
 //! The words of the command line.
 use crate::task::{
-    Check, Info, InfoForm, Migrate, Moments, Part, Parts, RowKind, Run, StoreMode, Task, Telling,
-    Where, WriteMode,
+    Check, Gaps, Info, InfoForm, Migrate, Moments, Part, Parts, RowKind, Run, StoreMode, Task,
+    Telling, Where, WriteMode,
 };
 use clap::builder::ValueParser;
 use clap::error::ErrorKind;
@@ -412,6 +412,24 @@ fn moments_command<'a>(alloc: Global, reading: Reading) -> Result<Command<'a>, A
     with_words(alloc, command, &moments_words(bound))
 }
 
+/// The words of `mftb gaps`.
+fn gaps_command<'a>(alloc: Global) -> Result<Command<'a>, AllocError> {
+    let words = [
+        Word::new(Form::Required, "STORE", "The file that keeps the database"),
+        Word::new(
+            Form::Required,
+            "T1",
+            "The first moment, as 2012-01-17T12:33:41Z",
+        ),
+        Word::new(Form::Required, "T2", "The last moment"),
+        cache_pages(),
+        explain(),
+        quiet(),
+    ];
+    let about = "Prints when features have no position: the times between their legs";
+    command(alloc, "gaps", about, &words)
+}
+
 /// The words of `mftb info`.
 fn info_command<'a>(alloc: Global) -> Result<Command<'a>, AllocError> {
     let words = [
@@ -443,6 +461,7 @@ fn mftb<'a>(alloc: Global, reading: Reading) -> Result<Command<'a>, AllocError> 
         .subcommand(part_command(alloc)?)?
         .subcommand(parts_command(alloc)?)?
         .subcommand(moments_command(alloc, reading)?)?
+        .subcommand(gaps_command(alloc)?)?
         .subcommand(info_command(alloc)?)
 }
 
@@ -597,6 +616,16 @@ fn migrate_of<'a>(matches: &ArgMatches<'a>) -> Migrate<'a> {
     }
 }
 
+/// What `mftb gaps` is asked to do.
+fn gaps_of<'a>(matches: &ArgMatches<'a>) -> Gaps<'a> {
+    Gaps {
+        store: word_of(matches, "STORE"),
+        cache_pages: number_of(matches, "cache-pages", CACHE_PAGES),
+        times: [word_of(matches, "T1"), word_of(matches, "T2")],
+        telling: telling_of(matches),
+    }
+}
+
 /// What `mftb info` is asked to do.
 fn info_of<'a>(matches: &ArgMatches<'a>) -> Info<'a> {
     let form = if flag_of(matches, "json") {
@@ -664,6 +693,7 @@ fn task_of<'a>(alloc: Global, name: &str, matches: &ArgMatches<'a>) -> Result<Ta
         "part" => Task::Part(part_of(matches)),
         "parts" => Task::Parts(parts_of(matches)),
         "moments" => Task::Moments(moments_of(matches)),
+        "gaps" => Task::Gaps(gaps_of(matches)),
         "info" => Task::Info(info_of(matches)),
         _ => Task::Run(run_of(alloc, matches)?),
     })

@@ -1,5 +1,6 @@
 //! The program, over any runtime and writers.
 use crate::commands::check::check;
+use crate::commands::gaps::print_gaps;
 use crate::commands::info::print_info;
 use crate::commands::migrate::migrate;
 use crate::commands::moments::print_moments;
@@ -39,6 +40,7 @@ fn perform<
         Task::Part(task) => print_part(rt, task, &mut out),
         Task::Parts(task) => write_parts(rt, task),
         Task::Moments(task) => print_moments(rt, task, &mut out, is_terminal),
+        Task::Gaps(task) => print_gaps(rt, task, &mut out),
         Task::Info(task) => print_info(rt, task, &mut out),
     };
     (out, done(ended))

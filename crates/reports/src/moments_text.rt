@@ -58,7 +58,7 @@ fn push_three_digits(text: &mut Vec<u8>, number: u64) -> Result<(), AllocError>
 }
 
 /// Appends a comma and a word.
-fn push_word(text: &mut Vec<u8>, word: &str) -> Result<(), AllocError>
+pub(crate) fn push_word(text: &mut Vec<u8>, word: &str) -> Result<(), AllocError>
     ensures { OnOk result (text.new.items ≡ text.old.items ++ next_field word.now) }
 {
     text.push(b',')?;
@@ -120,7 +120,7 @@ fn push_labelled<S: PageStore>(
 }
 
 /// Appends the name of a feature.
-fn push_name<S: PageStore>(
+pub(crate) fn push_name<S: PageStore>(
     alloc: Global,
     text: &mut Vec<u8>,
     database: &Db<S>,
@@ -204,7 +204,7 @@ fn push_next_coord(text: &mut Vec<u8>, coord: Coord) -> Result<(), AllocError>
 
 /// Appends a comma and each coordinate of a position.
 #[tactic(auto, unfolding(crate::specs::StayTexts::position_text))]
-fn push_position(
+pub(crate) fn push_position(
     text: &mut Vec<u8>,
     dimension: Dimension,
     position: Position,
@@ -221,7 +221,7 @@ fn push_position(
 }
 
 /// The names of the fields of two positions.
-fn position_fields(dimension: Dimension) -> &'static str
+pub(crate) fn position_fields(dimension: Dimension) -> &'static str
     ensures { result.now ≡ position_fields dimension }
 {
     match dimension {

@@ -2,6 +2,7 @@
 pub(crate) mod asking;
 pub(crate) mod bounds;
 pub(crate) mod check;
+pub(crate) mod gaps;
 pub(crate) mod info;
 pub(crate) mod migrate;
 pub(crate) mod moments;
