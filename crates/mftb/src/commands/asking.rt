@@ -4,6 +4,7 @@ use crate::system::names::Names;
 use crate::system::opening::{absence_of, open_asked, sweep};
 use pages::{FileStore, PageStore};
 use sessions::{Fault, ReadOnly};
+use std::alloc::Global;
 use std::fs::File;
 use std::hash::RandomState;
 use std::random::RandomSource;
@@ -39,4 +40,16 @@ pub(crate) fn database_to_ask<'a, R: AllocGlobal + RandomSource, S: PageStore + 
         Ok(database) => Ok(database),
         Err((_store, fault)) => Err(Fault::Open(fault)),
     }
+}
+
+/// Closes a database that was asked, and gives what it told.
+pub(crate) fn told<'a, S: PageStore + Drop, T: Drop>(
+    alloc: Global,
+    database: Db<S>,
+    told: Result<T, RunFault>,
+) -> Result<T, Fault<'a>> {
+    let (_store, closed) = database.close(alloc);
+    let told = told?;
+    closed?;
+    Ok(told)
 }

@@ -1,5 +1,5 @@
 //! `mftb gaps`: times without a position, by feature.
-use crate::commands::asking::{database_to_ask, store_to_ask};
+use crate::commands::asking::{database_to_ask, store_to_ask, told};
 use crate::commands::bounds::{hold_words, period_of};
 use arguments::Gaps;
 use fixedpoint::Coord;
@@ -67,14 +67,7 @@ pub(crate) fn print_gaps<'a, R: Files<File = File> + AllocGlobal + RandomSource,
     let period = period_of(task.times)?;
     let store = store_to_ask(rt, task.store)?;
     let mut database = database_to_ask(rt, store, task.cache_pages)?;
-    let told = text_of(rt.alloc(), &mut database, &period);
-    let (_store, closed) = database.close(rt.alloc());
-    let told = match told {
-        Ok(told) => told,
-        Err(fault) => return Err(Fault::Run(fault)),
-    };
-    if let Err(fault) = closed {
-        return Err(Fault::Run(fault));
-    }
+    let text = text_of(rt.alloc(), &mut database, &period);
+    let told = told(rt.alloc(), database, text)?;
     send_all(out, &told)
 }

@@ -1,5 +1,5 @@
 //! `mftb moments`: when legs are inside rectangles in a period.
-use crate::commands::asking::{database_to_ask, store_to_ask};
+use crate::commands::asking::{database_to_ask, store_to_ask, told};
 use crate::commands::bounds::{hold_words, period_of};
 use crate::commands::rectangles::{NamedRect, rects_of};
 use crate::explain::telling::tell_elsewhere;
@@ -144,15 +144,8 @@ pub(crate) fn print_moments<
     };
     let store = store_to_ask(rt, task.store)?;
     let mut database = database_to_ask(rt, store, task.cache_pages)?;
-    let told = asked.ask(&mut database, &rects);
-    let (_store, closed) = database.close(rt.alloc());
-    let told = match told {
-        Ok(told) => told,
-        Err(fault) => return Err(Fault::Run(fault)),
-    };
-    if let Err(fault) = closed {
-        return Err(Fault::Run(fault));
-    }
+    let answer = asked.ask(&mut database, &rects);
+    let told = told(rt.alloc(), database, answer)?;
     send_all(out, &told.text)?;
     if task.telling.is_told(is_terminal) {
         tell_elsewhere(rt, task.store, &asked.period, &rects, &told.empty);

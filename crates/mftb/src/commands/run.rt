@@ -59,15 +59,21 @@ fn unsaid<'a>(ended: Ended<'a>) -> Option<Fault<'a>> {
     }
 }
 
-/// Runs the script over a store as it lies there, as `sessions::answer` does. The store is given back.
-fn run_over<'a, S: PageStore + Drop, O: Output>(
-    store: S,
+/// Runs the script over a store that was opened, as `sessions::answer` does; or is refused as that was.
+fn run_over<'a, S: PageStore + Drop, R: rt::Clock + Eprint, O: Output>(
+    opened: Result<S, Fault<'a>>,
     work: &Work,
+    progress: &Progress<'_, R>,
     out: &mut O,
-) -> (S, Ended<'a>) {
+) -> Ended<'a> {
+    let store = match opened {
+        Ok(store) => store,
+        Err(fault) => return refused(fault),
+    };
     let how = &work.how;
-    let opened = database(how, store);
-    answer(how.alloc, opened, &work.script, &work.files, out)
+    let opened = database(how, Noted::new(store, progress));
+    let (_store, ended) = answer(how.alloc, opened, &work.script, &work.files, out);
+    ended
 }
 
 /// Runs a script that only asks over a store that is there. It is opened to be read alone.
@@ -78,29 +84,7 @@ fn ask<'a, R: rt::Files<File = File> + rt::Clock + Eprint, O: Output>(
     out: &mut O,
 ) -> Ended<'a> {
     sweep(rt, &work.names);
-    match open_asked(rt, &work.names) {
-        Ok(store) => {
-            let (_store, ended) = run_over(Noted::new(store, progress), work, out);
-            ended
-        }
-        Err(fault) => refused(fault),
-    }
-}
-
-/// Runs a script that may write over a store that is opened as it lies there.
-fn open_and_run<'a, R: rt::Files<File = File> + rt::Clock + Eprint, O: Output>(
-    rt: &R,
-    work: &Work,
-    progress: &Progress<'_, R>,
-    out: &mut O,
-) -> Ended<'a> {
-    match open_in_place(rt, &work.names) {
-        Ok(store) => {
-            let (_store, ended) = run_over(Noted::new(store, progress), work, out);
-            ended
-        }
-        Err(fault) => refused(fault),
-    }
+    run_over(open_asked(rt, &work.names), work, progress, out)
 }
 
 /// Runs a script that may write over the store as it lies there. Where the folder may not be written,
@@ -116,7 +100,7 @@ fn run_in_place<'a, R: rt::Files<File = File> + rt::Clock + Eprint, O: Output>(
         Err(Fault::InUse) => return refused(Fault::InUse),
         held => held.ok(),
     };
-    let ended = open_and_run(rt, work, progress, out);
+    let ended = run_over(open_in_place(rt, names), work, progress, out);
     if let Some(lock) = lock {
         if lock.is_locked {
             let _ = fs::remove_file(rt, names.copy.as_str());
