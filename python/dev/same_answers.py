@@ -61,10 +61,11 @@ T1, T2 = "2020-01-01T00:00:00Z", "2020-01-01T00:01:00Z"
 WRONG = [
     *([], ["chart"], ["--version"], ["--help"], ["run"], ["run", "sound"]),
     *(["info", "--jsn", "sound"], ["check", "-q", "--explain", "sound"], ["moments", "--visits", "--dwell", "sound"]),
+    *(["run", "--cache-pages", "0", "sound", "s1.txt"], ["run", "--progress", "sound", "s1.txt", "absent.csv"]),
 ]
 STORES = ["sound", "small", "bent", "cut", "letter", "bytes", "absent", "none/store", "folder", "former"]
 FLAGS = {
-    "run": ["--explain", "-q", "--strict", "--existing", "--in-place", "--cache-pages 1", "--cache-pages 0"],
+    "run": ["--explain", "-q", "--strict", "--existing", "--in-place", "--cache-pages 1"],
     "check": ["--explain", "-q", "--cache-pages 2"],
     "moments": ["--explain", "-q", "--visits", "--dwell", "--cache-pages 1"],
     "info": ["--json"],
