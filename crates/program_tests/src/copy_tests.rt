@@ -33,14 +33,14 @@ fn files(alloc: Global) -> Result<Files, Fail> {
     Ok(files)
 }
 
-/// How a run of a script over the folder ends, with one page in memory, and an output that takes as many bytes as there
-/// are in `room`.
+/// How a run of a script over the folder ends, with one page in memory and an output that takes so many bytes, and what
+/// that took.
 fn ends(
     rt: &HostRuntime,
     folder: &mut MemFolder,
-    script: &[u8],
-    room: &mut [u8],
-) -> Result<Ended<'static>, Fail> {
+    script: &str,
+    room: usize,
+) -> Result<(Ended<'static>, [u8; ROOM]), Fail> {
     let how = Opening {
         alloc: rt.alloc(),
         keys: RandomState::new(rt)?,
@@ -49,15 +49,16 @@ fn ends(
         cache_pages: 1,
     };
     let files = files(rt.alloc())?;
-    let mut left = room;
+    let mut taken = [0u8; ROOM];
+    let mut left = &mut taken[..room.min(ROOM)];
     let mut output = CountedOutput::new(&mut left);
-    Ok(run_on_copy(folder, &how, script, &files, &mut output))
+    let ended = run_on_copy(folder, &how, script.as_bytes(), &files, &mut output);
+    Ok((ended, taken))
 }
 
 /// Whether a script is run over the folder, and what it did is kept.
-fn runs(rt: &HostRuntime, folder: &mut MemFolder, script: &[u8]) -> Result<bool, Fail> {
-    let mut room = [0u8; ROOM];
-    let ended = ends(rt, folder, script, &mut room)?;
+fn runs(rt: &HostRuntime, folder: &mut MemFolder, script: &str) -> Result<bool, Fail> {
+    let (ended, _) = ends(rt, folder, script, ROOM)?;
     Ok(ended.ran.is_ok() && ended.kept.is_ok())
 }
 
@@ -68,7 +69,7 @@ const LOADS: [&str; 2] = ["load first\n", "load second\n"];
 fn loaded(rt: &HostRuntime, loads: usize) -> Result<MemFolder, Fail> {
     let mut folder = MemFolder::new(rt.alloc(), Calls::new(u64::MAX));
     for script in LOADS.iter().take(loads) {
-        if !runs(rt, &mut folder, script.as_bytes())? {
+        if !runs(rt, &mut folder, script)? {
             return Err("a load is refused".into());
         }
     }
@@ -87,7 +88,7 @@ fn loads(rt: &HostRuntime, before: usize, calls: u64) -> Result<bool, Fail> {
     let mut folder = loaded(rt, before)?;
     folder.set_calls(Calls::new(calls));
     let script = LOADS.get(before).unwrap_or(&"");
-    if !runs(rt, &mut folder, script.as_bytes())? {
+    if !runs(rt, &mut folder, script)? {
         return match is_as(&folder, &loaded(rt, before)?) {
             true => Ok(false),
             false => Err("a refused load is seen".into()),
@@ -118,22 +119,21 @@ fn each_call_of_a_load_fails_in_turn(rt: HostRuntime) -> Result<(), Fail> {
 }
 
 /// A script whose answers have 11, 9 and 11 bytes.
-const SCRIPT: &[u8] = b"load first\ncount\nload second\n";
+const SCRIPT: &str = "load first\ncount\nload second\n";
 
 /// Bytes for which an output has room, and what the store counts then: a load is done before it is answered.
-const ROOMS: [(usize, &[u8]); 6] = [
-    (0, b"ok 1\n2,2\n"),
-    (10, b"ok 1\n2,2\n"),
-    (11, b"ok 1\n2,2\n"),
-    (20, b"ok 1\n3,3\n"),
-    (30, b"ok 1\n3,3\n"),
-    (31, b"ok 1\n3,3\n"),
+const ROOMS: [(usize, &str); 6] = [
+    (0, "ok 1\n2,2\n"),
+    (10, "ok 1\n2,2\n"),
+    (11, "ok 1\n2,2\n"),
+    (20, "ok 1\n3,3\n"),
+    (30, "ok 1\n3,3\n"),
+    (31, "ok 1\n3,3\n"),
 ];
 
 /// Whether a run stops for its output where that has no room for all answers, and what it did is kept.
 fn stops(rt: &HostRuntime, folder: &mut MemFolder, room: usize) -> Result<bool, Fail> {
-    let mut taken = [0u8; ROOM];
-    let ended = ends(rt, folder, SCRIPT, &mut taken[..room])?;
+    let (ended, _) = ends(rt, folder, SCRIPT, room)?;
     let is_said = match ended.ran {
         Ok(()) => room == 31,
         Err(fault) => room < 31 && fault == Fault::Run(RunFault::Output),
@@ -141,14 +141,19 @@ fn stops(rt: &HostRuntime, folder: &mut MemFolder, room: usize) -> Result<bool, 
     Ok(is_said && ended.kept.is_ok() && folder.given() == 1 && !folder.has_copy())
 }
 
+/// Whether the store of a folder counts so.
+fn counts(rt: &HostRuntime, folder: &mut MemFolder, text: &str) -> Result<bool, Fail> {
+    let (ended, taken) = ends(rt, folder, "count\n", ROOM)?;
+    let front = &taken[..9];
+    Ok(ended.ran.is_ok() && front == text.as_bytes())
+}
+
 #[test]
 fn what_was_done_is_kept_where_the_output_fails(rt: HostRuntime) -> Result<(), Fail> {
-    for (room, counts) in &ROOMS {
+    for (room, text) in &ROOMS {
         let mut folder = MemFolder::new(rt.alloc(), Calls::new(u64::MAX));
         assert!(rt; stops(&rt, &mut folder, *room)?);
-        let mut taken = [0u8; 9];
-        let ended = ends(&rt, &mut folder, b"count\n", &mut taken)?;
-        assert!(rt; ended.ran.is_ok() && taken.as_slice() == *counts);
+        assert!(rt; counts(&rt, &mut folder, text)?);
     }
     Ok(())
 }

@@ -4,7 +4,6 @@ use crate::commands::bounds::{hold_words, period_of};
 use crate::commands::rectangles::{NamedRect, rects_of};
 use crate::explain::telling::tell_elsewhere;
 use arguments::{Moments, RowKind, Where};
-use legs::Rect;
 use mfcsv::Dimension;
 use moments::{Stay, dwells_of, stays, visits_of};
 use outputs::Output;
@@ -13,7 +12,7 @@ use reports::{
     Frame, push_dwell_fields, push_dwells, push_fields, push_label, push_stays, push_visits,
 };
 use sessions::{Fault, send_all};
-use std::alloc::{AllocError, Global};
+use std::alloc::Global;
 use std::fs::File;
 use std::io::Eprint;
 use std::random::RandomSource;
@@ -116,9 +115,9 @@ impl Asked {
         let dimension = frame_of(database, b"").dimension;
         let (mut text, mut empty) = (self.heading(dimension)?, Vec::new(self.alloc));
         for place in 0..rects.len() {
-            let NamedRect { name, rect } = &rects[place];
-            let label = self.label(name.as_str())?;
-            let stays = stays(database, self.alloc, rect, &self.period)?;
+            let asked = &rects[place];
+            let label = self.label(asked.name.as_str())?;
+            let stays = stays(database, self.alloc, &asked.rect, &self.period)?;
             self.push(&mut text, database, &label, &stays)?;
             if stays.is_empty() {
                 empty.push(place)?;

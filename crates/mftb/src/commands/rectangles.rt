@@ -112,7 +112,7 @@ impl Rects {
 
     /// Takes the record of that number in: the first one names the columns.
     fn take<'a>(&mut self, number: u64, record: &ByteRecord) -> Result<(), Fault<'a>> {
-        let refused = |why| Fault::Rects(number, why);
+        let refused = |why: RectsFault| Fault::Rects(number, why);
         let Some(columns) = self.columns else {
             self.columns = Some(columns_of(record).map_err(refused)?);
             return Ok(());
@@ -155,7 +155,7 @@ pub(crate) fn rects_of<'a, R: rt::Files + AllocGlobal>(
 ) -> Result<Vec<NamedRect>, Fault<'a>> {
     let alloc = rt.alloc();
     match place {
-        Where::Rects(file) => rects_in(alloc, &read_named(rt, file, MOST_BYTES)?),
+        Where::Rects(file) => rects_in(alloc, &read_named(rt, *file, MOST_BYTES)?),
         Where::Rect(corners) => {
             hold_words(corners)?;
             let rect = match rect_of(*corners) {
@@ -163,7 +163,7 @@ pub(crate) fn rects_of<'a, R: rt::Files + AllocGlobal>(
                 Err(code) => return Err(Fault::Bounds(code)),
             };
             let mut rects = Vec::new(alloc);
-            let name = String::new(alloc);
+            let name = String::from_str(alloc, "")?;
             rects.push(NamedRect { name, rect })?;
             Ok(rects)
         }

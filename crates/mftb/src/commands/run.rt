@@ -1,5 +1,5 @@
 //! `mftb run`: a script over the database that a file keeps.
-ghost use Rattle.std.specs.Prelude.{◌<◌};
+ghost use Rattle.std.specs.Prelude.{◌<◌, ◌≤◌, ◌^◌};
 
 use crate::commands::reading::read_files;
 use crate::explain::reach::{Reach, limits_of, reach_of};
@@ -162,20 +162,42 @@ fn is_without_legs<R: rt::Files<File = File>>(rt: &R, name: &str, is_told: bool)
     is_told && reach_of(rt, name) == Reach::Nowhere
 }
 
+/// A limit, from 1 to 2^31, as it is read from the words.
+fn within(limit: u64) -> u64
+    ensures least { 1 ≤ result }
+    ensures most { result ≤ 2 ^ 31 }
+{
+    if limit < 1 {
+        1
+    } else if limit > 1 << 31 {
+        1 << 31
+    } else {
+        limit
+    }
+}
+
 /// How much a store may hold that a run makes.
 fn limits(run: &Run<'_>) -> Limits {
-    let legs = run.most_legs.map_or(MOST_LEGS, u64::from);
-    let features = run.most_features.unwrap_or(MOST_FEATURES);
-    Limits::new(legs.clamp(1, 1 << 31), features.clamp(1, 1 << 31)).unwrap()
+    let legs = match run.most_legs {
+        Some(most) => u64::from(most),
+        None => MOST_LEGS,
+    };
+    let features = u64::from(run.most_features.unwrap_or(MOST_FEATURES));
+    Limits::new(within(legs), within(features) as u32).unwrap()
+}
+
+/// Whether a limit is asked for that a store does not have.
+fn is_other(asked: Option<u32>, limit: u64) -> bool {
+    match asked {
+        Some(most) => u64::from(most) != limit,
+        None => false,
+    }
 }
 
 /// Whether a run asks for limits that are not these.
 fn asks_for_others(run: &Run<'_>, limits: Limits) -> bool {
-    run.most_legs
-        .is_some_and(|most| u64::from(most) != limits.legs())
-        || run
-            .most_features
-            .is_some_and(|most| most != limits.features())
+    is_other(run.most_legs, limits.legs())
+        || is_other(run.most_features, u64::from(limits.features()))
 }
 
 /// Refuses a store that is there, where a run asks for other limits than it has.
