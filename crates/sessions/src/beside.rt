@@ -140,8 +140,10 @@ pub fn run_on_copy<'a, F: Folder, O: Output>(
             };
         }
     };
-    let (store, ended) = answer(how.alloc, database(how, store), script, files, out);
-    match ended.kept {
+    let database = database(how, store);
+    let (store, ended) = answer(how.alloc, database, script, files, out);
+    let closed = ended.kept;
+    match closed {
         Ok(()) => Ended {
             ran: ended.ran,
             kept: keep(folder, store),
