@@ -246,7 +246,7 @@ pub fn push_fields(
     text.extend_from_slice(b",enters,leaves,enters_at,leaves_at")?;
     push_word(text, position_fields(dimension))?;
     push_word(text, others)?;
-    text.push(b'\n')
+    Ok(text.push(b'\n')?)
 }
 
 /// Appends what a first and a last moment are, each behind a comma.

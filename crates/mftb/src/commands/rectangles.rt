@@ -148,6 +148,14 @@ fn rects_in<'a>(alloc: Global, bytes: &[u8]) -> Result<Vec<NamedRect>, Fault<'a>
     }
 }
 
+/// The rectangle of the command line, which has no name.
+fn alone(alloc: Global, rect: Rect) -> Result<Vec<NamedRect>, AllocError> {
+    let name = String::from_str(alloc, "")?;
+    let mut rects = Vec::new(alloc);
+    rects.push(NamedRect { name, rect })?;
+    Ok(rects)
+}
+
 /// The rectangles that are asked of.
 pub(crate) fn rects_of<'a, R: rt::Files + AllocGlobal>(
     rt: &R,
@@ -162,10 +170,7 @@ pub(crate) fn rects_of<'a, R: rt::Files + AllocGlobal>(
                 Ok(rect) => rect,
                 Err(code) => return Err(Fault::Bounds(code)),
             };
-            let mut rects = Vec::new(alloc);
-            let name = String::from_str(alloc, "")?;
-            rects.push(NamedRect { name, rect })?;
-            Ok(rects)
+            Ok(alone(alloc, rect)?)
         }
     }
 }
