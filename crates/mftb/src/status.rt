@@ -7,7 +7,7 @@ use crate::commands::moments::print_moments;
 use crate::commands::part::print_part;
 use crate::commands::parts::write_parts;
 use crate::commands::run::run;
-use crate::explain::telling::Before;
+use crate::explain::faults::Before;
 use crate::outcome::Outcome;
 use arguments::{Task, read_words};
 use clap::Error;

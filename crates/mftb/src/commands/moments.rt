@@ -2,7 +2,7 @@
 use crate::commands::asking::{database_to_ask, store_to_ask, told};
 use crate::commands::bounds::{hold_words, period_of};
 use crate::commands::rectangles::{NamedRect, rects_of};
-use crate::explain::telling::tell_elsewhere;
+use crate::explain::elsewhere::tell_elsewhere;
 use arguments::{Moments, RowKind, Where};
 use mfcsv::Dimension;
 use moments::{Stay, dwells_of, stays, visits_of};

@@ -2,8 +2,8 @@
 ghost use Rattle.std.specs.Prelude.{◌<◌, ◌≤◌, ◌^◌};
 
 use crate::commands::reading::read_files;
+use crate::explain::notes::{Given, tell, tell_made};
 use crate::explain::reach::{Reach, limits_of, reach_of};
-use crate::explain::telling::{Given, tell, tell_made};
 use crate::outcome::Outcome;
 use crate::system::folder::SystemFolder;
 use crate::system::locks::hold_name;

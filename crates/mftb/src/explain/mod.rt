@@ -1,5 +1,7 @@
 //! What is said in words on standard error.
 pub(crate) mod catalogued;
+pub(crate) mod elsewhere;
+pub(crate) mod faults;
+pub(crate) mod notes;
 pub(crate) mod reach;
 pub(crate) mod root;
-pub(crate) mod telling;
