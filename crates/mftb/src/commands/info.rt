@@ -1,6 +1,6 @@
 //! `mftb info`: what a store holds.
 use crate::commands::asking::{database_to_ask, store_to_ask};
-use crate::explain::root::{Header, read_extent, read_header};
+use crate::system::header::{Header, read_extent, read_header};
 use arguments::{Info, InfoForm};
 use legs::Box3;
 use outputs::Output;
@@ -13,30 +13,42 @@ use std::random::RandomSource;
 use std::rt::Files;
 use trajdb::{Db, RunFault};
 
-/// What page 0 of a store says, and the box over all its legs. Of the tree the root alone is read.
-fn look<'a, S: PageStore>(store: &mut S) -> Result<(Header, Option<Box3>), Fault<'a>> {
+/// What is seen of the pages of a store.
+#[derive(Clone, Copy)]
+struct Seen {
+    /// How many there are.
+    pages: u32,
+    /// What page 0 says.
+    header: Header,
+    /// The box over all legs.
+    extent: Option<Box3>,
+}
+
+/// What is seen of a store. Of the tree the root alone is read.
+fn look<'a, S: PageStore>(store: &mut S) -> Result<Seen, Fault<'a>> {
     let header = read_header(store)?;
-    let extent = read_extent(store, &header)?;
-    Ok((header, extent))
+    Ok(Seen {
+        pages: store.len(),
+        header,
+        extent: read_extent(store, &header)?,
+    })
 }
 
 /// The text of what is said of a database, and of what was seen of the pages of its store.
 fn text_of<S: PageStore>(
     alloc: Global,
     database: &Db<S>,
-    pages: u32,
-    seen: (Header, Option<Box3>),
+    seen: &Seen,
     form: InfoForm,
 ) -> Result<Vec<u8>, RunFault> {
-    let (header, extent) = seen;
     let said = StoreReport {
-        version: header.front.version,
-        pages,
+        version: seen.header.front.version,
+        pages: seen.pages,
         head: database.head(),
         legs: database.leg_count(),
         features: database.feature_count(),
         limits: database.limits(),
-        extent,
+        extent: seen.extent,
     };
     let mut text = Vec::new(alloc);
     match form {
@@ -53,11 +65,10 @@ pub(crate) fn print_info<'a, R: Files<File = File> + AllocGlobal + RandomSource,
     out: &mut O,
 ) -> Result<(), Fault<'a>> {
     let mut store = store_to_ask(rt, task.store)?;
-    let pages = store.len();
     let seen = look(&mut store);
     let database = database_to_ask(rt, store, CACHE_PAGES)?;
     let told = match seen {
-        Ok(seen) => match text_of(rt.alloc(), &database, pages, seen, task.form) {
+        Ok(seen) => match text_of(rt.alloc(), &database, &seen, task.form) {
             Ok(text) => Ok(text),
             Err(fault) => Err(Fault::Run(fault)),
         },

@@ -3,9 +3,10 @@ ghost use Rattle.std.specs.Prelude.{◌<◌, ◌≤◌, ◌^◌};
 
 use crate::commands::reading::read_files;
 use crate::explain::notes::{Given, tell, tell_made};
-use crate::explain::reach::{Reach, limits_of, reach_of};
+use crate::explain::reach::{Reach, reach_of};
 use crate::outcome::Outcome;
 use crate::system::folder::SystemFolder;
+use crate::system::header::{plain_store, read_header};
 use crate::system::locks::hold_name;
 use crate::system::names::Names;
 use crate::system::opening::{is_absent, is_special, open_asked, open_in_place, sweep};
@@ -198,6 +199,15 @@ fn is_other(asked: Option<u32>, limit: u64) -> bool {
 fn asks_for_others(run: &Run<'_>, limits: Limits) -> bool {
     is_other(run.most_legs, limits.legs())
         || is_other(run.most_features, u64::from(limits.features()))
+}
+
+/// How much the store of that name may hold, where its page 0 says it.
+fn limits_of<R: rt::Files<File = File>>(rt: &R, name: &str) -> Option<Limits> {
+    let mut store = plain_store(rt, name)?;
+    match read_header(&mut store) {
+        Ok(header) => header.limits,
+        Err(_) => None,
+    }
 }
 
 /// Refuses a store that is there, where a run asks for other limits than it has.

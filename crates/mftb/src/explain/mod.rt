@@ -4,4 +4,3 @@ pub(crate) mod elsewhere;
 pub(crate) mod faults;
 pub(crate) mod notes;
 pub(crate) mod reach;
-pub(crate) mod root;

@@ -1,14 +1,9 @@
 //! How far the legs of a store reach, as its file says.
-use crate::explain::root::box_below;
-use header::{limits_in, root_of};
-use legs::{Box3, Limits};
-use pages::{Kind, Payload, unseal};
+use crate::system::header::{plain_store, read_extent, read_header};
+use legs::Box3;
+use pages::PageStore;
 use std::fs::File;
-use std::os::unix::fs::FileExt;
 use std::rt::Files;
-
-/// How many bytes a page has.
-const PAGE: u64 = 4096;
 
 /// How far the legs of a store reach.
 #[derive(Clone, Copy, PartialEq, Eq, Debug)]
@@ -21,57 +16,25 @@ pub(crate) enum Reach {
     Within(Box3),
 }
 
-/// The page of that number, where it is sealed.
-fn read_page<F: FileExt>(file: &F, number: u32) -> Option<Payload> {
-    let mut page = [0u8; 4096];
-    file.read_exact_at(&mut page, u64::from(number) * PAGE)
-        .ok()?;
-    unseal(number, &page).ok()
-}
-
-/// How far the legs reach below a page.
-fn reach_below(payload: &Payload) -> Reach {
-    match box_below(payload) {
-        Some(bounds) => Reach::Within(bounds),
-        None => Reach::Unknown,
+/// How far the legs of a store reach: by page 0 and the root of its tree.
+fn reach_in<S: PageStore>(store: &mut S) -> Reach {
+    if store.len() == 0 {
+        return Reach::Nowhere;
     }
-}
-
-/// How far the legs of the store in a file reach: by page 0 and the root of its tree.
-fn reach_in<F: FileExt>(file: &F) -> Reach {
-    let Some(header) = read_page(file, 0) else {
+    let Ok(header) = read_header(store) else {
         return Reach::Unknown;
     };
-    if header.kind != Kind::Header {
-        return Reach::Unknown;
-    }
-    match root_of(&header) {
-        0 => Reach::Nowhere,
-        root => match read_page(file, root) {
-            Some(payload) => reach_below(&payload),
-            None => Reach::Unknown,
-        },
-    }
-}
-
-/// How much the store of that name may hold, where its page 0 says it.
-pub(crate) fn limits_of<R: Files<File = File>>(rt: &R, name: &str) -> Option<Limits> {
-    let file = File::open(rt, name).ok()?;
-    let header = read_page(&file, 0)?;
-    match header.kind {
-        Kind::Header => limits_in(&header.bytes),
-        _ => None,
+    match read_extent(store, &header) {
+        Ok(Some(bounds)) => Reach::Within(bounds),
+        Ok(None) if header.root == 0 => Reach::Nowhere,
+        _ => Reach::Unknown,
     }
 }
 
 /// How far the legs of the store of that name reach; not known where it is no plain file.
 pub(crate) fn reach_of<R: Files<File = File>>(rt: &R, name: &str) -> Reach {
-    let Ok(file) = File::open(rt, name) else {
-        return Reach::Unknown;
-    };
-    match file.metadata() {
-        Ok(about) if about.is_file() && about.len() >= PAGE => reach_in(&file),
-        Ok(about) if about.is_file() && about.len() == 0 => Reach::Nowhere,
-        _ => Reach::Unknown,
+    match plain_store(rt, name) {
+        Some(mut store) => reach_in(&mut store),
+        None => Reach::Unknown,
     }
 }
