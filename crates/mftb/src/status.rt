@@ -3,7 +3,7 @@ use crate::commands::check::check;
 use crate::commands::gaps::print_gaps;
 use crate::commands::info::print_info;
 use crate::commands::migrate::migrate;
-use crate::commands::moments::print_moments;
+use crate::commands::moments_command::print_moments;
 use crate::commands::part::print_part;
 use crate::commands::parts::write_parts;
 use crate::commands::run::run;

@@ -1,6 +1,6 @@
 //! `mftb info`: what a store holds.
 use crate::commands::asking::{database_to_ask, store_to_ask};
-use crate::system::header::{Header, read_extent, read_header};
+use crate::system::page_zero::{Header, read_extent, read_header};
 use arguments::{Info, InfoForm};
 use legs::Box3;
 use outputs::Output;

@@ -5,7 +5,7 @@ pub(crate) mod check;
 pub(crate) mod gaps;
 pub(crate) mod info;
 pub(crate) mod migrate;
-pub(crate) mod moments;
+pub(crate) mod moments_command;
 pub(crate) mod part;
 pub(crate) mod parts;
 pub(crate) mod reading;

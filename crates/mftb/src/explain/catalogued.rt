@@ -1,5 +1,5 @@
 //! What a store keeps beside its legs, as its file has it.
-use crate::system::header::plain_store;
+use crate::system::page_zero::plain_store;
 use catalogue::{Catalogue, restore};
 use pagecache::PageCache;
 use sessions::ReadOnly;

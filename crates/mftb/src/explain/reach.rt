@@ -1,5 +1,5 @@
 //! How far the legs of a store reach, as its file says.
-use crate::system::header::{plain_store, read_extent, read_header};
+use crate::system::page_zero::{plain_store, read_extent, read_header};
 use legs::Box3;
 use pages::PageStore;
 use std::fs::File;
