@@ -5,7 +5,7 @@ use crate::commands::info::print_info;
 use crate::commands::migrate::migrate;
 use crate::commands::moments_command::print_moments;
 use crate::commands::part::print_part;
-use crate::commands::parts::write_parts;
+use crate::commands::parts_command::write_parts;
 use crate::commands::run::run;
 use crate::explain::faults::Before;
 use crate::outcome::Outcome;

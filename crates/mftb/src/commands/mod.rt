@@ -7,7 +7,7 @@ pub(crate) mod info;
 pub(crate) mod migrate;
 pub(crate) mod moments_command;
 pub(crate) mod part;
-pub(crate) mod parts;
+pub(crate) mod parts_command;
 pub(crate) mod reading;
 pub(crate) mod rectangles;
 pub(crate) mod run;
