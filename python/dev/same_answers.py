@@ -1,7 +1,7 @@
 #!/usr/bin/env python3
 """Runs many command lines with two builds of the program, and compares what they answer.
 
-    python3 python/dev/same_answers.py OLD NEW [--lines 500] [--seed 1] [--but WORD]...
+    python3 python/dev/same_answers.py OLD NEW [--lines 500] [--seed 1] [--but=WORD]...
 
 Each line runs twice, in a fresh copy of one folder of stores, scripts and files. The status, standard output, standard
 error and all files that are left have to be the same, byte for byte. Lines that have a WORD are passed over: of these
@@ -140,8 +140,8 @@ def answer(program: Path, words: list[str], given: Path) -> tuple[int, bytes, by
     with tempfile.TemporaryDirectory() as name:
         folder = Path(name, "there")
         shutil.copytree(given, folder)
-        command = [program, *words]
-        ended = subprocess.run(command, cwd=folder, capture_output=True, stdin=subprocess.DEVNULL, check=False)
+        command, there = ["mftb", *words], {"executable": program, "cwd": folder, "stdin": subprocess.DEVNULL}
+        ended = subprocess.run(command, **there, capture_output=True, check=False)
         return ended.returncode, ended.stdout, ended.stderr, dict(left(folder))
 
 
