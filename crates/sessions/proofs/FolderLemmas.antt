@@ -88,7 +88,7 @@ module _ (files : List (List ℕ × List ℕ)) (sent sent' : Option (List ℕ)) 
   output_first db k (Ok x) (Err f) (inr h) is = let w = h.ran_is in absurd (cc w)
   output_first db k (Err f) closed left is = cc is
 
-  pub sends_said : (db : DbView) (ran closed : Result (Unit {0}) RunFault) (answered : Result (Unit {0}) Fault) → answered ≡ said ran closed → Ends db files sent sent' lines ran closed s → SendsLines db.limits db.book files sent sent' lines answered
+  abbrev pub sends_said : (db : DbView) (ran closed : Result (Unit {0}) RunFault) (answered : Result (Unit {0}) Fault) → answered ≡ said ran closed → Ends db files sent sent' lines ran closed s → SendsLines db.limits db.book files sent sent' lines answered
   sends_said db ran closed answered is e = record {
     done = e.done;
     text = e.text;
@@ -103,14 +103,14 @@ module _ (files : List (List ℕ × List ℕ)) (sent sent' : Option (List ℕ)) 
 
   pub kept_end : (db : DbView) (ran closed : Result (Unit {0}) RunFault) (kept : Result (Unit {0}) Fault) → kept ≡ said (Ok tt) closed → kept ≡ Ok tt → (e : Ends db files sent sent' lines ran closed s)
       → HoldsBook s (shape_of db) db.limits (run_book db.limits files db.book (take e.done lines))
-  kept_end db ran (Err f) kept is ok e = let w : Err (Run f) ≡ Ok tt = sym is ∙ ok in absurd (cc w)
+  kept_end db ran (Err f) kept is ok e = absurd (cc (is, ok))
   kept_end db ran (Ok y) kept is ok e = by_left e.left where
     by_left : ClosesAfter db files lines e.done (Ok y) s ⊎ FailsToLoad db files lines e.done ran (Ok y) s → HoldsBook s (shape_of db) db.limits (run_book db.limits files db.book (take e.done lines))
     by_left (inl h) = h.0
     by_left (inr h) = let w = h.closed_is in absurd (cc w)
 
   pub dropped_end : (db : DbView) (ran closed : Result (Unit {0}) RunFault) (answered kept : Result (Unit {0}) Fault) (fault : Fault) → kept ≡ said (Ok tt) closed → kept ≡ Err fault → Ends db files sent sent' lines ran closed s → IsDropped files sent sent' lines answered fault
-  dropped_end db ran (Ok y) answered kept fault is no e = let w : Ok tt ≡ Err fault = sym is ∙ no in absurd (cc w)
+  dropped_end db ran (Ok y) answered kept fault is no e = absurd (cc (is, no))
   dropped_end db ran (Err f) answered kept fault is no e = by_left e.left where
     by_left : ClosesAfter db files lines e.done (Err f) s ⊎ FailsToLoad db files lines e.done ran (Err f) s → IsDropped files sent sent' lines answered fault
     by_left (inl h) = inr (inr (f, cc (is, no), h.0.0))
@@ -136,7 +136,7 @@ module _ {S O : Type 0} (seen : S → Store) (shown : O → OutputView) (files :
       (sends_said files (shown out).contents (shown out').contents lines store db h.0 h.1 answered h.2 e))
 
   pub over_beside : (was is : Option History) (o : Result DbView (S × CatalogueFault)) → kept ≡ Ok tt → NameIsKept store was is → IfOk o HasPages → IfOk o IsIdle → IfOk o (λ db. db.failed ≡ false) → IfOk o (HasBook shape limits book) → RunsOver seen shown o files out out' lines answered kept store → RunsBeside shape limits book files (shown out).contents (shown out').contents lines answered was is
-  over_beside was is (Err back) ok name pages idle lives has h = let w : Err (Open back.1) ≡ Ok tt = sym h.1 ∙ ok in absurd (cc w)
+  over_beside was is (Err back) ok name pages idle lives has h = let is = h.1 in absurd (cc (is, ok))
   over_beside was is (Ok db) ok name pages idle lives has h =
       let e = h.4.ends has.sound pages idle lives in
       let holds = kept_end files (shown out).contents (shown out').contents lines store db h.0 h.1 kept h.3 ok e in
