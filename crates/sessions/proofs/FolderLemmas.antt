@@ -136,7 +136,7 @@ module _ {S O : Type 0} (seen : S → Store) (shown : O → OutputView) (files :
       (sends_said files (shown out).contents (shown out').contents lines store db h.0 h.1 answered h.2 e))
 
   pub over_beside : (was is : Option History) (o : Result DbView (S × CatalogueFault)) → kept ≡ Ok tt → NameIsKept store was is → IfOk o HasPages → IfOk o IsIdle → IfOk o (λ db. db.failed ≡ false) → IfOk o (HasBook shape limits book) → RunsOver seen shown o files out out' lines answered kept store → RunsBeside shape limits book files (shown out).contents (shown out').contents lines answered was is
-  over_beside was is (Err back) ok name pages idle lives has h = let is = h.1 in absurd (cc (is, ok))
+  over_beside was is (Err back) ok name pages idle lives has h = let w = h.1 in absurd (cc (w, ok))
   over_beside was is (Ok db) ok name pages idle lives has h =
       let e = h.4.ends has.sound pages idle lives in
       let holds = kept_end files (shown out).contents (shown out').contents lines store db h.0 h.1 kept h.3 ok e in
