@@ -43,7 +43,7 @@ pub(crate) fn database_to_ask<'a, R: AllocGlobal + RandomSource, S: PageStore + 
 }
 
 /// Closes a database that was asked, and gives what it told.
-pub(crate) fn told<'a, S: PageStore + Drop, T: Drop>(
+pub(crate) fn close_asked<'a, S: PageStore + Drop, T: Drop>(
     alloc: Global,
     database: Db<S>,
     told: Result<T, RunFault>,

@@ -1,5 +1,5 @@
 //! `mftb gaps`: times without a position, by feature.
-use crate::commands::asking::{database_to_ask, store_to_ask, told};
+use crate::commands::asking::{close_asked, database_to_ask, store_to_ask};
 use crate::commands::bounds::{hold_words, period_of};
 use arguments::Gaps;
 use fixedpoint::Coord;
@@ -68,6 +68,6 @@ pub(crate) fn print_gaps<'a, R: Files<File = File> + AllocGlobal + RandomSource,
     let store = store_to_ask(rt, task.store)?;
     let mut database = database_to_ask(rt, store, task.cache_pages)?;
     let text = text_of(rt.alloc(), &mut database, &period);
-    let told = told(rt.alloc(), database, text)?;
+    let told = close_asked(rt.alloc(), database, text)?;
     send_all(out, &told)
 }

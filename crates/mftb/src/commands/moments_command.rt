@@ -1,5 +1,5 @@
 //! `mftb moments`: when legs are inside rectangles in a period.
-use crate::commands::asking::{database_to_ask, store_to_ask, told};
+use crate::commands::asking::{close_asked, database_to_ask, store_to_ask};
 use crate::commands::bounds::{hold_words, period_of};
 use crate::commands::rectangles::{NamedRect, rects_of};
 use crate::explain::elsewhere::tell_elsewhere;
@@ -144,7 +144,7 @@ pub(crate) fn print_moments<
     let store = store_to_ask(rt, task.store)?;
     let mut database = database_to_ask(rt, store, task.cache_pages)?;
     let answer = asked.ask(&mut database, &rects);
-    let told = told(rt.alloc(), database, answer)?;
+    let told = close_asked(rt.alloc(), database, answer)?;
     send_all(out, &told.text)?;
     if task.telling.is_told(is_terminal) {
         tell_elsewhere(rt, task.store, &asked.period, &rects, &told.empty);
