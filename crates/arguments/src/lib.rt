@@ -5,7 +5,7 @@ mod task;
 mod words;
 
 pub use task::{
-    Check, Gaps, Info, InfoForm, Migrate, Moments, Part, Parts, RowKind, Run, StoreMode, Task,
-    Telling, Where, WriteMode,
+    Check, Corners, Gaps, Info, InfoForm, Migrate, Moments, Part, Parts, RowKind, Run, StoreMode,
+    Task, Telling, Where, WriteMode,
 };
 pub use words::read_words;

@@ -133,11 +133,20 @@ pub enum RowKind {
     Dwell,
 }
 
+/// A rectangle, as it was written.
+#[derive(Clone, Copy)]
+pub struct Corners<'a> {
+    pub x1: &'a str,
+    pub y1: &'a str,
+    pub x2: &'a str,
+    pub y2: &'a str,
+}
+
 /// Of which rectangles `mftb moments` is asked.
 #[derive(Clone, Copy)]
 pub enum Where<'a> {
-    /// Of one: X1, Y1, X2 and Y2, as they were written.
-    Rect([&'a str; 4]),
+    /// Of one.
+    Rect(Corners<'a>),
     /// Of those of the file of that name.
     Rects(&'a str),
 }

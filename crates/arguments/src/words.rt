@@ -1,7 +1,7 @@
 //! The words of the command line.
 use crate::task::{
-    Check, Gaps, Info, InfoForm, Migrate, Moments, Part, Parts, RowKind, Run, StoreMode, Task,
-    Telling, Where, WriteMode,
+    Check, Corners, Gaps, Info, InfoForm, Migrate, Moments, Part, Parts, RowKind, Run, StoreMode,
+    Task, Telling, Where, WriteMode,
 };
 use clap::builder::ValueParser;
 use clap::error::ErrorKind;
@@ -558,12 +558,12 @@ fn rows_of(matches: &ArgMatches) -> RowKind {
 fn place_of<'a>(matches: &ArgMatches<'a>) -> Where<'a> {
     match matches.get_str("rects") {
         Some(file) => Where::Rects(file),
-        None => Where::Rect([
-            word_of(matches, "X1"),
-            word_of(matches, "Y1"),
-            word_of(matches, "X2"),
-            word_of(matches, "Y2"),
-        ]),
+        None => Where::Rect(Corners {
+            x1: word_of(matches, "X1"),
+            y1: word_of(matches, "Y1"),
+            x2: word_of(matches, "X2"),
+            y2: word_of(matches, "Y2"),
+        }),
     }
 }
 

@@ -1,4 +1,5 @@
 //! Rectangles and periods, as they are written in words.
+use arguments::Corners;
 use fixedpoint::{Coord, read_coord};
 use legs::Rect;
 use querylang::LineCode;
@@ -34,10 +35,9 @@ fn coord_of(word: &str) -> Result<Coord, LineCode> {
 }
 
 /// The rectangle of X1, Y1, X2 and Y2, refused as the line of a script is.
-pub(crate) fn rect_of(corners: [&str; 4]) -> Result<Rect, LineCode> {
-    let [x1, y1, x2, y2] = corners;
-    let (x1, y1) = (coord_of(x1)?, coord_of(y1)?);
-    let (x2, y2) = (coord_of(x2)?, coord_of(y2)?);
+pub(crate) fn rect_of(corners: &Corners<'_>) -> Result<Rect, LineCode> {
+    let (x1, y1) = (coord_of(corners.x1)?, coord_of(corners.y1)?);
+    let (x2, y2) = (coord_of(corners.x2)?, coord_of(corners.y2)?);
     match Rect::new(x1, y1, x2, y2) {
         Some(rect) => Ok(rect),
         None => Err(LineCode::Q6),

@@ -1,6 +1,6 @@
 //! Rectangles, one of the command line or those of a file.
 use crate::commands::bounds::{hold_words, rect_of};
-use arguments::Where;
+use arguments::{Corners, Where};
 use csv::{ByteRecord, ReaderBuilder};
 use legs::Rect;
 use mfcsv::without_marks;
@@ -71,9 +71,13 @@ fn name_in<'r>(record: &'r ByteRecord, columns: &Columns) -> Result<&'r str, Rec
 /// The rectangle in a record.
 fn rect_in(record: &ByteRecord, columns: &Columns) -> Result<Rect, RectsFault> {
     let [x1, y1, x2, y2] = columns.corners;
-    let (x1, y1) = (field_at(record, x1)?, field_at(record, y1)?);
-    let (x2, y2) = (field_at(record, x2)?, field_at(record, y2)?);
-    match rect_of([x1, y1, x2, y2]) {
+    let corners = Corners {
+        x1: field_at(record, x1)?,
+        y1: field_at(record, y1)?,
+        x2: field_at(record, x2)?,
+        y2: field_at(record, y2)?,
+    };
+    match rect_of(&corners) {
         Ok(rect) => Ok(rect),
         Err(code) => Err(RectsFault::Corner(code)),
     }
@@ -165,8 +169,8 @@ pub(crate) fn rects_of<'a, R: rt::Files + AllocGlobal>(
     match place {
         Where::Rects(file) => rects_in(alloc, &read_named(rt, *file, MOST_BYTES)?),
         Where::Rect(corners) => {
-            hold_words(corners)?;
-            let rect = match rect_of(*corners) {
+            hold_words(&[corners.x1, corners.y1, corners.x2, corners.y2])?;
+            let rect = match rect_of(corners) {
                 Ok(rect) => rect,
                 Err(code) => return Err(Fault::Bounds(code)),
             };

@@ -1,5 +1,5 @@
 //! Why the program failed, beyond what the line of the fault says.
-use arguments::{Moments, Task, Telling, Where};
+use arguments::{Corners, Moments, Task, Telling, Where};
 use querylang::LineCode;
 use reasons::{Code, Shown, line_words};
 use sessions::{Cause, Fault};
@@ -70,12 +70,13 @@ fn opening_words(fault: &Fault) -> Option<&'static str> {
 
 /// The line of a script that asks for the `box` of the words of `mftb moments`.
 fn line_of(alloc: Global, task: &Moments<'_>) -> Result<String, AllocError> {
-    let [x1, y1, x2, y2] = match task.place {
-        Where::Rect(corners) => corners,
-        Where::Rects(_) => ["0"; 4],
-    };
     let [t1, t2] = task.times;
-    format!(in alloc; "box {x1} {y1} {x2} {y2} {t1} {t2}")
+    match task.place {
+        Where::Rect(Corners { x1, y1, x2, y2 }) => {
+            format!(in alloc; "box {x1} {y1} {x2} {y2} {t1} {t2}")
+        }
+        Where::Rects(_) => format!(in alloc; "box 0 0 0 0 {t1} {t2}"),
+    }
 }
 
 /// Which word of a rectangle and a period is refused, and why.
