@@ -1,8 +1,9 @@
-use Rattle.std.proofs.Common.{refl, ◌<ℤ◌}
+use Rattle.std.proofs.Common.{refl, subst, ◌<ℤ◌}
 use Rattle.mfcsv.specs.declared.Position.{Position}
 use Rattle.legs.specs.Legs.{LegView}
 use Rattle.clipping.specs.Clip.{Clips}
 use Rattle.clipping.specs.declared.line.Frac.{Frac}
+use Rattle.moments.specs.Ends.{IsEndBy}
 use Rattle.moments.specs.Parts.{IsAt, IsWhole}
 use Rattle.moments.specs.Stays.{IsPositionAt}
 use Rattle.moments.specs.declared.moment.Moment.{Moment}
@@ -51,4 +52,6 @@ returns c =
       between = between_is leg rect period cut rises clip enters.num leaves.num enters.den leaves.den enters.positive leaves.positive c.moment_at.ensures.at c.moment_at-2.ensures.at;
       entry = position_is leg cut.lo enters c.position_at.result rises c.moment_at.ensures.at c.position_at.ensures.x c.position_at.ensures.y c.position_at.ensures.z;
       exit = position_is leg cut.hi leaves c.position_at-2.result rises c.moment_at-2.ensures.at c.position_at-2.ensures.x c.position_at-2.ensures.y c.position_at-2.ensures.z;
+      begun = subst (λ p. IsEndBy enters leg.t0 p c.end_by.result) c.start.ensures.value c.end_by.ensures;
+      ended = subst (λ p. IsEndBy leaves leg.t1 p c.end_by-2.result) c.end.ensures.value c.end_by-2.ensures;
     }
