@@ -158,11 +158,6 @@ named_part payload f has =
     let leaves = cut b 40 4 16 (big_bytes 4 f.leaves) _ (omega (arith, long)) refl levels.1 in
     (cut b 44 4 12 (big_bytes 4 f.first) _ (omega (arith, long)) refl leaves.1).0
 
-pub first_named : (payload : Payload) (f : Fields) → HasFields payload f → f.first < 2 ^ 32 → first_of payload ≡ f.first
-unfolding number_at
-first_named payload f has small =
-    ap (big_number 4) (named_part payload f has ∙ sym (append-nil (big_bytes 4 f.first))) ∙ big_number-reads_back 4 f.first [] (omega (arith, small))
-
 -- another state leaves what stands behind it
 pub stated_fields : (p : Payload) (state : ℕ) (f : Fields) → HasFields p f → HasFields (with_state state p) f
 stated_fields p state f has =

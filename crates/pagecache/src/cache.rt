@@ -1,7 +1,7 @@
 //! The cache as its callers see it.
 ghost use Rattle.std.specs.Prelude.{ℕ, ◌≡◌, ◌<◌, ◌≤◌, false, Some, None, IsTrue, IfOk, IfErr, OnOk, OnErr, IsErrOf, length};
 ghost use Rattle.std.specs.Borrow.{sem};
-ghost use Rattle.pagecache.specs.Cache.{fresh, is_changed, payload_of, Adds, KeepsPayloads, MayGrow, SameLength, AsksOnce, IsNotAdded, IsSettled, IsStopped, IsWritten, UnsyncsNone};
+ghost use Rattle.pagecache.specs.Cache.{fresh, is_changed, payload_of, Adds, KeepsPayloads, SameLength, AsksOnce, IsNotAdded, IsSettled, IsStopped, IsWritten, UnsyncsNone};
 ghost use Rattle.pages.specs.Store.{IsLawful, IsSynced};
 ghost use Rattle.pages.specs.Zero.{zero_payload};
 ghost use Rattle.pagecache.specs.PageLends.{LendsPage, ShowsPage};
@@ -81,7 +81,6 @@ impl<S: PageStore> PageCache<S> {
         ensures none_before { (n : ℕ) → self.old.count ≤ n → payload_of self.old n ≡ None }
         ensures length { OnOk result (self.old.count ≡ self.old.store.count
             → self.new.count ≡ self.new.store.count) }
-        ensures grows { MayGrow self.old self.new }
         ensures refused { OnErr result (KeepsPayloads self.old self.new) }
         ensures asks { AsksOnce self.old self.new }
         ensures cause { IfErr result (λ fault. IsNotAdded fault self.old self.new) }
@@ -101,7 +100,6 @@ impl<S: PageStore> PageCache<S> {
         ensures none_before { (n : ℕ) → self.old.count ≤ n → payload_of self.old n ≡ None }
         ensures length { OnOk result (self.old.count ≡ self.old.store.count
             → self.new.count ≡ self.new.store.count) }
-        ensures grows { MayGrow self.old self.new }
         ensures refused { OnErr result (KeepsPayloads self.old self.new) }
         ensures asks { AsksOnce self.old self.new }
         ensures cause { IfErr result (λ fault. IsNotAdded fault self.old self.new) }
@@ -120,7 +118,6 @@ impl<S: PageStore> PageCache<S> {
         ensures none_before { (n : ℕ) → self.old.count ≤ n → payload_of self.old n ≡ None }
         ensures length { OnOk result (self.old.count ≡ self.old.store.count
             → self.new.count ≡ self.new.store.count) }
-        ensures grows { MayGrow self.old self.new }
         ensures refused { OnErr result (KeepsPayloads self.old self.new) }
         ensures asks { AsksOnce self.old self.new }
         ensures cause { IfErr result (λ fault. IsNotAdded fault self.old self.new) }
