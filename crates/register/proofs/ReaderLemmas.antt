@@ -227,10 +227,6 @@ later_fault a b c Unfinished reads h = h
 later_fault a b c Version reads h = h
 later_fault a b c Malformed reads h = tt
 
--- at the exit of a `?`
-pub later : {T : Type 0} {a b c : Cache} (r : Result T CatalogueFault) (e : CatalogueFault) → IsErrAnd r (λ f. f ≡ e) → OnlyReads a b → IsReadFault b c e → IfErr r (IsReadFault a c)
-later {T} {a} {b} {c} r e is reads h = if_err_and (IsReadFault a c) r e is (later_fault a b c e reads h)
-
 -- one of bytes that are read
 pub text_read : (a b : Cache) (e : CatalogueFault) → IsTextFault e → IsReadFault a b e
 text_read a b Memory h = tt
@@ -250,16 +246,6 @@ page_read payload a b r (Damaged n) h = absurd h
 page_read payload a b r Unfinished h = absurd h
 page_read payload a b r Version h = absurd h
 page_read payload a b r Malformed h = tt
-
--- what a call that reads pages until so many bytes stand ready leaves
-abbrev pub IsFilled : Cache → Cache → ReaderView → ReaderView → ℕ → Result (Unit {0}) CatalogueFault → Type 0
-IsFilled a b s t n r = record {
-  same : OnOk r ((at : ℕ → Option Payload) → Shows a at → rest_of at t ≡ rest_of at s);
-  ready : OnOk r (n ≤ length t.bytes);
-  broken : IfErr r (λ e. (at : ℕ → Option Payload) → Shows a at → IsBroken e → (text : List ℕ) → rest_of at s ≡ Some text → length text < n);
-  reads : OnlyReads a b;
-  caused : IfErr r (IsReadFault a b);
-}
 
 -- a refusal that is passed on
 pub refused : {V : Type 0} {text : V → List ℕ} {ok : V → Type 0} {a b : Cache} {s t : ReaderView} {r : Result V CatalogueFault} {e : CatalogueFault} → IsErrAnd r (λ f. f ≡ e) → ReadsValue a b s t text ok (Err e) → ReadsValue a b s t text ok r

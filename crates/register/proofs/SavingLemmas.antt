@@ -13,6 +13,8 @@ use Rattle.register.specs.ChainReader.{fault_of}
 use Rattle.tbtree.specs.Passes.{Passes}
 use Rattle.register.specs.ChainWriter.{Holds, IsAllowed, WriterView, IsCaused as IsCausedThere}
 use Rattle.register.proofs.EncodingLemmas.{listed_more}
+use Rattle.tbtree.specs.Nodes.{pages_of_cache}
+use Rattle.register.proofs.SpareLemmas.{same_refl, spares_trans}
 use Rattle.register.proofs.ReaderLemmas.{on_err_and}
 use Rattle.std.specs.Option.{option_map}
 use Rattle.legs.specs.declared.head.BookHead.{BookHead}

@@ -133,11 +133,9 @@ pub record AreTaken {V : Type 0} (text : V → List ℕ) (ok : V → Type 0) (xs
   pub taken : old ≡ option_map (λ t. flat_map text xs ++ t) new
 
 -- and a reader has taken them
-abbrev pub HasRead : {V : Type 0} → Cache → Cache → ReaderView → ReaderView → (V → List ℕ) → (V → Type 0) → List V → ℕ → Type 0
-HasRead a b s t text ok xs n = record {
-  reads : OnlyReads a b;
-  taken : (at : ℕ → Option Payload) → Shows a at → AreTaken text ok xs n (rest_of at s) (rest_of at t);
-}
+pub record HasRead {V : Type 0} (a b : Cache) (s t : ReaderView) (text : V → List ℕ) (ok : V → Type 0) (xs : List V) (n : ℕ) : Type 0 where
+  pub reads : OnlyReads a b
+  pub taken : (at : ℕ → Option Payload) → Shows a at → AreTaken text ok xs n (rest_of at s) (rest_of at t)
 
 module _ {V : Type 0} {text : V → List ℕ} {ok : V → Type 0} (free : IsFree text ok) {a b : Cache} {s t : ReaderView} {xs : List V} {n : ℕ} where
   -- one more is put behind them

@@ -8,11 +8,11 @@ use Rattle.byteorder.specs.Numbers.{big_number-reads_back, length-bytes_high_fir
 use Rattle.pages.specs.declared.payload.Payload.{Payload}
 use Rattle.pagecache.specs.Cache.{Cache}
 use Rattle.register.specs.Chain.{text_at}
-use Rattle.register.specs.ChainReader.{ReaderView, rest_of, IsBroken, IsTextFault, ReadsValue, Shows}
+use Rattle.register.specs.ChainReader.{ReaderView, rest_of, IsBroken, IsTextFault, ReadsAhead, ReadsValue, Shows}
 use Rattle.register.specs.Text.{short_text, IsNumber, IsShortText}
 use Rattle.register.specs.declared.fault.CatalogueFault.{CatalogueFault}
 use Rattle.register.specs.declared.fault.CatalogueFault.TheVariants.{Memory, Store, StoreFull, Damaged, Unfinished, Version, Malformed}
-use Rattle.register.proofs.ReaderLemmas.{goes_on, later_fault, map_map, map_same, still_shows, on_err_and, some_none, some_same, text_read, IsFilled}
+use Rattle.register.proofs.ReaderLemmas.{goes_on, later_fault, map_map, map_same, still_shows, on_err_and, some_none, some_same, text_read}
 
 -- two texts that are equal in front of something, where they are of one length
 pub same_front : (a b s t : List ℕ) → length a ≡ length b → a ++ s ≡ b ++ t → (a ≡ b) × (s ≡ t)
@@ -27,7 +27,7 @@ big_same n m k s t h l e =
 
 -- a value of n bytes is not there where there are fewer
 pub not_filled : {V : Type 0} (text : V → List ℕ) (ok : V → Type 0) (n : ℕ) → ((v : V) → length (text v) ≡ n) → {a b : Cache} {s t : ReaderView} {r : Result V CatalogueFault} {e : CatalogueFault}
-    → IsErrAnd r (λ f. f ≡ e) → IsFilled a b s t n (Err e) → ReadsValue a b s t text ok r
+    → IsErrAnd r (λ f. f ≡ e) → ReadsAhead a b s t n (Err e) → ReadsValue a b s t text ok r
 not_filled text ok n len {a} {b} {s} {t} {r} {e} is fill = on_err_and (λ r. ReadsValue a b s t text ok r) r e is (record {
   takes = λ at shows. record {
     taken = tt;
@@ -50,7 +50,7 @@ ready at r n =
     ∙ sym (map_map (λ t. take n r.bytes ++ t) (λ t. drop n r.bytes ++ t) (text_at at r.left r.next))
 
 -- a value of n bytes stands ready, and is taken
-pub filled : {V : Type 0} {text : V → List ℕ} {ok : V → Type 0} {n : ℕ} {v : V} {a b : Cache} {s t u : ReaderView} → IsFilled a b s t n (Ok tt) → text v ≡ take n t.bytes → ok v → u ≡ record t { bytes = drop n t.bytes } → ReadsValue a b s u text ok (Ok v)
+pub filled : {V : Type 0} {text : V → List ℕ} {ok : V → Type 0} {n : ℕ} {v : V} {a b : Cache} {s t u : ReaderView} → ReadsAhead a b s t n (Ok tt) → text v ≡ take n t.bytes → ok v → u ≡ record t { bytes = drop n t.bytes } → ReadsValue a b s u text ok (Ok v)
 filled {text = text} {n = n} {v = v} {t = t} {u = u} fill is h end = record {
   takes = λ at shows. record {
     taken = (h, sym (fill.same at shows) ∙ ready at t n ∙ ap (λ r. option_map (λ s. take n t.bytes ++ s) (rest_of at r)) (sym end) ∙ ap (λ l. option_map (λ s. l ++ s) (rest_of at u)) (sym is));
@@ -84,7 +84,7 @@ module _ {a b : Cache} {s t : ReaderView} {n : ℕ} (len : ReadsValue a b s t (b
   split at shows v w is e = let l = (len.takes at shows).taken in behind n (rest_of at t) v w l.0 is.short (sym l.1 ∙ e)
 
   -- the text is not there whole
-  pub text_cut : {c : Cache} {u : ReaderView} {e : CatalogueFault} → IsFilled b c t u n (Err e) → ReadsValue a c s u short_text IsShortText (Err e)
+  pub text_cut : {c : Cache} {u : ReaderView} {e : CatalogueFault} → ReadsAhead b c t u n (Err e) → ReadsValue a c s u short_text IsShortText (Err e)
   text_cut {c} {e = e} fill = record {
     takes = λ at shows. record {
       taken = tt;
@@ -99,7 +99,7 @@ module _ {a b : Cache} {s t : ReaderView} {n : ℕ} (len : ReadsValue a b s t (b
     caused = later_fault a b c e len.reads fill.caused;
   }
 
-  module _ {c : Cache} {u : ReaderView} (fill : IsFilled b c t u n (Ok tt)) where
+  module _ {c : Cache} {u : ReaderView} (fill : ReadsAhead b c t u n (Ok tt)) where
     abbrev own : List ℕ
     own = take n u.bytes
 

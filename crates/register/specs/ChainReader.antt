@@ -1,5 +1,5 @@
 -- Helpers of private functions: a text that is being read from a chain of pages.
-use Rattle.std.specs.Prelude.{ℕ, ◌≡◌, ◌≢◌, ◌-◌, min, true, false, List, [], ◌++◌, Option, Some, option_map, Result, IfOk, IfErr, IsTrue}
+use Rattle.std.specs.Prelude.{ℕ, ◌≡◌, ◌≢◌, ◌<◌, ◌≤◌, ◌-◌, min, true, false, List, [], ◌++◌, length, Option, Some, option_map, Result, IfOk, IfErr, IsTrue, OnOk}
 use Rattle.pages.specs.Store.{Faulted}
 use Rattle.pagecache.specs.Cache.{payload_of, Cache}
 use Rattle.pagecache.specs.declared.fault.CacheFault.{CacheFault}
@@ -80,6 +80,17 @@ IsTextFault (Damaged page) = ⊥
 IsTextFault Unfinished = ⊥
 IsTextFault Version = ⊥
 IsTextFault Malformed = Unit {0}
+
+-- pages are read until so many bytes stand ready; there are none where the text is shorter
+pub record ReadsAhead (old new : Cache) (from to : ReaderView) (len : ℕ)
+    (result : Result (Unit {0}) CatalogueFault) : Type 0
+  where
+    pub same : OnOk result ((at : ℕ → Option Payload) → Shows old at → rest_of at to ≡ rest_of at from)
+    pub ready : OnOk result (len ≤ length to.bytes)
+    pub broken : IfErr result (λ e. (at : ℕ → Option Payload) → Shows old at → IsBroken e
+        → (text : List ℕ) → rest_of at from ≡ Some text → length text < len)
+    pub reads : OnlyReads old new
+    pub caused : IfErr result (IsReadFault old new)
 
 -- what reading a value leaves of the text that is left: what stands behind the value's own text.
 -- Where the pages are said to be damaged or malformed, no such value's text stands there

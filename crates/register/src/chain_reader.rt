@@ -1,5 +1,5 @@
 //! A text that is read from a chain of pages.
-ghost use Rattle.std.specs.Prelude.{◌≡◌, ◌+◌, ◌-◌, ◌<◌, ◌≤◌, min, List, Option, ℕ, length, IfErr, OnErr, OnOk, Some, None, [], drop, take};
+ghost use Rattle.std.specs.Prelude.{◌≡◌, ◌+◌, ◌-◌, ◌<◌, ◌≤◌, min, Option, ℕ, length, IfErr, OnErr, OnOk, None, [], drop, take};
 ghost use Rattle.pages.specs.declared.payload.Payload.{Payload};
 ghost use Rattle.register.specs.Chain.{is_part};
 ghost use Rattle.register.specs.ChainReader.{fault_of};
@@ -77,7 +77,7 @@ impl Model for ChainReader {
 
 impl ChainReader {
     ghost use Rattle.chains.specs.Reads.{OnlyReads};
-    ghost use Rattle.register.specs.ChainReader.{rest_of, IsBroken, IsPageFault, IsReadFault, Shows, TakesPart};
+    ghost use Rattle.register.specs.ChainReader.{rest_of, IsBroken, IsPageFault, IsReadFault, ReadsAhead, Shows, TakesPart};
 
     /// Reads a text of that length from the chain that begins with a page.
     pub fn new(alloc: Global, first: u32, length: u64) -> ChainReader
@@ -155,14 +155,7 @@ impl ChainReader {
         cache: &mut PageCache<S>,
         len: usize,
     ) -> Result<(), CatalogueFault>
-        ensures same { OnOk result ((at : ℕ → Option Payload) → Shows cache.old at
-            → rest_of at self.new ≡ rest_of at self.old) }
-        ensures ready { OnOk result (len ≤ length self.new.bytes) }
-        ensures broken { IfErr result (λ e. (at : ℕ → Option Payload) → Shows cache.old at
-            → IsBroken e → (text : List ℕ) → rest_of at self.old ≡ Some text
-            → length text < len) }
-        ensures reads { OnlyReads cache.old cache.new }
-        ensures caused { IfErr result (IsReadFault cache.old cache.new) }
+        ensures { ReadsAhead cache.old cache.new self.old self.new len result }
     {
         while self.bytes.len() - self.taken < len {
             if self.left == 0 {

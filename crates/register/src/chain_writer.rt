@@ -6,7 +6,7 @@ ghost use Rattle.pagecache.specs.Cache.{payload_of, Adds, AsksOnce, IsNotAdded, 
 ghost use Rattle.tbtree.specs.Passes.{Passes, KeepsLength};
 ghost use Rattle.indexmap.specs.IndexSet.{insert_key, contains, spare};
 ghost use Rattle.pages.specs.declared.payload.Payload.{Payload};
-ghost use Rattle.register.specs.Chain.{next_in, part_payload};
+ghost use Rattle.register.specs.Chain.{part_payload};
 ghost use Rattle.register.specs.ChainSteps.{AreNumbers, Fills, IsNumber, IsPutBehind, Gives, IsThere, OnlyAsks, PayloadsStay};
 ghost use Rattle.register.specs.Saved.{SparesTree};
 ghost use Rattle.register.specs.ChainWriter.{IsAllowed, IsCaused};
@@ -109,7 +109,6 @@ fn write_page<S: PageStore>(
 }
 
 /// What a page of a catalogue says comes after it.
-#[tactic(auto, unfolding(crate::specs::Chain::next_in))]
 fn next_of(payload: &Payload) -> Option<u32>
     ensures kind { IfSome result (λ next. payload.now.kind ≡ Catalogue) }
 {
@@ -123,9 +122,6 @@ fn next_of(payload: &Payload) -> Option<u32>
 fn following<S: PageStore>(cache: &mut PageCache<S>, page: u32) -> Result<Option<u32>, CacheFault>
     ensures rests { Rests cache.old cache.new }
     ensures there { IfOk result (λ o. IfSome o (λ next. IsThere cache.old page)) }
-    ensures next { IfOk result (λ o. IsTrue cache.old.store.is_faithful → (payload : Payload)
-        → payload_of cache.old page ≡ Some payload → payload.kind ≡ Catalogue
-        → o ≡ Some (next_in payload)) }
     ensures only { IfErr result IsAllowed }
     ensures caused { IfErr result (IsCaused cache.old cache.new) }
 {

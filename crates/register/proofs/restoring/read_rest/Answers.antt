@@ -1,7 +1,7 @@
 use Rattle.std.proofs.Common.{ℕ, subst, List, Option}
 use Rattle.pages.specs.declared.payload.Payload.{Payload}
 use Rattle.tbtree.specs.declared.tree.Place.{Place}
-use Rattle.register.specs.ChainReader.{IsBroken, IsTextFault, Shows}
+use Rattle.register.specs.ChainReader.{IsBroken, IsReadFault, IsTextFault, Shows}
 use Rattle.register.specs.Building.{tree_of, IsOf}
 use Rattle.register.specs.Lasting.{IsWithin}
 use Rattle.register.specs.Restoring.{IsRest}

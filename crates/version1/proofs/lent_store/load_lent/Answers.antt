@@ -1,3 +1,4 @@
+use Rattle.std.proofs.Common.{◌∙◌}
 use Rattle.register.specs.ChainReader.{IsPageFault}
 use Rattle.register.proofs.ReaderLemmas.{on_ok, if_err}
 use Rattle.version1.proofs.LentLemmas.{lent_loaded, lent_not_taken, lent_not_read, unread_none}

@@ -16,3 +16,12 @@ returns-in-Err g c = record {
   reads = c.contents.ensures.reads;
   caused = c.in-Err.ensures.caused;
 }
+
+pub returns-in-Ok : goal.returns-in-Ok
+returns-in-Ok g c = record {
+  takes = λ at shows.
+      let one = (c.in-Ok.ensures.takes at shows).taken in
+      record { taken = (record { read = one.0; flag_is = sym c.in-1.is }, one.1); lacks = tt };
+  reads = c.contents.ensures.reads;
+  caused = tt;
+}

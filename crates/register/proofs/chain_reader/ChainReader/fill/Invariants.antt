@@ -1,5 +1,6 @@
 use Rattle.std.proofs.Common.{ℕ, ◌≡◌, Option}
 use Rattle.pages.specs.declared.payload.Payload.{Payload}
+use Rattle.chains.specs.Reads.{OnlyReads}
 use Rattle.register.specs.ChainReader.{rest_of, Shows}
 use Rattle.register.proofs.chain_reader.ChainReader.fill.Given as goal
 

@@ -1,6 +1,6 @@
 use Rattle.std.proofs.Common.{ap, sym, subst}
 use Rattle.pagecache.specs.Cache.{IsRefused}
-use Rattle.register.specs.ChainReader.{IsBroken, IsPageFault}
+use Rattle.register.specs.ChainReader.{IsBroken, IsPageFault, IsReadFault}
 use Rattle.register.proofs.ReaderLemmas.{on_ok, if_err, the_error, page_broken, page_read, refused_none, refused_read, rests_reads, loaded, not_taken, not_read}
 use Rattle.register.proofs.chain_reader.ChainReader.load.Goals as goal
 

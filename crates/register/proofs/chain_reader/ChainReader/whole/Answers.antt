@@ -1,4 +1,5 @@
-use Rattle.std.proofs.Common.{ℕ, ◌≢◌, ◌∙◌, sym, Option, Some}
+use Rattle.std.proofs.Common.{ℕ, ◌≢◌, ◌∙◌, ◌++◌, ap, sym, Option, Some, option_map}
+use Rattle.std.proofs.lemmas.List.{append-nil}
 use Rattle.std.proofs.lemmas.Bool.{true≢false}
 use Rattle.pages.specs.declared.payload.Payload.{Payload}
 use Rattle.register.specs.ChainReader.{rest_of, IsBroken, Shows}
@@ -18,3 +19,10 @@ returns-then-not-is_at_end-clause-broken g c = λ at shows u contents k.
     let read = (c.in_ok-contents.ensures.takes at shows).taken in
     left_over c.args.limits.now.legs (rest_of at c.args.self.now) (rest_of at c.catalogue.new.self) c.in_ok-contents.contents contents read.0 k read.1
     (λ e. true≢false (sym ((c.is_at_end.ensures at).1 e) ∙ c.if-not-is_at_end.true))
+
+pub returns-clause-whole : goal.returns-clause-whole
+returns-clause-whole g c = λ at shows.
+    let text = catalogue_text c.in_ok-contents.contents in
+    let read = (c.in_ok-contents.ensures.takes at shows).taken in
+    let ended = (c.is_at_end.ensures at).0 c.if-not-is_at_end.false in
+    (read.0, read.1 ∙ ap (option_map (λ t. text ++ t)) ended ∙ ap Some (append-nil text))
