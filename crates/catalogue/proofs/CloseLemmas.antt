@@ -30,9 +30,9 @@ use Rattle.catalogue.specs.Closing.{IsNoStoreFault}
 use Rattle.header.proofs.FrontLemmas.{begins_unfinished}
 use Rattle.catalogue.specs.Finishing.{Finishes, IsNotFinished, IsUnwrittenHeader, SaysUnfinished}
 use Rattle.catalogue.specs.Holding.{HoldsBook, IsOfBook, IsUnfinishedStore}
-use Rattle.register.specs.Lasting.{payload_fault, tracks_of, IsKept, IsLawful, IsLawfulFeature, IsStop, IsWithin, Says}
+use Rattle.register.specs.Lasting.{payload_fault, tracks_of, IsKept, IsLawful, IsLawfulFeature, IsWithin, Says}
 use Rattle.register.specs.Saved.{CatalogueView, KeepsFront}
-use Rattle.register.specs.Saving.{contents_of, end_of, feature_at, features_of, HasFew, IsCatalogue, IsSavingStop}
+use Rattle.register.specs.Saving.{contents_of, end_of, feature_at, features_of, HasFew, IsCatalogue}
 use Rattle.register.specs.Text.{IsWhole}
 use Rattle.register.specs.declared.contents.Feature.{Feature}
 use Rattle.register.specs.declared.fault.CatalogueFault.{CatalogueFault}
@@ -245,10 +245,6 @@ module _ (a b : Cache) (m : IsMarked a) (same : page_of b 0 ≡ page_of a 0) whe
   unfolding sealed_payload
   still_says = record { payload = m.payload; sealed = ap (option_and_then (unsealed 0)) same ∙ m.sealed; unfinished = m.unfinished }
 
--- a marked page 0 has a payload
-pub marked_some : (c : Cache) → IsMarked c → IsSettled c → payload_of c 0 ≢ None
-marked_some c m settled e = some_none m.payload (sym (settled m.faithful 0 m.unchanged ∙ m.sealed) ∙ e)
-
 -- a marked page 0 that begins as it did
 module _ (a b : Cache) (m : IsMarked a) (settled : IsSettled a) (front : KeepsFront a b) where
   was_is : front.was ≡ m.payload
@@ -315,20 +311,6 @@ module _ (laws : BesideLaws) (states : StateLaw) (c : CatalogueView) (i : IndexV
 
   pub closed_holds : HoldsBook s i.tree.shape c.limits book
   closed_holds = book_held laws c i book s kept beside sound of legs
-
--- what refuses to finish a store where there is a page 0 refuses to save it
-stop_saves : (e : CatalogueFault) → IsStop e → IsSavingStop e
-stop_saves Memory h = tt
-stop_saves fault.Store h = tt
-stop_saves StoreFull h = tt
-stop_saves (Damaged n) h = h
-stop_saves Unfinished h = h
-stop_saves Version h = h
-stop_saves Malformed h = h
-
-pub only_stops : (P Q : Type 0) (r : Result (Unit {0}) CatalogueFault) → (P → IfErr r IsStop) → IfErr r (λ e. P → Q → IsSavingStop e)
-only_stops P Q (Ok x) h = tt
-only_stops P Q (Err e) h = λ p q. stop_saves e (h p)
 
 -- of what refuses to finish a store, only want of memory is no fault of the store
 pub only_memory : {P : Type 0} (a b : Cache) (r : Result (Unit {0}) CatalogueFault) → IfErr r (IsNotFinished a b) → (IsErrOf r Memory → P) → IfErr r (λ e. IsNoStoreFault e → P)

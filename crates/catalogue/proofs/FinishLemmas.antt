@@ -3,11 +3,10 @@ use Rattle.std.proofs.Common.{ℕ, ◌≡◌, ◌<◌, ◌==◌, cond, false, sy
 use Rattle.std.proofs.lemmas.Bool.Decides.{nat_tests}
 use Rattle.pages.specs.Unsealed.{unsealed}
 use Rattle.pages.specs.declared.payload.Payload.{Payload}
-use Rattle.pagecache.proofs.PageLemmas.{slice_get-take}
-use Rattle.pagecache.specs.Cache.{Cache, page_of, pages_as_written, payload_of, sealed_payload, stored_payload, IsWritten, SameLength, KeepsPayloads}
+use Rattle.pagecache.specs.Cache.{Cache, payload_of, sealed_payload, stored_payload, IsWritten, SameLength, KeepsPayloads}
 use Rattle.header.specs.Front.{finished, finished_front, IsUnfinished}
 use Rattle.header.proofs.FrontLemmas.{finished_says, unfinished_says}
-use Rattle.catalogue.specs.Finishing.{Finishes, IsUnwrittenHeader, SaysUnfinished, SetsState, StoresFinished}
+use Rattle.catalogue.specs.Finishing.{Finishes, IsUnwrittenHeader, SaysUnfinished, SetsState}
 use Rattle.register.specs.Lasting.{front_fault, header_fault}
 use Rattle.register.specs.declared.fault.CatalogueFault.TheVariants.{Unfinished}
 
@@ -55,21 +54,6 @@ module _ (a b : Cache) (s : KeepsPayloads a b) (written : IsWritten b) (f : IsTr
 
       count_is : d.count ≡ a.count
       count_is = last.count ∙ sets.lends.writes.count ∙ s.count
-
-      -- of a page that is counted
-      stored_at : (n : ℕ) → n < a.count → stored_payload d.store n ≡ payload_of d n
-      unfolding stored_payload sealed_payload page_of pages_as_written
-      stored_at n h =
-          ap (option_and_then (unsealed n)) (sym (slice_get-take d.count n d.store.pages (let e = count_is in omega (arith, h, e))))
-          ∙ sym (all.sealed (last.keeps.store.faithful ∙ set) n)
-
-      pub stores : 0 < a.count → StoresFinished a d
-      stores some = record {
-        header = sets.was;
-        was = sym (s.payloads f 0) ∙ sets.before still;
-        first = stored_at 0 some ∙ first_is;
-        rest = λ n h l. stored_at n l ∙ rest_is n h;
-      }
 
       module _ (long : SameLength a b) (longer : SameLength c d) (counts : a.count ≡ a.store.count) where
         stored_is : (n : ℕ) → stored_payload d.store n ≡ payload_of d n

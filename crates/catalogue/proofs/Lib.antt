@@ -6,7 +6,6 @@ pub mod OpenLemmas
 pub mod FinishLemmas
 pub mod RestLemmas
 pub mod AgainLemmas
-pub mod KeptLemmas
 pub mod CloseLemmas
 pub mod RefusedLemmas
 pub mod StateLemmas

@@ -15,12 +15,11 @@ use Rattle.boxsearch.specs.Index.{content, written, IndexView, IsSound}
 use Rattle.tbtree.specs.declared.tree.Place.{Place}
 use Rattle.tbtree.specs.declared.tree.TbTree.{TbTree}
 use Rattle.catalogue.specs.Holding.{index_over, payload_in, AnswersBook, HoldsBook, IsAtRest, IsOfBook}
-use Rattle.register.specs.Lasting.{IsKept, IsSame, IsStop, IsTrulyDamaged}
+use Rattle.register.specs.Lasting.{IsKept, IsSame, IsStop}
 use Rattle.register.specs.declared.fault.CatalogueFault.{CatalogueFault}
 use Rattle.register.specs.declared.fault.CatalogueFault.TheVariants.{Memory, StoreFull, Damaged, Unfinished, Version, Malformed}
 use Rattle.register.specs.declared.fault.CatalogueFault.TheVariants as fault
 use Rattle.register.specs.Saved.{CatalogueView}
-use Rattle.register.specs.Stopping.{NamesStop}
 
 -- all pages of a store that a cache counts are written
 pub all_pages : (c : Cache) → IsLawful c.store → c.count ≡ c.store.count → IsTrue c.store.is_faithful → pages_as_written c ≡ c.store.pages
@@ -102,7 +101,7 @@ module _ (a b : Cache) (reads : OnlyReads a b) (clean : IsWritten a) (count : a.
         }
 
 -- what the pages of a store keep, a cache that has read none has
-pub kept_there : (a : Cache) → IsWritten a → a.count ≡ a.store.count → IsTrue a.store.is_faithful → (c : CatalogueView) (tree : TbTree) (places : List Place) → IsKept (stored_payload a.store) a.store.count c tree places
+kept_there : (a : Cache) → IsWritten a → a.count ≡ a.store.count → IsTrue a.store.is_faithful → (c : CatalogueView) (tree : TbTree) (places : List Place) → IsKept (stored_payload a.store) a.store.count c tree places
     → IsKept (payload_of a) a.count c tree places
 kept_there a clean count fa c tree places kept =
     let at : payload_of a ≡ stored_payload a.store = (λ i n. clean.stored fa count n i) in
@@ -111,22 +110,6 @@ kept_there a clean count fa c tree places kept =
 -- what is held is kept
 pub opened_held : (a : Cache) → IsWritten a → a.count ≡ a.store.count → IsTrue a.store.is_faithful → (shape : ShapeView) (limits : LimitsView) (book : Book) (h : HoldsBook a.store shape limits book) → IsKept (payload_of a) a.count h.catalogue h.tree h.places
 opened_held a clean count fa shape limits book h = kept_there a clean count fa h.catalogue h.tree h.places h.kept
-
--- a page that is damaged in a cache that has read none is so in its store
-pub opened_damaged : (a : Cache) → IsWritten a → a.count ≡ a.store.count → (e : CatalogueFault) → IsTrulyDamaged a.store.is_faithful (payload_of a) a.count e → IsTrulyDamaged a.store.is_faithful (stored_payload a.store) a.store.count e
-opened_damaged a clean count Memory h = tt
-opened_damaged a clean count fault.Store h = tt
-opened_damaged a clean count StoreFull h = tt
-opened_damaged a clean count (Damaged n) h = (let l = h.0 in omega (arith, l, count), λ fa. sym (clean.stored fa count n) ∙ h.1 fa)
-opened_damaged a clean count Unfinished h = tt
-opened_damaged a clean count Version h = tt
-opened_damaged a clean count Malformed h = tt
-
--- so is what is named
-pub opened_named : (a : Cache) → IsWritten a → a.count ≡ a.store.count → (e : CatalogueFault) → (IsTrue a.store.is_faithful → NamesStop (payload_of a) a.count e) → IsTrue a.store.is_faithful → NamesStop (stored_payload a.store) a.store.count e
-opened_named a clean count e h fa =
-    let at : payload_of a ≡ stored_payload a.store = (λ i n. clean.stored fa count n i) in
-    subst (λ n. NamesStop (stored_payload a.store) n e) count (subst (λ (f : ℕ → Option Payload). NamesStop f a.count e) at (h fa))
 
 -- what is no other fault is memory or the store
 pub stop_of : (e : CatalogueFault) → ((IsStop e → ⊥) → ⊥) → IsStop e

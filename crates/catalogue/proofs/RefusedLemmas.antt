@@ -10,21 +10,16 @@ use Rattle.pages.specs.Unsealed.{unsealed}
 use Rattle.pages.specs.declared.payload.Payload.{Payload}
 use Rattle.pagecache.specs.Cache.{fresh, is_changed, page_of, pages_as_written, payload_of, sealed_payload, stored_payload, Cache, KeepsPayloads, Writes}
 use Rattle.legs.specs.Book.{Book}
-use Rattle.tbtree.specs.Descent.{IsSameTree}
-use Rattle.tbtree.specs.Nodes.{pages_of_cache}
 use Rattle.boxsearch.specs.Index.{content, IndexView, IsSound}
 use Rattle.header.specs.Front.{finished}
-use Rattle.catalogue.specs.Closing.{LeavesUnreadable}
-use Rattle.catalogue.specs.Finishing.{Finishes, IsLaterCache, StoresFinished}
-use Rattle.catalogue.specs.Holding.{HoldsButFirst, HoldsIndexButFirst, IsOfBook}
+use Rattle.catalogue.specs.Finishing.{Finishes, IsLaterCache}
+use Rattle.catalogue.specs.Holding.{HoldsButFirst, IsOfBook}
 use Rattle.register.specs.Lasting.{IsLawful as IsLawfulCatalogue, IsWithin, Says}
-use Rattle.register.specs.Saved.{CatalogueView, IsWrittenButFirst, UnreadableStay}
-use Rattle.register.specs.Saving.{contents_of, IsCatalogue}
+use Rattle.register.specs.Saved.{CatalogueView, IsWrittenButFirst}
+use Rattle.register.specs.Saving.{contents_of}
 use Rattle.register.specs.Text.{IsWhole}
 use Rattle.catalogue.proofs.AgainLemmas.{MayFinish}
 use Rattle.catalogue.proofs.CloseLemmas.{closed_holds}
-use Rattle.catalogue.proofs.KeptLemmas.{closed_keeps}
-use Rattle.pagecache.proofs.PageLemmas.{slice_get-take}
 use Rattle.catalogue.proofs.RestLemmas.{BesideLaws, StateLaw}
 use Rattle.catalogue.proofs.OpenLemmas.{all_pages, fresh_payload}
 
@@ -60,14 +55,6 @@ map_err (Err e) f p = f p
 behind_first : {X : Type 0} (xs : List X) (n : ℕ) → slice_get xs (suc n) ≡ slice_get (drop 1 xs) n
 behind_first [] n = refl
 behind_first (x ∷ xs) n = refl
-
--- a page that cannot be read is in the store as it was written, where saving left it, and then no page but page 0 is written
-pub left_unreadable : (a b new : Cache) → UnreadableStay a b → a.count ≤ b.count → new.count ≡ b.count → SameOthers b new → LeavesUnreadable a new.store
-unfolding page_of pages_as_written
-left_unreadable a b new stay more count others zero h l e = absurd (omega (arith, h))
-left_unreadable a b new stay more count others (suc n) h l e =
-    sym (slice_get-take new.count (suc n) new.store.pages (omega (arith, more, count, l)))
-    ∙ behind_first (pages_as_written new) n ∙ ap (λ (pages : List (List ℕ)). slice_get pages n) others ∙ sym (behind_first (pages_as_written b) n) ∙ (stay (suc n) h l e).1
 
 -- page 0 made that of a finished store
 abbrev pub finished_store : Store → Payload → Store
@@ -116,44 +103,6 @@ module _ (j new : Cache) (but : IsWrittenButFirst j) (faithful : IsTrue j.store.
     rest = λ n h. at_fresh n ∙ stored_rest n h;
     stored_first = stored_first;
     stored_rest = stored_rest;
-  }
-
--- so the store would keep a catalogue and an index with a page 0 that says that it is finished, sound or not
-module _ (states : StateLaw) (c : CatalogueView) (was j : IndexView) (new : Cache) (says : Says (payload_of j.cache) j.cache.count c j.tree j.places)
-    (header : Payload) (is : payload_of j.cache 0 ≡ Some header) (may : MayFinish header)
-    (faithful : IsTrue j.cache.store.is_faithful) (few : new.count ≤ new.store.count)
-    (but : IsWrittenButFirst j.cache) (there : 0 < j.cache.count) (later : IsLaterCache j.cache new) (stored : IsLawful new.store) (others : SameOthers j.cache new) (synced : IsSyncedButFirst new.store)
-    (spares : IsSameTree (pages_of_cache was.cache) (pages_of_cache j.cache)) where
-  abbrev behind : Store
-  behind = finished_store new.store header
-
-  rest_behind : (n : ℕ) → 0 < n → n < j.cache.count → stored_payload behind n ≡ payload_of j.cache n
-  unfolding stored_payload sealed_payload page_of pages_as_written
-  rest_behind zero h l = absurd (omega (arith, h))
-  rest_behind (suc n) h l =
-      ap (option_and_then (unsealed (suc n)))
-      (sym (behind_first new.store.pages n)
-      ∙ sym (slice_get-take new.count (suc n) new.store.pages (let e = later.count in omega (arith, e, l)))
-      ∙ behind_first (pages_as_written new) n ∙ ap (λ (pages : List (List ℕ)). slice_get pages n) others ∙ sym (behind_first (pages_as_written j.cache) n))
-      ∙ sym (but.settled faithful (suc n) (but.clean (suc n) (omega arith)))
-
-  first_behind : stored_payload behind 0 ≡ Some (finished header)
-  unfolding stored_payload
-  first_behind = unsealed-sealed 0 (finished header)
-
-  stores_behind : StoresFinished j.cache (fresh behind 1)
-  stores_behind = record { header = header; was = is; first = first_behind; rest = rest_behind }
-
-  pub behind_keeps : (was.cache.count ≡ was.cache.store.count → j.cache.count ≡ j.cache.store.count)
-      → j.tree ≡ was.tree → j.places ≡ was.places → (IsCatalogue c → IsWhole (contents_of c j.places)) → HoldsIndexButFirst new.store c was
-  behind_keeps even tree places whole_text = record {
-    whole = behind;
-    holds = closed_keeps states c was j (fresh behind 1) says header is may stores_behind but faithful (let n = later.count in omega (arith, n, few)) spares
-        (λ e. (even e, finishes_but_first j.cache new but faithful there (even e) later.store.faithful later.count later.length stored others header is))
-        tree places whole_text;
-    count = refl;
-    others = refl;
-    synced = synced;
   }
 
 -- so the store would hold the book with a page 0 that says that it is finished

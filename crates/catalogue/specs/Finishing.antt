@@ -20,13 +20,6 @@ pub record Finishes (old new : Cache) : Type 0 where
   pub stored_first : stored_payload new.store 0 ≡ Some (finished header)
   pub stored_rest : (n : ℕ) → 0 < n → stored_payload new.store n ≡ payload_of old n
 
--- page 0 in the store says besides that the store is finished, and each other page that was counted is there as it was
-pub record StoresFinished (old new : Cache) : Type 0 where
-  pub header : Payload
-  pub was : payload_of old 0 ≡ Some header
-  pub first : stored_payload new.store 0 ≡ Some (finished header)
-  pub rest : (n : ℕ) → 0 < n → n < old.count → stored_payload new.store n ≡ payload_of old n
-
 -- page 0 as written is the header of a store that is not finished
 pub record SaysUnfinished (c : Cache) : Type 0 where
   pub payload : Payload

@@ -1,27 +1,20 @@
 -- A store whose pages hold a book.
-use Rattle.std.specs.Prelude.{ℕ, ◌≡◌, ◌<◌, List, drop, length, slice_get, Option, Some, None, option_map, option_and_then, []}
+use Rattle.std.specs.Prelude.{ℕ, ◌≡◌, List, drop, length, slice_get, Option, Some, option_and_then, []}
 use Rattle.legs.specs.Book.{Book}
-use Rattle.legs.specs.Boxes.{BoxView}
 use Rattle.legs.specs.Costs.{ShapeView}
 use Rattle.legs.specs.Law.{IsBook}
-use Rattle.legs.specs.Legs.{LegView}
 use Rattle.legs.specs.Limits.{LimitsView}
 use Rattle.legs.specs.Tracks.{StandsFor}
 use Rattle.pages.specs.Store.{Store, IsSyncedButFirst}
 use Rattle.pages.specs.Unsealed.{unsealed}
 use Rattle.pages.specs.declared.payload.Payload.{Payload}
 use Rattle.pagecache.specs.Cache.{fresh, stored_payload, IsClean}
-use Rattle.tbnode.specs.Form.{node_of}
-use Rattle.tbtree.specs.Descent.{node_in, IsSameTree}
-use Rattle.tbtree.specs.Nodes.{pages_of_cache, Pages}
 use Rattle.tbtree.specs.declared.tree.Place.{Place}
 use Rattle.tbtree.specs.declared.tree.TbTree.{TbTree}
 use Rattle.boxsearch.specs.Index.{content, written, IndexView, IsSound}
 use Rattle.header.specs.Front.{IsUnfinished}
-use Rattle.register.specs.Lasting.{payload_fault, IsKept, Says}
+use Rattle.register.specs.Lasting.{IsKept}
 use Rattle.register.specs.Saved.{CatalogueView}
-use Rattle.register.specs.Saving.{contents_of, IsCatalogue}
-use Rattle.register.specs.Text.{IsWhole}
 
 -- page 0 as written is the header of a store that is not finished
 pub record IsUnfinishedStore (s : Store) : Type 0 where
@@ -60,31 +53,6 @@ pub record HoldsButFirst (s : Store) (shape : ShapeView) (limits : LimitsView)
     (book : Book) : Type 0 where
   pub whole : Store
   pub holds : HoldsBook whole shape limits book
-  pub count : whole.count ≡ s.count
-  pub others : drop 1 whole.pages ≡ drop 1 s.pages
-  pub synced : IsSyncedButFirst s
-
--- the pages of a store, as pages of a tree
-abbrev pub pages_of_store : Store → Pages LegView BoxView
-pages_of_store s =
-    record { at = λ p. option_map node_of (stored_payload s p); count = s.count }
-
--- the pages of a finished store say a catalogue and an index, sound or not, and lawful or not: page 0 says the limits, the
--- tree and where the text is that has the head, the names, the last ends, the rows and the places; each other page that was
--- counted says of a tree what it said; where all were counted, no page besides says anything of a tree
-pub record HoldsIndex (s : Store) (c : CatalogueView) (index : IndexView) : Type 0 where
-  pub finished : payload_fault (stored_payload s 0) ≡ None
-  pub says : Says (stored_payload s) s.count c index.tree index.places
-  pub whole : IsCatalogue c → IsWhole (contents_of c index.places)
-  pub pages : (page : ℕ) → 0 < page → page < index.cache.count
-      → node_in ((pages_of_store s).at page) ≡ node_in ((pages_of_cache index.cache).at page)
-  pub tree : index.cache.count ≡ index.cache.store.count
-      → IsSameTree (pages_of_cache index.cache) (pages_of_store s)
-
--- all pages of a store but page 0 are those of one that keeps a catalogue and an index, and are synced
-pub record HoldsIndexButFirst (s : Store) (c : CatalogueView) (index : IndexView) : Type 0 where
-  pub whole : Store
-  pub holds : HoldsIndex whole c index
   pub count : whole.count ≡ s.count
   pub others : drop 1 whole.pages ≡ drop 1 s.pages
   pub synced : IsSyncedButFirst s

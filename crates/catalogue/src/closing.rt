@@ -1,19 +1,15 @@
 //! A store is closed.
-ghost use Rattle.std.specs.Prelude.{ℕ, Bool, List, ◌≡◌, ◌≤◌, ◌⊎◌, [], IfErr, IsErrOf, IsTrue, OnErr, OnOk, Some};
+ghost use Rattle.std.specs.Prelude.{ℕ, ◌≡◌, ◌⊎◌, [], IfErr, OnErr, OnOk, Some};
 ghost use Rattle.legs.specs.Book.{Book};
 ghost use Rattle.legs.specs.declared.head.BookHead.{BookHead};
 ghost use Rattle.pages.specs.Store.{IsLawful, IsSynced, IsSyncedButFirst, Keeps};
-ghost use Rattle.pagecache.specs.Cache.{payload_of, stored_payload, IsSettled};
+ghost use Rattle.pagecache.specs.Cache.{IsSettled};
 ghost use Rattle.timebase.specs.Instant.{IsMoment};
 ghost use Rattle.boxsearch.specs.Beside.{with_cache};
 ghost use Rattle.boxsearch.specs.Index.{content, IsMarked, IsSound};
-ghost use Rattle.catalogue.specs.Closing.{IsClosingFault, IsNoStoreFault, LeavesUnreadable};
-ghost use Rattle.catalogue.specs.Holding.{HoldsBook, HoldsButFirst, HoldsIndex, HoldsIndexButFirst, IsOfBook, IsUnfinishedStore};
-ghost use Rattle.header.specs.Front.{SaysState};
-ghost use Rattle.register.specs.Earlier.{AddsFew, AreEarlier, HasNoRoom};
-ghost use Rattle.register.specs.Saved.{OthersStay};
-ghost use Rattle.register.specs.Saving.{contents_of, HasFew, IsSavingFault, IsSavingStop, IsCaused};
-ghost use Rattle.register.specs.Text.{catalogue_text};
+ghost use Rattle.catalogue.specs.Closing.{IsClosingFault, IsNoStoreFault};
+ghost use Rattle.catalogue.specs.Holding.{HoldsBook, HoldsButFirst, IsOfBook, IsUnfinishedStore};
+ghost use Rattle.register.specs.Saving.{IsSavingStop, IsCaused};
 
 use crate::finishing::finish;
 use crate::saving::save;
@@ -55,39 +51,10 @@ fn save_and_finish<S: PageStore>(
         → IsMarked index.old.cache → (book : Book)
         → IsOfBook catalogue.now.limits book catalogue.now → content index.old ≡ book.legs
         → HoldsBook index.new.cache.store index.old.tree.shape catalogue.now.limits book) }
-    ensures kept { OnOk result (index.new.cache.count ≤ index.new.cache.store.count
-        → IsMarked index.old.cache
-        → HoldsIndex index.new.cache.store catalogue.now index.old) }
-    ensures holds_headed { OnOk result (IsLawful index.new.cache.store → IsSound index.old
-        → (begun : Bool) → SaysState begun (payload_of index.old.cache 0) → (book : Book)
-        → IsOfBook catalogue.now.limits book catalogue.now → content index.old ≡ book.legs
-        → HoldsBook index.new.cache.store index.old.tree.shape catalogue.now.limits book) }
-    ensures kept_headed { OnOk result (index.new.cache.count ≤ index.new.cache.store.count
-        → IsTrue index.old.cache.store.is_faithful
-        → (begun : Bool) → SaysState begun (payload_of index.old.cache 0)
-        → HoldsIndex index.new.cache.store catalogue.now index.old) }
     ensures synced { OnOk result (IsSynced index.new.cache.store) }
-    ensures takes { OnOk result (IsTrue index.old.cache.store.is_faithful
-        → index.old.cache.count ≡ index.old.cache.store.count → (pages : List ℕ)
-        → AreEarlier (payload_of index.old.cache) pages → AddsFew index.old.cache.count
-        (catalogue_text (contents_of catalogue.now index.old.places)) pages
-        index.new.cache.store.count) }
-    ensures full { IsErrOf result CatalogueFault.StoreFull
-        → IsTrue index.old.cache.store.is_faithful → (pages : List ℕ)
-        → AreEarlier (payload_of index.old.cache) pages
-        → HasNoRoom index.old.cache.count index.old.cache.store.most
-        (catalogue_text (contents_of catalogue.now index.old.places)) pages }
     ensures only { IfErr result (λ fault. IsSound index.old → (book : Book)
         → IsOfBook catalogue.now.limits book catalogue.now → content index.old ≡ book.legs
         → IsSavingStop fault) }
-    ensures only_marked { IfErr result (λ fault. IsMarked index.old.cache → HasFew catalogue.now
-        → IsSavingStop fault) }
-    ensures named { IfErr result (λ fault. IsTrue index.old.cache.store.is_faithful
-        → HasFew catalogue.now → IsSavingFault index.old.cache fault) }
-    ensures others { OnOk result (IsTrue index.old.cache.store.is_faithful
-        → OthersStay (payload_of index.old.cache) (stored_payload index.new.cache.store)) }
-    ensures unreadable { OnOk result (IsTrue index.old.cache.store.is_faithful
-        → LeavesUnreadable index.old.cache index.new.cache.store) }
     ensures unfinished { IfErr result (λ fault. IsNoStoreFault fault → IsMarked index.old.cache
         → IsUnfinishedStore index.new.cache.store) }
     ensures refused { OnErr result (IsLawful index.new.cache.store → IsSound index.old
@@ -95,10 +62,6 @@ fn save_and_finish<S: PageStore>(
         → IsOfBook catalogue.now.limits book catalogue.now → content index.old ≡ book.legs
         → IsUnfinishedStore index.new.cache.store
         ⊎ HoldsButFirst index.new.cache.store index.old.tree.shape catalogue.now.limits book) }
-    ensures behind { OnErr result (IsLawful index.new.cache.store
-        → index.new.cache.count ≤ index.new.cache.store.count → IsMarked index.old.cache
-        → IsUnfinishedStore index.new.cache.store
-        ⊎ HoldsIndexButFirst index.new.cache.store catalogue.now index.old) }
     ensures ordered { OnErr result (IsMarked index.old.cache
         → IsUnfinishedStore index.new.cache.store ⊎ IsSyncedButFirst index.new.cache.store) }
     ensures keeps { Keeps index.old.cache.store index.new.cache.store }
@@ -130,48 +93,13 @@ pub fn close<S: PageStore>(
         → IsOfBook catalogue.now.limits book catalogue.now → content index ≡ book.legs
         → HoldsBook (S.seen result.0) index.tree.shape catalogue.now.limits book) }
 
-    // It keeps the catalogue and the index, be the index sound or not.
-    ensures kept { OnOk result.1 (IsMarked index.cache
-        → HoldsIndex (S.seen result.0) catalogue.now index) }
-
-    // So it does where page 0 was the header of a store, finished or not.
-    ensures holds_headed { OnOk result.1 (IsSound index → (begun : Bool)
-        → SaysState begun (payload_of index.cache 0) → (book : Book)
-        → IsOfBook catalogue.now.limits book catalogue.now → content index ≡ book.legs
-        → HoldsBook (S.seen result.0) index.tree.shape catalogue.now.limits book) }
-    ensures kept_headed { OnOk result.1 (IsTrue index.cache.store.is_faithful → (begun : Bool)
-        → SaysState begun (payload_of index.cache 0)
-        → HoldsIndex (S.seen result.0) catalogue.now index) }
+    // After `Ok` every page is synced, and no sync of the store ever failed.
     ensures synced { OnOk result.1 (IsSynced (S.seen result.0)) }
-
-    // Its pages are as many as they were, and those that the text takes beyond an earlier one's.
-    ensures takes { OnOk result.1 (IsTrue index.cache.store.is_faithful
-        → index.cache.count ≡ index.cache.store.count → (pages : List ℕ)
-        → AreEarlier (payload_of index.cache) pages → AddsFew index.cache.count
-        (catalogue_text (contents_of catalogue.now index.places)) pages
-        (S.seen result.0).count) }
-
-    // It is full only where it has no room for those.
-    ensures full { IsErrOf result.1 CatalogueFault.StoreFull
-        → IsTrue index.cache.store.is_faithful → (pages : List ℕ)
-        → AreEarlier (payload_of index.cache) pages
-        → HasNoRoom index.cache.count index.cache.store.most
-        (catalogue_text (contents_of catalogue.now index.places)) pages }
+    // Closing the index of a book fails only if memory runs out, or the store fails or is full.
     ensures only { IfErr result.1 (λ fault. IsSound index → (book : Book)
         → IsOfBook catalogue.now.limits book catalogue.now → content index ≡ book.legs
         → IsSavingStop fault) }
-    ensures only_marked { IfErr result.1 (λ fault. IsMarked index.cache → HasFew catalogue.now
-        → IsSavingStop fault) }
-
-    // Of a faithful store only page 0 is named, where it has no payload.
-    ensures named { IfErr result.1 (λ fault. IsTrue index.cache.store.is_faithful
-        → HasFew catalogue.now → IsSavingFault index.cache fault) }
-
-    // Page 0 and those of a catalogue aside, each page is in the store as it was; and so is each that cannot be read.
-    ensures others { OnOk result.1 (IsTrue index.cache.store.is_faithful
-        → OthersStay (payload_of index.cache) (stored_payload (S.seen result.0))) }
-    ensures unreadable { OnOk result.1 (IsTrue index.cache.store.is_faithful
-        → LeavesUnreadable index.cache (S.seen result.0)) }
+    // If memory runs out or the store is full, a marked store says that it is not finished.
     ensures unfinished { IfErr result.1 (λ fault. IsNoStoreFault fault → IsMarked index.cache
         → IsUnfinishedStore (S.seen result.0)) }
 
@@ -181,9 +109,7 @@ pub fn close<S: PageStore>(
         → IsUnfinishedStore (S.seen result.0)
         ⊎ HoldsButFirst (S.seen result.0) index.tree.shape catalogue.now.limits book) }
 
-    // So it is, be the index sound or not.
-    ensures behind { OnErr result.1 (IsMarked index.cache → IsUnfinishedStore (S.seen result.0)
-        ⊎ HoldsIndexButFirst (S.seen result.0) catalogue.now index) }
+    // On an error a marked store is unfinished, or all its pages but page 0 are synced.
     ensures ordered { OnErr result.1 (IsMarked index.cache
         → IsUnfinishedStore (S.seen result.0) ⊎ IsSyncedButFirst (S.seen result.0)) }
     // It is the same store, and its count of faults did not fall.

@@ -4,8 +4,7 @@ ghost use Rattle.chains.specs.Reads.{OnlyReads};
 ghost use Rattle.pages.specs.Store.{IsSynced, IsSyncedButFirst};
 ghost use Rattle.pagecache.specs.Cache.{is_changed, pages_as_written, payload_of, IsWritten, Rests, SameLength, KeepsPayloads};
 ghost use Rattle.boxsearch.specs.Beside.{with_cache};
-ghost use Rattle.catalogue.specs.Finishing.{Finishes, IsLaterCache, IsNotFinished, IsUnwrittenHeader, SaysUnfinished, SetsState, StoresFinished};
-ghost use Rattle.header.specs.Front.{finished};
+ghost use Rattle.catalogue.specs.Finishing.{Finishes, IsLaterCache, IsNotFinished, IsUnwrittenHeader, SaysUnfinished, SetsState};
 ghost use Rattle.register.specs.Saving.{IsNotWritten};
 ghost use Rattle.register.specs.Lasting.{IsStop};
 
@@ -59,8 +58,6 @@ pub(crate) fn finish<S: PageStore>(index: &mut TreeIndex<S>) -> Result<(), Catal
     ensures finishes { OnOk result (IsTrue index.old.cache.store.is_faithful
         → index.old.cache.count ≡ index.old.cache.store.count
         → Finishes index.old.cache index.new.cache) }
-    ensures stores { OnOk result (IsTrue index.old.cache.store.is_faithful
-        → 0 < index.old.cache.count → StoresFinished index.old.cache index.new.cache) }
     ensures synced { OnOk result (IsSynced index.new.cache.store) }
     ensures later { IsLaterCache index.old.cache index.new.cache }
     ensures others { IsTrue index.old.cache.store.is_faithful

@@ -1,17 +1,12 @@
 //! A store is opened.
-ghost use Rattle.std.specs.Prelude.{◌≡◌, ◌<◌, IsTrue, IfErr, IfOk, List, None};
+ghost use Rattle.std.specs.Prelude.{◌≡◌, ◌<◌, IsTrue, IfErr, IfOk, None};
 ghost use Rattle.legs.specs.Book.{Book};
 ghost use Rattle.legs.specs.Costs.{ShapeView};
 ghost use Rattle.legs.specs.Limits.{LimitsView};
 ghost use Rattle.pages.specs.Store.{Stays};
 ghost use Rattle.pagecache.specs.Cache.{stored_payload, IsWritten};
-ghost use Rattle.boxsearch.specs.Index.{IndexView};
-ghost use Rattle.catalogue.specs.Holding.{AnswersBook, HoldsBook, IsAtRest, IsUnfinishedStore};
-ghost use Rattle.register.specs.Lasting.{first_fault, ComesFirst, IsKept, IsReadingFault, IsStop, IsTrulyDamaged};
-ghost use Rattle.register.specs.Saved.{CatalogueView};
-ghost use Rattle.register.specs.Stopping.{NamesStop};
-ghost use Rattle.tbtree.specs.declared.tree.Place.{Place};
-ghost use Rattle.tbtree.specs.declared.tree.TbTree.{TbTree};
+ghost use Rattle.catalogue.specs.Holding.{AnswersBook, HoldsBook, IsAtRest};
+ghost use Rattle.register.specs.Lasting.{first_fault, ComesFirst, IsReadingFault, IsStop};
 
 use crate::restoring::restore;
 use boxsearch::TreeIndex;
@@ -37,9 +32,6 @@ fn open_cache<S: PageStore>(
     ensures holds { IfErr result (λ back. IsTrue cache.store.is_faithful
         → (shape : ShapeView) (limits : LimitsView) (book : Book)
         → HoldsBook cache.store shape limits book → IsStop back.1) }
-    ensures kept { IfErr result (λ back. IsTrue cache.store.is_faithful
-        → (c : CatalogueView) (tree : TbTree) (places : List Place)
-        → IsKept (stored_payload cache.store) cache.store.count c tree places → IsStop back.1) }
     ensures first { IfErr result (λ back. IsTrue cache.store.is_faithful
         → ComesFirst (first_fault cache.store.count (stored_payload cache.store 0)) back.1) }
     ensures finished { IfOk result (λ r. IsTrue cache.store.is_faithful
@@ -47,10 +39,6 @@ fn open_cache<S: PageStore>(
     ensures stored { IfOk result (λ r. Stays cache.store r.1.cache.store) }
     ensures back { IfErr result (λ back. Stays cache.store (S.seen back.0)) }
     ensures caused { IfErr result (λ back. IsReadingFault cache.store (S.seen back.0) back.1) }
-    ensures damaged { IfErr result (λ back. IsTrulyDamaged cache.store.is_faithful
-        (stored_payload cache.store) cache.store.count back.1) }
-    ensures named { IfErr result (λ back. IsTrue cache.store.is_faithful
-        → NamesStop (stored_payload cache.store) cache.store.count back.1) }
 {
     boxsearch::laws();
     register::laws();
@@ -87,12 +75,6 @@ pub fn open<S: PageStore>(
         → (shape : ShapeView) (limits : LimitsView) (book : Book)
         → HoldsBook (S.seen store) shape limits book → IsStop back.1) }
 
-    // A store whose pages keep a catalogue is opened, but for memory and a store that failed.
-    ensures kept { IfErr result (λ back. IsTrue (S.seen store).is_faithful
-        → (c : CatalogueView) (tree : TbTree) (places : List Place)
-        → IsKept (stored_payload (S.seen store)) (S.seen store).count c tree places
-        → IsStop back.1) }
-
     // Page 0 comes first.
     ensures first { IfErr result (λ back. IsTrue (S.seen store).is_faithful
         → ComesFirst (first_fault (S.seen store).count (stored_payload (S.seen store) 0)) back.1) }
@@ -106,13 +88,6 @@ pub fn open<S: PageStore>(
     ensures back { IfErr result (λ back. Stays (S.seen store) (S.seen back.0)) }
     // `Store` is returned only if the store failed, and `StoreFull` never.
     ensures caused { IfErr result (λ back. IsReadingFault (S.seen store) (S.seen back.0) back.1) }
-
-    // A page that is said to be damaged is so, and is the first that is met; pages that are said to be
-    // malformed keep nothing, whatever stands in the damaged ones.
-    ensures damaged { IfErr result (λ back. IsTrulyDamaged (S.seen store).is_faithful
-        (stored_payload (S.seen store)) (S.seen store).count back.1) }
-    ensures named { IfErr result (λ back. IsTrue (S.seen store).is_faithful
-        → NamesStop (stored_payload (S.seen store)) (S.seen store).count back.1) }
 {
     let cache = match PageCache::new(alloc, store, cache_pages) {
         Ok(cache) => cache,

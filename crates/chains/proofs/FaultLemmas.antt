@@ -20,7 +20,7 @@ use Rattle.chains.specs.Chains.{IsChain, IsPlaceChain, NamesNone, is_stray, chai
 use Rattle.chains.specs.Links.{Fits, IsPlaced, fits, head_fits, is_linked, is_placed, is_end, link_back, spot_of}
 use Rattle.chains.specs.declared.leaves.Link.{Link}
 use Rattle.chains.specs.declared.leaves.Spot.{Spot}
-use Rattle.legs.specs.GroupLemmas.{some_none}
+use Rattle.legs.proofs.GroupLemmas.{some_none}
 use Rattle.chains.proofs.StepLemmas.{true_false, fault_on, fault_end}
 
 module _ {L : Type 0} (leaf : LeafView L) where

@@ -17,7 +17,7 @@ use Rattle.chains.specs.Chains.{walk, walked, legs_in, previous_of}
 use Rattle.chains.specs.Links.{is_end}
 use Rattle.chains.specs.Trajectory.{HasFeature}
 use Rattle.chains.proofs.BackLemmas.{IsBack, onto, unwound, unwound_onto, length_onto, count_onto, walk_blocks}
-use Rattle.legs.specs.GroupSteps.{joined_groups, filled_groups}
+use Rattle.legs.proofs.GroupSteps.{joined_groups, filled_groups}
 use Rattle.chains.proofs.PlaceLemmas.{place_back, block_count, legs_count}
 use Rattle.chains.proofs.RiseLemmas.{Rises, page_rises}
 use Rattle.chains.proofs.TimeLemmas.{InOrder, EachReaches, in_order, stops_right, each_reaches}

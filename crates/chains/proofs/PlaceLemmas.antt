@@ -18,9 +18,9 @@ use Rattle.tbtree.specs.declared.tree.Place.{Place}
 use Rattle.chains.specs.Chains.{IsPlaceChain, IsChain, NamesNone, last_link, walk, walked, previous_of}
 use Rattle.chains.specs.Trajectory.{HasFeature}
 use Rattle.chains.proofs.BackLemmas.{IsBack, Counted, StopsRight, onto, length_onto, back_of, back_none, counted_onto, is_chain, walk_blocks}
-use Rattle.legs.specs.BlockLemmas.{all_pass}
-use Rattle.legs.specs.GroupLemmas.{group_beyond}
-use Rattle.legs.specs.GroupSteps.{groups_of_one, groups_ceil, joined_groups, length_group}
+use Rattle.legs.proofs.BlockLemmas.{all_pass}
+use Rattle.legs.proofs.GroupLemmas.{group_beyond}
+use Rattle.legs.proofs.GroupSteps.{groups_of_one, groups_ceil, joined_groups, length_group}
 use Rattle.tbtree.proofs.OwnRuns.{own_runs}
 use Rattle.chains.proofs.StepLemmas.{true_false}
 

@@ -14,7 +14,7 @@ use Rattle.tbnode.specs.Form.{node_of, node_by, is_leaf, is_inner, leaf_of, inne
 use Rattle.tbnode.specs.Layout.{is_leg, has_moments, leg_of}
 use Rattle.tbnode.specs.Parts.{all_below, slot}
 use Rattle.tbtree.specs.Nodes.{Node, ALeaf, AnInner, LeafView, pages_of_cache}
-use Rattle.legs.specs.GroupLemmas.{some_none, some_same}
+use Rattle.legs.proofs.GroupLemmas.{some_none, some_same}
 
 -- a leg does not end before it starts
 abbrev pub Rises : LegView → Type 0

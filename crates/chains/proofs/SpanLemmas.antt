@@ -23,7 +23,7 @@ use Rattle.chains.specs.declared.leaves.Link.{Link}
 use Rattle.chains.specs.declared.spans.LeafSpan.{LeafSpan}
 use Rattle.chains.specs.declared.spans.Passing.{Passing}
 use Rattle.chains.specs.declared.spans.Passing.TheVariants.{Into, Over, End}
-use Rattle.legs.specs.GroupLemmas.{some_none, some_same}
+use Rattle.legs.proofs.GroupLemmas.{some_none, some_same}
 use Rattle.chains.proofs.KeepLemmas.{drop_at}
 use Rattle.chains.proofs.StepLemmas.{one_more, same_at}
 

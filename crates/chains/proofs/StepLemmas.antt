@@ -20,7 +20,7 @@ use Rattle.chains.specs.Reads.{OnlyReads}
 use Rattle.chains.specs.Taking.{fault_at}
 use Rattle.chains.specs.declared.leaves.Link.{Link}
 use Rattle.chains.specs.declared.leaves.Spot.{Spot}
-use Rattle.legs.specs.GroupLemmas.{some_none, some_same}
+use Rattle.legs.proofs.GroupLemmas.{some_none, some_same}
 use Rattle.chains.proofs.SieveLemmas.{then_taken}
 
 -- what is only read has the same pages

@@ -1,18 +1,17 @@
 -- What page 0 of a store says behind its first 12 bytes, field by field.
-use Rattle.std.proofs.Common.{ℕ, ◌≡◌, ◌+◌, ◌<◌, ◌≤◌, ◌^◌, List, [], ◌++◌, take, drop, length, refl, sym, ap, ◌∙◌, arith}
+use Rattle.std.proofs.Common.{ℕ, ◌≡◌, ◌+◌, ◌≤◌, List, [], ◌++◌, take, drop, length, refl, sym, ap, ◌∙◌, arith}
 use Rattle.std.proofs.Math.Seq.{take-add, take-append_seam}
 use Rattle.std.proofs.lemmas.Int.{clamps}
-use Rattle.std.proofs.lemmas.List.{append-nil, append_assoc, append_cancel_left, drop-drop, length-append, length-drop, length-take, length-take-le, take_at}
-use Rattle.byteorder.specs.Endian.{big_bytes, big_number}
-use Rattle.byteorder.specs.Numbers.{big_number-reads_back}
+use Rattle.std.proofs.lemmas.List.{append_assoc, append_cancel_left, drop-drop, length-append, length-drop, length-take, length-take-le, take_at}
+use Rattle.byteorder.specs.Endian.{big_bytes}
 use Rattle.legs.specs.Costs.{ShapeView}
 use Rattle.legs.specs.Limits.{LimitsView}
 use Rattle.pages.specs.Zero.{zero_payload}
 use Rattle.pages.specs.declared.payload.Kind.TheVariants.{Header}
 use Rattle.pages.specs.declared.payload.Payload.{Payload}
-use Rattle.tbnode.specs.Parts.{number_at, part, put}
+use Rattle.tbnode.specs.Parts.{part, put}
 use Rattle.tbnode.proofs.PartLemmas.{drop-put, length-big_bytes, part-put_after, part-put_same}
-use Rattle.header.specs.Fields.{fields_bytes, first_of, header_bytes, header_payload, new_fields, HasFields, SaysLimits, SaysShape}
+use Rattle.header.specs.Fields.{fields_bytes, header_bytes, header_payload, new_fields, HasFields, SaysLimits, SaysShape}
 use Rattle.header.specs.Front.{front_bytes, marked, unfinished_front, with_state, IsUnfinished}
 use Rattle.header.specs.declared.header_fields.Fields.{Fields}
 
@@ -143,25 +142,6 @@ room payload f has =
     let d = length-drop 12 payload.bytes in
     let k = ap (λ (x : List ℕ). length x) has.fields ∙ fields_length f in
     omega (arith, clamps, l, d, k)
-
-named_part : (payload : Payload) (f : Fields) → HasFields payload f → part 44 4 payload.bytes ≡ big_bytes 4 f.first
-unfolding fields_bytes
-named_part payload f has =
-    let b = payload.bytes in
-    let long = room payload f has in
-    let leaf = cut b 12 2 46 (big_bytes 2 f.shape.leaf) _ (omega (arith, long)) refl has.fields in
-    let inner = cut b 14 2 44 (big_bytes 2 f.shape.inner) _ (omega (arith, long)) refl leaf.1 in
-    let legs = cut b 16 8 36 (big_bytes 8 f.limits.legs) _ (omega (arith, long)) refl inner.1 in
-    let features = cut b 24 8 28 (big_bytes 8 f.limits.features) _ (omega (arith, long)) refl legs.1 in
-    let root = cut b 32 4 24 (big_bytes 4 f.root) _ (omega (arith, long)) refl features.1 in
-    let levels = cut b 36 4 20 (big_bytes 4 f.levels) _ (omega (arith, long)) refl root.1 in
-    let leaves = cut b 40 4 16 (big_bytes 4 f.leaves) _ (omega (arith, long)) refl levels.1 in
-    (cut b 44 4 12 (big_bytes 4 f.first) _ (omega (arith, long)) refl leaves.1).0
-
-pub first_named : (payload : Payload) (f : Fields) → HasFields payload f → f.first < 2 ^ 32 → first_of payload ≡ f.first
-unfolding number_at
-first_named payload f has small =
-    ap (big_number 4) (named_part payload f has ∙ sym (append-nil (big_bytes 4 f.first))) ∙ big_number-reads_back 4 f.first [] (omega (arith, small))
 
 -- another state leaves what stands behind it
 pub stated_fields : (p : Payload) (state : ℕ) (f : Fields) → HasFields p f → HasFields (with_state state p) f

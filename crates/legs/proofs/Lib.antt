@@ -1,3 +1,6 @@
+pub mod BlockLemmas
+pub mod GroupLemmas
+pub mod GroupSteps
 pub mod BoxLemmas
 pub mod CutLemmas
 pub mod PlaceLemmas

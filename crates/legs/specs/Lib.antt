@@ -4,9 +4,6 @@ pub mod Index
 pub mod Questions
 pub mod Sieves
 pub mod Blocks
-pub mod BlockLemmas
-pub mod GroupLemmas
-pub mod GroupSteps
 pub mod Hull
 pub mod Costs
 pub mod Finding

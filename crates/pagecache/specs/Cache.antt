@@ -125,12 +125,6 @@ pub record Adds (w : Payload) (old new : Cache) : Type 0 where
 abbrev pub SameLength : Cache → Cache → Type 0
 SameLength old new = new.store.count ≡ old.store.count
 
--- the store has as many pages as before, or one more where it had as many as the cache
-abbrev pub MayGrow : Cache → Cache → Type 0
-MayGrow old new =
-    SameLength old new
-    ⊎ ((old.store.count ≡ old.count) × (new.store.count ≡ old.count + 1))
-
 -- the store failed, or memory was wanted
 abbrev pub IsStopped : CacheFault → Cache → Cache → Type 0
 IsStopped fault.NoPage old new = ⊥

@@ -1,7 +1,7 @@
 //! The cache as its callers see it.
 ghost use Rattle.std.specs.Prelude.{ℕ, ◌≡◌, ◌<◌, ◌≤◌, false, Some, None, IsTrue, IfOk, IfErr, OnOk, OnErr, IsErrOf, length};
 ghost use Rattle.std.specs.Borrow.{sem};
-ghost use Rattle.pagecache.specs.Cache.{fresh, is_changed, payload_of, Adds, KeepsPayloads, MayGrow, SameLength, AsksOnce, IsNotAdded, IsSettled, IsStopped, IsWritten, UnsyncsNone};
+ghost use Rattle.pagecache.specs.Cache.{fresh, is_changed, payload_of, Adds, KeepsPayloads, SameLength, AsksOnce, IsNotAdded, IsSettled, IsStopped, IsWritten, UnsyncsNone};
 ghost use Rattle.pages.specs.Store.{IsLawful, IsSynced};
 ghost use Rattle.pages.specs.Zero.{zero_payload};
 ghost use Rattle.pagecache.specs.PageLends.{LendsPage, ShowsPage};
@@ -100,7 +100,7 @@ impl<S: PageStore> PageCache<S> {
         // The cache counts all pages of the store, if it did before.
         ensures length { OnOk result (self.old.count ≡ self.old.store.count
             → self.new.count ≡ self.new.store.count) }
-        ensures grows { MayGrow self.old self.new }
+        // After an error no payload has changed.
         ensures refused { OnErr result (KeepsPayloads self.old self.new) }
         // One ask is counted.
         ensures asks { AsksOnce self.old self.new }
@@ -128,7 +128,7 @@ impl<S: PageStore> PageCache<S> {
         // The cache counts all pages of the store, if it did before.
         ensures length { OnOk result (self.old.count ≡ self.old.store.count
             → self.new.count ≡ self.new.store.count) }
-        ensures grows { MayGrow self.old self.new }
+        // After an error no payload has changed.
         ensures refused { OnErr result (KeepsPayloads self.old self.new) }
         // One ask is counted.
         ensures asks { AsksOnce self.old self.new }
@@ -156,7 +156,7 @@ impl<S: PageStore> PageCache<S> {
         // The cache counts all pages of the store, if it did before.
         ensures length { OnOk result (self.old.count ≡ self.old.store.count
             → self.new.count ≡ self.new.store.count) }
-        ensures grows { MayGrow self.old self.new }
+        // After an error no payload has changed.
         ensures refused { OnErr result (KeepsPayloads self.old self.new) }
         // One ask is counted.
         ensures asks { AsksOnce self.old self.new }

@@ -2,7 +2,7 @@
 ghost use Rattle.std.specs.Prelude.{ℕ, ◌≡◌, ◌<◌, ◌≤◌, ◌↔◌, false, Some, None, IsTrue, IsSome, OnOk, OnErr, IfOk, IfErr, IfNone, IfSome, IsErrOf, slice_get, slice_index, EachIndex, length};
 ghost use Rattle.std.specs.Borrow.{sem};
 ghost use Rattle.std.specs.Map.{keys_of};
-ghost use Rattle.pagecache.specs.Cache.{fresh, AsksOnce, KeepsPayloads, MayGrow, SameLength, Adds, IsRefused, IsStopped, IsNotAdded, IsWritten, in_memory, sealed_payload, is_changed, payload_of, UnsyncsNone};
+ghost use Rattle.pagecache.specs.Cache.{fresh, AsksOnce, KeepsPayloads, SameLength, Adds, IsRefused, IsStopped, IsNotAdded, IsWritten, in_memory, sealed_payload, is_changed, payload_of, UnsyncsNone};
 ghost use Rattle.pages.specs.Store.{IsSynced, Stays as StoreStays};
 ghost use Rattle.pagecache.specs.SlotLends.{LendsSlot};
 ghost use Rattle.pagecache.specs.Slots.{HasFailed, HasRoom, IsFirst, IsSound, IsWithin, OnLeaving, Steps, changed_numbers, seen_of};
@@ -326,7 +326,6 @@ impl<S: PageStore> Slots<S> {
         ensures number { IfOk result (λ number. number ≡ self.old.count) }
         ensures length { OnOk result (self.old.count ≡ (S.seen self.old.store).count
             → self.new.count ≡ (S.seen self.new.store).count) }
-        ensures grows { MayGrow (seen_of S.seen self.old) (seen_of S.seen self.new) }
         ensures stays { OnErr result
             (KeepsPayloads (seen_of S.seen self.old) (seen_of S.seen self.new)) }
         ensures held { self.new.held ≡ self.old.held }
@@ -356,7 +355,6 @@ impl<S: PageStore> Slots<S> {
         ensures number { IfOk result (λ number. number ≡ self.old.count) }
         ensures length { OnOk result (self.old.count ≡ (S.seen self.old.store).count
             → self.new.count ≡ (S.seen self.new.store).count) }
-        ensures grows { MayGrow (seen_of S.seen self.old) (seen_of S.seen self.new) }
         ensures stays { OnErr result
             (KeepsPayloads (seen_of S.seen self.old) (seen_of S.seen self.new)) }
         ensures asks { AsksOnce (seen_of S.seen self.old) (seen_of S.seen self.new) }
@@ -395,7 +393,6 @@ impl<S: PageStore> Slots<S> {
         ensures number { IfOk result (λ number. number ≡ self.old.count) }
         ensures length { OnOk result (self.old.count ≡ (S.seen self.old.store).count
             → self.new.count ≡ (S.seen self.new.store).count) }
-        ensures grows { MayGrow (seen_of S.seen self.old) (seen_of S.seen self.new) }
         ensures stays { OnErr result
             (KeepsPayloads (seen_of S.seen self.old) (seen_of S.seen self.new)) }
         ensures asked { self.new.asked ≡ self.old.asked }
@@ -434,7 +431,6 @@ impl<S: PageStore> Slots<S> {
         ensures number { IfOk result (λ number. number ≡ self.old.count) }
         ensures length { OnOk result (self.old.count ≡ (S.seen self.old.store).count
             → self.new.count ≡ (S.seen self.new.store).count) }
-        ensures grows { MayGrow (seen_of S.seen self.old) (seen_of S.seen self.new) }
         ensures stays { OnErr result
             (KeepsPayloads (seen_of S.seen self.old) (seen_of S.seen self.new)) }
         ensures asks { AsksOnce (seen_of S.seen self.old) (seen_of S.seen self.new) }

@@ -1,15 +1,12 @@
 -- What 28 bytes say of a feature.
-use Rattle.std.proofs.Common.{ℕ, ◌≡◌, ◌+◌, List, [], ◌∷◌, ◌++◌, take, drop, length, refl, sym, ap, ◌∙◌, arith, Option, option_map, Ok}
+use Rattle.std.proofs.Common.{ℕ, ◌≡◌, ◌+◌, List, [], ◌∷◌, ◌++◌, take, drop, length, refl, sym, ap, ◌∙◌, arith}
 use Rattle.std.specs.Int.{w64, cast_unsigned}
 use Rattle.std.proofs.lemmas.List.{take-append-drop, length-append, length-drop, append-nil, drop-drop}
 use Rattle.byteorder.specs.Endian.{big_bytes}
 use Rattle.byteorder.specs.Numbers.{length-bytes_high_first}
-use Rattle.pages.specs.declared.payload.Payload.{Payload}
 use Rattle.tbnode.specs.Parts.{part, signed_bytes}
-use Rattle.register.specs.ChainReader.{ReaderView, rest_of, Takes}
 use Rattle.register.specs.Text.{kept_text}
 use Rattle.register.specs.declared.contents.Kept.{Kept}
-use Rattle.register.proofs.ValueLemmas.{ready}
 
 pub kept_length : (kept : Kept) → length (kept_text kept) ≡ 28
 unfolding kept_text
@@ -49,11 +46,3 @@ module _ (bytes : List ℕ) where
       → big_bytes 4 kept.place.last_index ≡ part 16 4 bytes → big_bytes 8 kept.place.legs ≡ part 20 8 bytes → kept_text kept ≡ bytes
   unfolding kept_text
   kept_is kept len a b c d e = (λ i. a i ++ (b i ++ (c i ++ (d i ++ e i)))) ∙ five_parts len
-
--- a value of n bytes stands ready
-pub fixed_taken : {V : Type 0} (text : V → List ℕ) (ok : V → Type 0) (at : ℕ → Option Payload) (r : ReaderView) (n : ℕ) (old new : Option (List ℕ)) (v : V)
-    → rest_of at r ≡ old → text v ≡ take n r.bytes → ok v → rest_of at (record r { bytes = drop n r.bytes }) ≡ new → Takes at text ok old new (Ok v)
-fixed_taken text ok at r n old new v same is h end = record {
-  taken = (h, sym same ∙ ready at r n ∙ ap (option_map (λ t. take n r.bytes ++ t)) end ∙ ap (λ l. option_map (λ t. l ++ t) new) (sym is));
-  lacks = tt;
-}

@@ -14,9 +14,6 @@ pub mod EncodingLemmas
 pub mod SavingLemmas
 pub mod SaveLemmas
 pub mod RestoreLemmas
-pub mod ReuseLemmas
 pub mod SameLemmas
 pub mod HeaderTextLemmas
 pub mod StateLemmas
-pub mod EarlierLemmas
-pub mod WithinLemmas

@@ -1,8 +1,7 @@
 -- The text that is left in a chain of pages.
-use Rattle.std.proofs.Common.{ℕ, suc, ◌≡◌, ◌-◌, ◌<◌, ◌≤◌, ◌==◌, min, Bool, true, false, cond, List, [], ◌++◌, drop, length, refl, sym, ap, ◌∙◌, arith, subst, ⊎_elim, IsTrue, Option, Some, None, option_map, option_and_then, unwrap_or, Result, Ok, Err, OnOk, OnErr}
+use Rattle.std.proofs.Common.{ℕ, suc, ◌≡◌, ◌-◌, ◌<◌, ◌≤◌, ◌==◌, min, Bool, true, false, cond, List, [], ◌++◌, drop, length, refl, sym, ap, ◌∙◌, arith, subst, ⊎_elim, IsTrue, Option, Some, None, option_map, option_and_then, Result, Ok, Err, OnOk}
 use Rattle.std.specs.Prelude.{IfErr, IfOk, IsErrAnd}
 use Rattle.std.specs.Int.{div_ceil}
-use Rattle.std.proofs.lemmas.Bool.{cases_lt}
 use Rattle.std.proofs.lemmas.Grind.{div_ceil_times}
 use Rattle.std.proofs.lemmas.Int.{clamps}
 use Rattle.std.proofs.lemmas.List.{append-nil, append_assoc, drop-append-le}
@@ -12,8 +11,8 @@ use Rattle.pagecache.specs.declared.fault.CacheFault.{CacheFault}
 use Rattle.pagecache.specs.declared.fault.CacheFault.TheVariants as cache
 use Rattle.chains.specs.Reads.{OnlyReads}
 pub use Rattle.chains.proofs.ReadLemmas.{reads_trans}
-use Rattle.register.specs.Chain.{most_used, is_part, next_in, text_in, chain_stop, chain_text, text_at, text_stop}
-use Rattle.register.specs.ChainReader.{ReaderView, fault_of, rest_of, stop_of, BreaksAt, IsBroken, IsPageFault, IsReadFault, IsReaderFault, IsTextFault, MayBe, ReadsOn, Takes, TakesInto, TakesPart}
+use Rattle.register.specs.Chain.{most_used, is_part, next_in, text_in, chain_text, text_at}
+use Rattle.register.specs.ChainReader.{ReaderView, fault_of, rest_of, IsBroken, IsPageFault, IsReadFault, IsTextFault, ReadsInto, ReadsValue, Shows, TakesPart}
 use Rattle.register.specs.declared.fault.CatalogueFault.{CatalogueFault}
 use Rattle.register.specs.declared.fault.CatalogueFault.TheVariants.{Memory, Store, StoreFull, Damaged, Unfinished, Version, Malformed}
 
@@ -66,20 +65,6 @@ module _ (at : ℕ → Option Payload) where
       ap (λ n. chain_text at n left next) (pages_down left h)
       ∙ ap (λ o. option_and_then (λ p. cond (is_part (min most_used left) p) (option_map (λ t. text_in (min most_used left) p ++ t) (chain_text at (div_ceil (left - most_used) most_used) (left - most_used) (next_in p))) None) o) here
 
-  -- the walk along the text goes on behind a page of it, and stops at one without a payload
-  stop_step : (left next : ℕ) (payload : Payload) → 0 < left → at next ≡ Some payload → is_part (min most_used left) payload ≡ true → text_stop at left next ≡ text_stop at (left - most_used) (next_in payload)
-  unfolding text_stop
-  stop_step left next payload h here form =
-      ap (λ n. chain_stop at n left next) (pages_down left h)
-      ∙ ap (λ o. unwrap_or (option_map (λ p. cond (is_part (min most_used left) p) (chain_stop at (div_ceil (left - most_used) most_used) (left - most_used) (next_in p)) None) o) (Some next)) here
-      ∙ ap (λ b. cond b (chain_stop at (div_ceil (left - most_used) most_used) (left - most_used) (next_in payload)) None) form
-
-  stop_none : (left next : ℕ) → 0 < left → at next ≡ None → text_stop at left next ≡ Some next
-  unfolding text_stop
-  stop_none left next h here =
-      ap (λ n. chain_stop at n left next) (pages_down left h)
-      ∙ ap (λ o. unwrap_or (option_map (λ p. cond (is_part (min most_used left) p) (chain_stop at (div_ceil (left - most_used) most_used) (left - most_used) (next_in p)) None) o) (Some next)) here
-
   -- at the end of the text no page more is named
   pub text_end : (next : ℕ) → text_at at 0 next ≡ cond (next == 0) (Some []) None
   unfolding text_at
@@ -102,31 +87,16 @@ module _ (at : ℕ → Option Payload) where
   pub rest_none : (old : ReaderView) → 0 < old.left → at old.next ≡ None → rest_of at old ≡ None
   rest_none old h here = map_none (λ s. old.bytes ++ s) (text_at at old.left old.next) (text_none old.left old.next h here)
 
-  pub along_step : (old new : ReaderView) (payload : Payload) → 0 < old.left → at old.next ≡ Some payload → TakesPart payload old new → stop_of at new ≡ stop_of at old
-  along_step old new payload h here t =
-      ap (λ n. text_stop at n new.next) t.left
-      ∙ ap (λ n. text_stop at (old.left - most_used) n) t.next
-      ∙ sym (stop_step old.left old.next payload h here t.form)
-
-  pub stops_here : (old : ReaderView) → 0 < old.left → at old.next ≡ None → stop_of at old ≡ Some old.next
-  stops_here old h here = stop_none old.left old.next h here
-
--- what the pages may be, they may be once they were only read
-pub may_read : {a b : Cache} {at : ℕ → Option Payload} → OnlyReads a b → MayBe a at → MayBe b at
-may_read reads may = record {
-  faithful = reads.store.faithful ∙ may.faithful;
-  mended = record {
-    same = λ p payload e. may.mended.same p payload (sym (reads.payloads may.faithful p) ∙ e);
-    above = λ p h. let count = reads.count in may.mended.above p (omega (arith, h, count)) ∙ sym (reads.payloads may.faithful p);
-  };
+-- pages that a cache shows it shows once they were only read
+pub still_shows : {a b : Cache} {at : ℕ → Option Payload} → OnlyReads a b → Shows a at → Shows b at
+still_shows reads shows = record {
+  faithful = reads.store.faithful ∙ shows.faithful;
+  same = λ p. shows.same p ∙ sym (reads.payloads shows.faithful p);
 }
 
-pub may_still : {a b : Cache} {r s : ReaderView} {at : ℕ → Option Payload} → ReadsOn a b r s → MayBe a at → MayBe b at
-may_still on may = may_read on.only may
-
--- they may be what they are
-pub may_be : (c : Cache) → IsTrue c.store.is_faithful → MayBe c (payload_of c)
-may_be c f = record { faithful = f; mended = record { same = λ p payload e. e; above = λ p h. refl } }
+-- it shows its own
+pub shows_own : (c : Cache) → IsTrue c.store.is_faithful → Shows c (payload_of c)
+shows_own c f = record { faithful = f; same = λ p. refl }
 
 -- a page of the chain is taken in
 module _ (payload : Payload) (next left taken used n : ℕ) (items : List ℕ) where
@@ -176,51 +146,34 @@ page_broken payload old Unfinished h b = absurd b
 page_broken payload old Version h b = absurd b
 page_broken payload old Malformed h b = h
 
-pub refused_none : (at : ℕ → Option Payload) (n : ℕ) (a b : Cache) (e : CacheFault) → IsRefused n e a b → BreaksAt at (fault_of e) → MayBe a at → at n ≡ None
-refused_none at n a b cache.NoPage h k may = may.mended.above n h.0 ∙ h.1 may.faithful
-refused_none at n a b cache.Store h k may = absurd k
-refused_none at n a b (cache.Damaged m) h k may = ap at (sym h.0) ∙ k
-refused_none at n a b cache.StoreFull h k may = absurd k
-refused_none at n a b cache.Memory h k may = absurd k
+-- a page that is not read for a fault of its own has no payload
+pub refused_none : (at : ℕ → Option Payload) (n : ℕ) (a b : Cache) (e : CacheFault) → IsRefused n e a b → IsBroken (fault_of e) → Shows a at → at n ≡ None
+refused_none at n a b cache.NoPage h k shows = shows.same n ∙ h.1 shows.faithful
+refused_none at n a b cache.Store h k shows = absurd k
+refused_none at n a b (cache.Damaged m) h k shows = shows.same n ∙ h.1 shows.faithful
+refused_none at n a b cache.StoreFull h k shows = absurd k
+refused_none at n a b cache.Memory h k shows = absurd k
 
--- a page that is not read for a fault of its own is there, and has no payload; reading stops at it
-pub refused_read : (n : ℕ) (a b : Cache) (r : ReaderView) (e : CacheFault) → n ≡ r.next → 0 < r.left → Rests a b → (a.count ≤ n → e ≡ cache.NoPage) → IsRefused n e a b → IsReaderFault a b r (fault_of e)
-refused_read n a b r cache.NoPage named some rests out h = tt
-refused_read n a b r cache.Store named some rests out h = h
-refused_read n a b r (cache.Damaged m) named some rests out h =
-    let count = rests.stays.count in
-    let same : n ≡ m = sym h.0 in (
-      (
-        ⊎_elim (λ (l : n < a.count). omega (arith, l, count, same)) (λ (l : a.count ≤ n). absurd (damaged_not (out l))) (cases_lt n a.count),
-        λ fb. let fa = sym rests.stays.keeps.store.faithful ∙ fb in ap (payload_of b) (sym same) ∙ rests.stays.payloads fa n ∙ h.1 fa,
-      ),
-      λ fa. stops_here (payload_of a) r some (ap (payload_of a) (sym named) ∙ h.1 fa) ∙ ap Some (sym named ∙ same),
-    ) where
-      damaged_not : cache.Damaged m ≡ cache.NoPage → ⊥
-      damaged_not e = absurd cc
-refused_read n a b r cache.StoreFull named some rests out h = h
-refused_read n a b r cache.Memory named some rests out h = tt
+pub refused_read : (n : ℕ) (a b : Cache) (e : CacheFault) → IsRefused n e a b → IsReadFault a b (fault_of e)
+refused_read n a b cache.NoPage h = tt
+refused_read n a b cache.Store h = h
+refused_read n a b (cache.Damaged m) h = tt
+refused_read n a b cache.StoreFull h = h
+refused_read n a b cache.Memory h = tt
 
 -- the next page is read
-module _ (a : Cache) (old : ReaderView) (n : ℕ) (named : n ≡ old.next) (some : 0 < old.left) where
-  module _ (at : ℕ → Option Payload) (may : MayBe a at) where
-    there : (payload : Payload) → (IsTrue a.store.is_faithful → payload_of a n ≡ Some payload) → at old.next ≡ Some payload
-    there payload here = ap at (sym named) ∙ may.mended.same n payload (here may.faithful)
+module _ (a : Cache) (old : ReaderView) (n : ℕ) (named : n ≡ old.next) (some : 0 < old.left) (at : ℕ → Option Payload) (shows : Shows a at) where
+  there : (payload : Payload) → (IsTrue a.store.is_faithful → payload_of a n ≡ Some payload) → at old.next ≡ Some payload
+  there payload here = ap at (sym named) ∙ shows.same n ∙ here shows.faithful
 
-    pub loaded : (new : ReaderView) (payload : Payload) → (IsTrue a.store.is_faithful → payload_of a n ≡ Some payload) → TakesPart payload old new → rest_of at new ≡ rest_of at old
-    loaded new payload here t = rest_step at old new payload some (there payload here) t
+  pub loaded : (new : ReaderView) (payload : Payload) → (IsTrue a.store.is_faithful → payload_of a n ≡ Some payload) → TakesPart payload old new → rest_of at new ≡ rest_of at old
+  loaded new payload here t = rest_step at old new payload some (there payload here) t
 
-    pub not_taken : (payload : Payload) → (IsTrue a.store.is_faithful → payload_of a n ≡ Some payload) → is_part (min most_used old.left) payload ≡ false → rest_of at old ≡ None
-    not_taken payload here form = rest_broken at old payload some (there payload here) form
+  pub not_taken : (payload : Payload) → (IsTrue a.store.is_faithful → payload_of a n ≡ Some payload) → is_part (min most_used old.left) payload ≡ false → rest_of at old ≡ None
+  not_taken payload here form = rest_broken at old payload some (there payload here) form
 
-    pub not_read : at n ≡ None → rest_of at old ≡ None
-    not_read none = rest_none at old some (ap at (sym named) ∙ none)
-
-  -- answered or not, the reader is on its way
-  module _ {T E : Type 0} (b : Cache) (only : OnlyReads a b) (new : ReaderView) (payload : Payload) (here : IsTrue a.store.is_faithful → payload_of a n ≡ Some payload) where
-    pub goes_along : (r : Result T E) → OnOk r (TakesPart payload old new) → OnErr r (new ≡ old) → ReadsOn a b old new
-    goes_along (Ok x) t e = record { only = only; along = λ f. along_step (payload_of a) old new payload some (ap (payload_of a) (sym named) ∙ here f) t }
-    goes_along (Err x) t e = record { only = only; along = λ f. ap (stop_of (payload_of a)) e }
+  pub not_read : at n ≡ None → rest_of at old ≡ None
+  not_read none = rest_none at old some (ap at (sym named) ∙ none)
 
 -- at the end of the text there is what stands ready
 module _ (at : ℕ → Option Payload) (r : ReaderView) (text : List ℕ) where
@@ -247,18 +200,9 @@ rests_reads a b rests = record {
   unsynced = rests.unsynced;
 }
 
--- and one reader's
-pub goes_on : {r s t : ReaderView} {a b c : Cache} → ReadsOn a b r s → ReadsOn b c s t → ReadsOn a c r t
-goes_on {r} {s} {t} {a} {b} {c} p q = record {
-  only = reads_trans a b c p.only q.only;
-  along = λ f.
-      let same : payload_of b ≡ payload_of a = (λ i n. p.only.payloads f n i) in
-      sym (λ i. stop_of (same i) t) ∙ q.along (p.only.store.faithful ∙ f) ∙ (λ i. stop_of (same i) s) ∙ p.along f;
-}
-
--- bytes that are taken are no step on the way
-pub skips : {a b : Cache} {r s t : ReaderView} (bytes : List ℕ) → ReadsOn a b r s → t ≡ record s { bytes = bytes } → ReadsOn a b r t
-skips {a} bytes p e = record { only = p.only; along = λ f. ap (stop_of (payload_of a)) e ∙ p.along f }
+-- one reading after another
+pub goes_on : {a b c : Cache} → OnlyReads a b → OnlyReads b c → OnlyReads a c
+goes_on {a} {b} {c} p q = reads_trans a b c p q
 
 -- what holds of a fault holds of a result that is it, at the exit of a `?`
 pub on_err_and : {T E : Type 0} (P : Result T E → Type 0) (r : Result T E) (e : E) → IsErrAnd r (λ f. f ≡ e) → P (Err e) → P r
@@ -274,34 +218,27 @@ pub if_err_and : {T E : Type 0} (P : E → Type 0) (r : Result T E) (e : E) → 
 if_err_and P r e is h = on_err_and (λ r. IfErr r P) r e is h
 
 -- a fault of a later reading
-pub later_fault : {r s : ReaderView} (a b c : Cache) (e : CatalogueFault) → ReadsOn a b r s → IsReaderFault b c s e → IsReaderFault a c r e
-later_fault {r} {s} a b c Memory reads h = tt
-later_fault {r} {s} a b c Store reads h = let faults = reads.only.store.faults in omega (arith, faults, h)
-later_fault {r} {s} a b c StoreFull reads h = h
-later_fault {r} {s} a b c (Damaged n) reads h = (
-  h.0,
-  λ f. sym (reads.along f) ∙ sym (λ i. stop_of (λ p. reads.only.payloads f p i) s) ∙ h.1 (reads.only.store.faithful ∙ f),
-)
-later_fault {r} {s} a b c Unfinished reads h = h
-later_fault {r} {s} a b c Version reads h = h
-later_fault {r} {s} a b c Malformed reads h = tt
-
--- at the exit of a `?`
-pub later : {T : Type 0} {s t u : ReaderView} {a b c : Cache} (r : Result T CatalogueFault) (e : CatalogueFault) → IsErrAnd r (λ f. f ≡ e) → ReadsOn a b s t → ReadsOn b c t u → IsReaderFault b c t e → IfErr r (IsReaderFault a c s)
-later {T} {s} {t} {u} {a} {b} {c} r e is reads more h = if_err_and (IsReaderFault a c s) r e is (later_fault a b c e reads h)
+pub later_fault : (a b c : Cache) (e : CatalogueFault) → OnlyReads a b → IsReadFault b c e → IsReadFault a c e
+later_fault a b c Memory reads h = tt
+later_fault a b c Store reads h = let faults = reads.store.faults in omega (arith, faults, h)
+later_fault a b c StoreFull reads h = h
+later_fault a b c (Damaged n) reads h = tt
+later_fault a b c Unfinished reads h = h
+later_fault a b c Version reads h = h
+later_fault a b c Malformed reads h = tt
 
 -- one of bytes that are read
-pub text_read : (a b : Cache) (r : ReaderView) (e : CatalogueFault) → IsTextFault e → IsReaderFault a b r e
-text_read a b r Memory h = tt
-text_read a b r Store h = absurd h
-text_read a b r StoreFull h = absurd h
-text_read a b r (Damaged n) h = absurd h
-text_read a b r Unfinished h = absurd h
-text_read a b r Version h = absurd h
-text_read a b r Malformed h = tt
+pub text_read : (a b : Cache) (e : CatalogueFault) → IsTextFault e → IsReadFault a b e
+text_read a b Memory h = tt
+text_read a b Store h = absurd h
+text_read a b StoreFull h = absurd h
+text_read a b (Damaged n) h = absurd h
+text_read a b Unfinished h = absurd h
+text_read a b Version h = absurd h
+text_read a b Malformed h = tt
 
 -- and one of a page that is taken in
-pub page_read : (payload : Payload) (a b : Cache) (r : ReaderView) (e : CatalogueFault) → IsPageFault payload r e → IsReaderFault a b r e
+pub page_read : (payload : Payload) (a b : Cache) (r : ReaderView) (e : CatalogueFault) → IsPageFault payload r e → IsReadFault a b e
 page_read payload a b r Memory h = tt
 page_read payload a b r Store h = absurd h
 page_read payload a b r StoreFull h = absurd h
@@ -310,72 +247,26 @@ page_read payload a b r Unfinished h = absurd h
 page_read payload a b r Version h = absurd h
 page_read payload a b r Malformed h = tt
 
--- what breaks at pages that may be is broken
-pub is_broken : (at : ℕ → Option Payload) (e : CatalogueFault) → BreaksAt at e → IsBroken e
-is_broken at Memory b = b
-is_broken at Store b = b
-is_broken at StoreFull b = b
-is_broken at (Damaged n) b = tt
-is_broken at Unfinished b = b
-is_broken at Version b = b
-is_broken at Malformed b = b
-
--- and what is broken breaks at the pages as they are
-pub breaks_here : (a b : Cache) (r : ReaderView) (e : CatalogueFault) → OnlyReads a b → IsTrue a.store.is_faithful → IsReaderFault a b r e → IsBroken e → BreaksAt (payload_of a) e
-breaks_here a b r Memory reads f h k = k
-breaks_here a b r Store reads f h k = k
-breaks_here a b r StoreFull reads f h k = k
-breaks_here a b r (Damaged n) reads f h k = sym (reads.payloads f n) ∙ h.0.1 (reads.store.faithful ∙ f)
-breaks_here a b r Unfinished reads f h k = k
-breaks_here a b r Version reads f h k = k
-breaks_here a b r Malformed reads f h k = k
-
--- what a call that reads a value leaves, and what it says where it is refused
-abbrev pub Leaves : {V : Type 0} → Cache → Cache → ReaderView → ReaderView → (V → List ℕ) → (V → Type 0) → Result V CatalogueFault → Type 0
-Leaves a b s t text ok r = record {
-  takes : (at : ℕ → Option Payload) → MayBe a at → Takes at text ok (rest_of at s) (rest_of at t) r;
-  reads : ReadsOn a b s t;
-  caused : IfErr r (IsReaderFault a b s);
-}
-
--- the same where the value is put somewhere
-abbrev pub LeavesInto : {V T : Type 0} → Cache → Cache → ReaderView → ReaderView → (V → List ℕ) → (V → Type 0) → (V → Type 0) → Result T CatalogueFault → Type 0
-LeavesInto a b s t text ok is_put r = record {
-  takes : (at : ℕ → Option Payload) → MayBe a at → TakesInto at text ok is_put (rest_of at s) (rest_of at t) r;
-  reads : ReadsOn a b s t;
-  caused : IfErr r (IsReaderFault a b s);
-}
-
--- what a call that reads pages until so many bytes stand ready leaves
-abbrev pub IsFilled : Cache → Cache → ReaderView → ReaderView → ℕ → Result (Unit {0}) CatalogueFault → Type 0
-IsFilled a b s t n r = record {
-  same : OnOk r ((at : ℕ → Option Payload) → MayBe a at → rest_of at t ≡ rest_of at s);
-  ready : OnOk r (n ≤ length t.bytes);
-  broken : IfErr r (λ e. (at : ℕ → Option Payload) → MayBe a at → BreaksAt at e → (text : List ℕ) → rest_of at s ≡ Some text → length text < n);
-  reads : ReadsOn a b s t;
-  caused : IfErr r (IsReaderFault a b s);
-}
-
 -- a refusal that is passed on
-pub refused : {V : Type 0} {text : V → List ℕ} {ok : V → Type 0} {a b : Cache} {s t : ReaderView} {r : Result V CatalogueFault} {e : CatalogueFault} → IsErrAnd r (λ f. f ≡ e) → Leaves a b s t text ok (Err e) → Leaves a b s t text ok r
-refused {text = text} {ok = ok} {a = a} {b = b} {s = s} {t = t} {r = r} {e = e} is p = on_err_and (λ r. Leaves a b s t text ok r) r e is p
+pub refused : {V : Type 0} {text : V → List ℕ} {ok : V → Type 0} {a b : Cache} {s t : ReaderView} {r : Result V CatalogueFault} {e : CatalogueFault} → IsErrAnd r (λ f. f ≡ e) → ReadsValue a b s t text ok (Err e) → ReadsValue a b s t text ok r
+refused {text = text} {ok = ok} {a = a} {b = b} {s = s} {t = t} {r = r} {e = e} is p = on_err_and (λ r. ReadsValue a b s t text ok r) r e is p
 
 -- what is refused is not there, wherever it was to be put
 module _ {V T : Type 0} {text : V → List ℕ} {ok is_put : V → Type 0} {a b : Cache} {s t : ReaderView} {e : CatalogueFault} where
-  pub from_into : ReadsOn a b s t → ((at : ℕ → Option Payload) → MayBe a at → TakesInto {T = T} at text ok is_put (rest_of at s) (rest_of at t) (Err e)) → IsReaderFault a b s e → Leaves a b s t text ok (Err e)
-  from_into reads takes caused = record { takes = λ at may. record { taken = tt; lacks = (takes at may).lacks }; reads = reads; caused = caused }
+  pub from_into : ReadsInto {T = T} a b s t text ok is_put (Err e) → ReadsValue a b s t text ok (Err e)
+  from_into p = record { takes = λ at shows. record { taken = tt; lacks = (p.takes at shows).lacks }; reads = p.reads; caused = p.caused }
 
-  pub into_refused : {r : Result T CatalogueFault} → IsErrAnd r (λ f. f ≡ e) → Leaves a b s t text ok (Err e) → LeavesInto a b s t text ok is_put r
-  into_refused {r} is p = on_err_and (λ r. LeavesInto a b s t text ok is_put r) r e is (record {
-    takes = λ at may. record { taken = tt; lacks = (p.takes at may).lacks };
+  pub into_refused : {r : Result T CatalogueFault} → IsErrAnd r (λ f. f ≡ e) → ReadsValue a b s t text ok (Err e) → ReadsInto a b s t text ok is_put r
+  into_refused {r} is p = on_err_and (λ r. ReadsInto a b s t text ok is_put r) r e is (record {
+    takes = λ at shows. record { taken = tt; lacks = (p.takes at shows).lacks };
     reads = p.reads;
     caused = p.caused;
   })
 
 -- what is read is put somewhere
-pub into_read : {V T : Type 0} {text : V → List ℕ} {ok is_put : V → Type 0} {a b : Cache} {s t : ReaderView} {v : V} {y : T} → is_put v → Leaves a b s t text ok (Ok v) → LeavesInto a b s t text ok is_put (Ok y)
+pub into_read : {V T : Type 0} {text : V → List ℕ} {ok is_put : V → Type 0} {a b : Cache} {s t : ReaderView} {v : V} {y : T} → is_put v → ReadsValue a b s t text ok (Ok v) → ReadsInto a b s t text ok is_put (Ok y)
 into_read {v = v} put p = record {
-  takes = λ at may. let one = (p.takes at may).taken in record { taken = (v, put, one.0, one.1); lacks = tt };
+  takes = λ at shows. let one = (p.takes at shows).taken in record { taken = (v, put, one.0, one.1); lacks = tt };
   reads = p.reads;
   caused = tt;
 }

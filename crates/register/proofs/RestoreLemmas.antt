@@ -1,6 +1,5 @@
 -- What page 0 and the text say is told apart, and makes a catalogue that is kept.
-use Rattle.std.proofs.Common.{ℕ, ◌≡◌, ◌<◌, ◌++◌, [], List, Bool, if◌then◌else◌, refl, sym, ap, ◌∙◌, arith, subst, inl, inr, IsTrue, Option, Some, None}
-use Rattle.std.proofs.lemmas.Bool.{lt-ltb}
+use Rattle.std.proofs.Common.{ℕ, ◌≡◌, ◌++◌, [], List, if◌then◌else◌, refl, sym, ap, ◌∙◌, arith, subst, Option, Some}
 use Rattle.byteorder.specs.Endian.{big_bytes}
 use Rattle.legs.specs.Limits.{IsLimits}
 use Rattle.pages.specs.declared.payload.Payload.{Payload}
@@ -9,23 +8,19 @@ use Rattle.tbtree.specs.declared.tree.Place.{Place}
 use Rattle.tbtree.specs.declared.tree.TbTree.{TbTree}
 use Rattle.register.specs.Building.{tree_of, IsOf}
 use Rattle.header.specs.Fields.{fields_bytes, FitsFields, HasFields}
-use Rattle.register.specs.Chain.{text_stop}
-use Rattle.register.specs.Lasting.{first_fault, payload_fault, ComesFirst, IsKept, IsStop, IsTrulyDamaged, IsWithin}
+use Rattle.register.specs.Lasting.{payload_fault, IsKept, IsStop, IsWithin}
 use Rattle.register.specs.Restoring.{HoldsContents, IsRest, SaysFields}
 use Rattle.register.specs.Saved.{fields_for, CatalogueView}
 use Rattle.register.specs.Saving.{contents_of}
 use Rattle.register.specs.Text.{catalogue_text, IsWhole}
 use Rattle.register.specs.declared.contents.Contents.{Contents}
 use Rattle.header.specs.declared.header_fields.Fields.{Fields}
-use Rattle.pagecache.specs.Cache.{payload_of, Cache}
-use Rattle.chains.specs.Reads.{OnlyReads}
-use Rattle.register.specs.ChainReader.{reader_of, BreaksAt, IsReaderFault, MayBe}
-use Rattle.register.specs.Stopping.{IsMended, NamesStop, KeepsNothing}
+use Rattle.pagecache.specs.Cache.{Cache}
+use Rattle.register.specs.ChainReader.{IsBroken, IsReadFault}
 use Rattle.register.specs.declared.fault.CatalogueFault.{CatalogueFault}
 use Rattle.register.specs.declared.fault.CatalogueFault.TheVariants.{Memory, StoreFull, Damaged, Unfinished, Version, Malformed}
 use Rattle.register.specs.declared.fault.CatalogueFault.TheVariants as fault
 use Rattle.register.proofs.PrefixLemmas.{numbers_free, whole_free}
-use Rattle.register.proofs.ReaderLemmas.{may_read}
 
 some_same : {X : Type 0} {x y : X} → Some x ≡ Some y → x ≡ y
 some_same e = (cc)
@@ -119,29 +114,15 @@ module _ (at : ℕ → Option Payload) (count : ℕ) (c : CatalogueView) (tree :
     of = record { contents_are = refl; limits = refl; dimension = refl; lawful = k.lawful };
   }
 
--- a fault of reading that is none of memory and of the store is one of the pages as they are
-pub broken_of : (old new : Cache) (fields : Fields) (e : CatalogueFault) → OnlyReads old new → IsTrue old.store.is_faithful → IsReaderFault old new (reader_of fields) e → (IsStop e → ⊥) → BreaksAt (payload_of old) e
-broken_of old new fields Memory reads f h not = absurd (not tt)
-broken_of old new fields fault.Store reads f h not = absurd (not tt)
-broken_of old new fields StoreFull reads f h not = absurd h
-broken_of old new fields (Damaged n) reads f h not = sym (reads.payloads f n) ∙ h.0.1 (reads.store.faithful ∙ f)
-broken_of old new fields Unfinished reads f h not = absurd h
-broken_of old new fields Version reads f h not = absurd h
-broken_of old new fields Malformed reads f h not = tt
-
--- a page that a reading says to be damaged was so before
-pub damaged_of : (a b c : Cache) (fields : Fields) (e : CatalogueFault) → OnlyReads a b → OnlyReads b c → IsReaderFault b c (reader_of fields) e → IsTrulyDamaged a.store.is_faithful (payload_of a) a.count e
-damaged_of a b c fields Memory p q h = tt
-damaged_of a b c fields fault.Store p q h = tt
-damaged_of a b c fields StoreFull p q h = tt
-damaged_of a b c fields (Damaged n) p q h =
-    let l = h.0.0 in
-    let m = q.count in
-    let k = p.count in
-    (omega (arith, l, m, k), λ fa. let fb = p.store.faithful ∙ fa in sym (q.payloads fb n ∙ p.payloads fa n) ∙ h.0.1 (q.store.faithful ∙ fb))
-damaged_of a b c fields Unfinished p q h = tt
-damaged_of a b c fields Version p q h = tt
-damaged_of a b c fields Malformed p q h = tt
+-- a fault of reading that is none of memory and of the store is one of the pages
+pub broken_of : (old new : Cache) (e : CatalogueFault) → IsReadFault old new e → (IsStop e → ⊥) → IsBroken e
+broken_of old new Memory h not = absurd (not tt)
+broken_of old new fault.Store h not = absurd (not tt)
+broken_of old new StoreFull h not = absurd h
+broken_of old new (Damaged n) h not = tt
+broken_of old new Unfinished h not = absurd h
+broken_of old new Version h not = absurd h
+broken_of old new Malformed h not = tt
 
 -- a text says no lawful catalogue, where what was read of it is none
 pub no_rest : (at : ℕ → Option Payload) (count : ℕ) (fields : Fields) (contents : Option Contents) → HoldsContents at count fields.first fields.length contents
@@ -154,54 +135,3 @@ pub no_kept : (at : ℕ → Option Payload) (count : ℕ) (fields : Fields) → 
     → (c : CatalogueView) (tree : TbTree) (places : List Place) → IsKept at count c tree places → ⊥
 no_kept at count fields says none c tree places k =
     none c places (subst (λ f. IsRest at count f c places) (fields_same count (at 0) (fields_kept at count c tree places k) fields (kept_fields at count c tree places k) says) (kept_rest at count c tree places k))
-
--- what page 0 says, it says where other pages are mended
-mended_says : (at mended : ℕ → Option Payload) (count : ℕ) (fields : Fields) → IsMended at count mended → SaysFields count (at 0) fields → SaysFields count (mended 0) fields
-mended_says at mended count fields m says = record { some = says.some; payload = says.payload; is = m.same 0 says.payload says.is; says = says.says }
-
--- what is said of the pages behind page 0 is the first that is met there
-module _ (a b c : Cache) (fields : Fields) (f : IsTrue a.store.is_faithful) (reads : OnlyReads a b) (says : SaysFields a.count (payload_of a 0) fields) where
-  pub named_behind : (e : CatalogueFault) → IsReaderFault b c (reader_of fields) e
-      → ((at : ℕ → Option Payload) → MayBe b at → BreaksAt at e → (k : CatalogueView) (places : List Place) → IsRest at b.count fields k places → ⊥)
-      → NamesStop (payload_of a) a.count e
-  named_behind Memory h none = tt
-  named_behind fault.Store h none = tt
-  named_behind StoreFull h none = tt
-  named_behind (Damaged n) h none = inr (record {
-    fields = fields;
-    says = says;
-    stops = (λ i. text_stop (λ p. sym (reads.payloads f p) i) fields.length fields.first) ∙ h.1 (reads.store.faithful ∙ f);
-  })
-  named_behind Unfinished h none = tt
-  named_behind Version h none = tt
-  named_behind Malformed h none = λ mended m k tree places kept.
-      let may : MayBe b mended = may_read reads (record { faithful = f; mended = m }) in
-      no_kept mended a.count fields (mended_says (payload_of a) mended a.count fields m says)
-      (λ k places rest. none mended may tt k places (subst (λ n. IsRest mended n fields k places) (sym reads.count) rest)) k tree places kept
-
--- what is said of page 0
-module _ (at : ℕ → Option Payload) (count : ℕ) (faithful : Bool) (f : IsTrue faithful) where
-  -- where page 0 is malformed, it is not damaged
-  there : (o : Option Payload) → at 0 ≡ o → ComesFirst (first_fault count (at 0)) Malformed → 0 < count → (payload : Payload) × (at 0 ≡ Some payload)
-  there (Some payload) is first some = (payload, is)
-  there None is first some = absurd (no_fault (subst (λ o. ComesFirst o Malformed) (ap (λ o. first_fault count o) is ∙ ap (λ b. if b then Some (Damaged 0) else Some Malformed) (lt-ltb 0 count some)) first)) where
-    no_fault : ComesFirst (Some (Damaged 0)) Malformed → ⊥
-    no_fault (inl e) = absurd cc
-    no_fault (inr h) = h
-
-  first_malformed : ComesFirst (first_fault count (at 0)) Malformed → ((fields : Fields) → SaysFields count (at 0) fields → ⊥) → KeepsNothing at count
-  first_malformed first none mended m c tree places kept =
-      let says = kept_fields mended count c tree places kept in
-      let fields = fields_kept mended count c tree places kept in
-      let here = there (at 0) refl first says.some in
-      none fields (subst (λ o. SaysFields count o fields) (m.same 0 here.0 here.1 ∙ sym here.1) says)
-
-  pub named_first : (e : CatalogueFault) → ComesFirst (first_fault count (at 0)) e → ((IsStop e → ⊥) → (fields : Fields) → SaysFields count (at 0) fields → ⊥)
-      → ((page : ℕ) → e ≡ Damaged page → page ≡ 0) → IsTrulyDamaged faithful at count e → NamesStop at count e
-  named_first Memory first none zero damaged = tt
-  named_first fault.Store first none zero damaged = tt
-  named_first StoreFull first none zero damaged = tt
-  named_first (Damaged n) first none zero damaged = let is = zero n refl in inl (is, ap at (sym is) ∙ damaged.1 f)
-  named_first Unfinished first none zero damaged = tt
-  named_first Version first none zero damaged = tt
-  named_first Malformed first none zero damaged = first_malformed first (none (λ h. h))

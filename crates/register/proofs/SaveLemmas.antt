@@ -14,24 +14,23 @@ use Rattle.tbtree.specs.Shape.{IsShape}
 use Rattle.tbtree.specs.declared.tree.Place.{Place}
 use Rattle.tbtree.specs.declared.tree.TbTree.{TbTree}
 use Rattle.register.specs.Chain.{most_used}
-use Rattle.register.specs.ChainSteps.{Spares}
 use Rattle.register.specs.ChainWriter.{HasText}
 use Rattle.header.specs.Fields.{FitsFields, HasFields}
 use Rattle.register.specs.Lasting.{Says}
-use Rattle.register.specs.Saved.{fields_for, CatalogueView, KeepsFront}
+use Rattle.register.specs.Saved.{fields_for, CatalogueView, KeepsFront, SparesTree}
 use Rattle.register.specs.Saving.{contents_of, KeepsTree, PutsFields}
 use Rattle.register.specs.Text.{catalogue_text}
 use Rattle.header.specs.declared.header_fields.Fields.{Fields}
 use Rattle.register.proofs.ReaderLemmas.{some_none}
 use Rattle.register.proofs.SavingLemmas.{passes_trans}
-use Rattle.register.proofs.SpareLemmas.{same_spare, spares_then, spares_trans, stays_spares, unchanged}
+use Rattle.register.proofs.SpareLemmas.{same_spare, spares_then, spares_trans, stays_spares}
 
 not_first : (n : ℕ) → 0 < n → (0 == n) ≡ false
 not_first n h = grind (arith, nat_tests, h)
 
 -- pages that are only read
-pub reads_spare : (a b : Cache) → OnlyReads a b → Spares a b
-reads_spare a b r = same_spare a b r.count r.payloads r.written
+pub reads_spare : (a b : Cache) → OnlyReads a b → SparesTree a b
+reads_spare a b r = same_spare a b r.count r.payloads
 
 reads_pass : (a b : Cache) → OnlyReads a b → Passes a b
 reads_pass a b r = record {
@@ -64,23 +63,19 @@ module _ {c d : Cache} {fields : Fields} (puts : PutsFields fields c d) where
   pub puts_length : KeepsLength c d
   puts_length e = puts.lends.writes.count ∙ e ∙ sym puts.lends.length
 
-  pub puts_spare : Spares c d
+  pub puts_spare : SparesTree c d
   puts_spare f =
       let count = puts.lends.writes.count in
       record {
-        tree = record {
-          count = omega (arith, count);
-          held = λ p l e. (
-            omega (arith, count, l),
-            ⊎_elim
-                (λ (h : 0 < p). ap (option_map node_of) (sym (other f p h)) ∙ e)
-                (λ (h : p ≤ 0). let z : 0 ≡ p = omega (arith, h) in absurd (some_none (node_of puts.now) (sym (ap (option_map node_of) (now_is f)) ∙ ap (λ k. option_map node_of (payload_of d k)) z ∙ e)))
-                (cases_lt 0 p),
-          );
-          rest = λ p h. ap (λ o. node_in (option_map node_of o)) (other f p h);
-        };
-        others = λ p v h e k. other f p h ∙ e;
-        unreadable = λ p h l e. (other f p h ∙ e, puts.lends.writes.keeps.written f p l (unchanged c p e));
+        count = omega (arith, count);
+        held = λ p l e. (
+          omega (arith, count, l),
+          ⊎_elim
+              (λ (h : 0 < p). ap (option_map node_of) (sym (other f p h)) ∙ e)
+              (λ (h : p ≤ 0). let z : 0 ≡ p = omega (arith, h) in absurd (some_none (node_of puts.now) (sym (ap (option_map node_of) (now_is f)) ∙ ap (λ k. option_map node_of (payload_of d k)) z ∙ e)))
+              (cases_lt 0 p),
+        );
+        rest = λ p h. ap (λ o. node_in (option_map node_of o)) (other f p h);
       }
 
   puts_count : d.count ≡ c.count
@@ -121,8 +116,8 @@ module _ {c d : Cache} {fields : Fields} (puts : PutsFields fields c d) where
         }
 
 -- whatever is answered, the pages that are none of a catalogue's say what they said
-pub all_spare : {T E : Type 0} {a b x : Cache} (d : Cache) (fields : Fields) (r : Result T E) → OnlyReads a b → KeepsTree b x → OnOk r (PutsFields fields x d) → OnErr r (Rests x d) → Spares a d
+pub all_spare : {T E : Type 0} {a b x : Cache} (d : Cache) (fields : Fields) (r : Result T E) → OnlyReads a b → KeepsTree b x → OnOk r (PutsFields fields x d) → OnErr r (Rests x d) → SparesTree a d
 all_spare {a = a} {b = b} {x = x} d fields r reads kept puts rests = spares_then a x d (kept.passes.store.faithful ∙ reads.store.faithful) (spares_then a b x reads.store.faithful (reads_spare a b reads) kept.tree) (last r puts rests) where
-  last : {T E : Type 0} (r : Result T E) → OnOk r (PutsFields fields x d) → OnErr r (Rests x d) → Spares x d
+  last : {T E : Type 0} (r : Result T E) → OnOk r (PutsFields fields x d) → OnErr r (Rests x d) → SparesTree x d
   last (Ok v) puts rests = puts_spare puts
   last (Err e) puts rests = stays_spares x d rests.stays

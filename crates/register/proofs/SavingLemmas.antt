@@ -1,32 +1,27 @@
 -- Bytes that are put behind one another while a text is saved.
-use Rattle.std.proofs.Common.{ℕ, zero, suc, ◌≡◌, ◌+◌, ◌-◌, ◌<◌, ◌≤◌, ◌++◌, ◌∷◌, [], List, drop, map, take, length, get_or, refl, sym, ap, ◌∙◌, arith, subst, All, IsTrue, Some, Result, Ok, Err}
+use Rattle.std.proofs.Common.{ℕ, zero, suc, ◌≡◌, ◌+◌, ◌-◌, ◌<◌, ◌++◌, ◌∷◌, [], List, map, take, length, get_or, refl, sym, ap, ◌∙◌, arith, subst, All, IsTrue, Some, Result, Ok, Err}
 use Rattle.std.specs.Prelude.{IfErr, IsErrAnd, OnErr}
 use Rattle.std.specs.List.{flat_map, range_with_len}
 use Rattle.std.proofs.lemmas.Grind.{flat_map-append}
-use Rattle.std.proofs.lemmas.List.{append_assoc, append-nil, length-append, length-map, map-append, take-append-drop}
+use Rattle.std.proofs.lemmas.List.{append_assoc, append-nil, length-append, map-append}
 use Rattle.std.proofs.lemmas.List.Elements.{All-push}
-use Rattle.std.proofs.lemmas.List.FromFn.{length-range_with_len}
-use Rattle.byteorder.specs.Endian.{big_bytes}
 use Rattle.std.proofs.lemmas.Int.{clamps}
 use Rattle.pagecache.specs.Cache.{Cache, IsRefused}
 use Rattle.pagecache.specs.declared.fault.CacheFault.{CacheFault}
 use Rattle.pagecache.specs.declared.fault.CacheFault.TheVariants as cache
 use Rattle.register.specs.ChainReader.{fault_of}
 use Rattle.tbtree.specs.Passes.{Passes}
-use Rattle.register.specs.Chain.{pages_for}
-use Rattle.register.specs.ChainSteps.{lacked, Reuses, Spares, StaysWithin}
 use Rattle.register.specs.ChainWriter.{Holds, IsAllowed, WriterView, IsCaused as IsCausedThere}
 use Rattle.register.proofs.EncodingLemmas.{listed_more}
+use Rattle.tbtree.specs.Nodes.{pages_of_cache}
+use Rattle.register.proofs.SpareLemmas.{same_refl, spares_trans}
 use Rattle.register.proofs.ReaderLemmas.{on_err_and}
-use Rattle.register.proofs.ReuseLemmas.{reuses_refl, reuses_then}
-use Rattle.register.proofs.SpareLemmas.{pages_refl, pages_trans}
-use Rattle.register.proofs.WithinLemmas.{pages_for_more, pages_more, wanted_same, within_held, within_more}
 use Rattle.std.specs.Option.{option_map}
 use Rattle.legs.specs.declared.head.BookHead.{BookHead}
 use Rattle.tbtree.specs.declared.tree.Place.{Place}
-use Rattle.register.specs.Saved.{head_of, CatalogueView}
+use Rattle.register.specs.Saved.{head_of, CatalogueView, SparesTree}
 use Rattle.register.specs.Text.{catalogue_text, features_text, head_text, rows_text, HasFeatures, IsHead, IsNumber, IsRow, IsShortText, IsWhole}
-use Rattle.register.specs.Saving.{contents_of, features_of, wanted, HasPageZero, IsSavingStop, IsCatalogue, IsCaused, KeepsTree, Puts, Saves}
+use Rattle.register.specs.Saving.{contents_of, features_of, HasPageZero, IsSavingStop, IsCatalogue, IsCaused, KeepsTree, Puts, Saves}
 use Rattle.register.specs.declared.fault.CatalogueFault.{CatalogueFault}
 use Rattle.register.specs.declared.fault.CatalogueFault.TheVariants.{Memory, Store, StoreFull, Damaged, Unfinished, Version, Malformed}
 
@@ -75,10 +70,8 @@ pushed_only {bytes} {c} {w} {v} e = record {
     passes = passes_refl c;
     holds = λ text h. subst (λ v. Holds c v (text ++ bytes)) (sym e) (grown c w bytes text h);
     length = λ e. e;
-    tree = λ text h f. pages_refl c;
-    reuses = subst (λ (v : WriterView). Reuses c w.pages w.earlier c v.pages v.earlier) (sym e) (reuses_refl c w.pages w.earlier);
+    tree = λ text h f. same_refl (pages_of_cache c);
     caused = tt;
-    within = tt;
   };
   only = λ text h f. tt;
 }
@@ -98,46 +91,24 @@ puts_both first second a b c w v u (Ok x) p q = record {
   passes = passes_trans a b c p.passes q.passes;
   holds = λ text h. subst (λ t. Holds c u t) (append_assoc text first second) (q.holds (text ++ first) (p.holds text h));
   length = λ e. q.length (p.length e);
-  tree = λ text h f. pages_trans a b c (p.tree text h f) (q.tree (text ++ first) (p.holds text h) (p.passes.store.faithful ∙ f));
-  reuses = reuses_then p.reuses q.reuses;
+  tree = λ text h. spares_trans a b c p.passes (p.tree text h) (q.tree (text ++ first) (p.holds text h));
   caused = tt;
-  within = tt;
 }
 puts_both first second a b c w v u (Err e) p q = record {
   passes = passes_trans a b c p.passes q.passes;
   holds = tt;
   length = tt;
-  tree = λ text h f. pages_trans a b c (p.tree text h f) (q.tree (text ++ first) (p.holds text h) (p.passes.store.faithful ∙ f));
-  reuses = tt;
+  tree = λ text h. spares_trans a b c p.passes (p.tree text h) (q.tree (text ++ first) (p.holds text h));
   caused = caused_after a b c e p.passes q.caused;
-  within = λ text h. subst (λ t. StaysWithin (pages_for t) a w.pages w.earlier c (wanted e)) (append_assoc text first second)
-      (within_held (pages_for ((text ++ first) ++ second)) a b c w v (wanted e) text (text ++ first) p.passes.store.faithful p.reuses h (p.holds text h) (pages_for_more (text ++ first) second) (q.within (text ++ first) (p.holds text h)));
 }
 
--- what is refused is refused in a longer text
-puts_longer : (some all : List ℕ) (a b : Cache) (w v : WriterView) (e : CatalogueFault) → length some ≤ length all → Puts some a b w v (Err e) → Puts all a b w v (Err e)
-puts_longer some all a b w v e less p = record {
-  passes = p.passes;
-  holds = tt;
-  length = tt;
-  tree = p.tree;
-  reuses = tt;
-  caused = p.caused;
-  within = λ text h.
-      let l = length-append text some in
-      let m = length-append text all in
-      within_more (pages_for (text ++ some)) (pages_for (text ++ all)) a b w.pages w.earlier (wanted e) (pages_more (length (text ++ some)) (length (text ++ all)) (omega (arith, l, m, less))) (p.within text h);
-}
+-- what is refused is refused in any other text
+puts_refused : (some all : List ℕ) (a b : Cache) (w v : WriterView) (e : CatalogueFault) → Puts some a b w v (Err e) → Puts all a b w v (Err e)
+puts_refused some all a b w v e p = record { passes = p.passes; holds = tt; length = tt; tree = p.tree; caused = p.caused }
 
 -- so it is with other bytes behind them
 pub puts_front : {first : List ℕ} {a b : Cache} {w v : WriterView} {r : Result (Unit {0}) CatalogueFault} {e : CatalogueFault} (second : List ℕ) → IsErrAnd r (λ f. f ≡ e) → Puts first a b w v (Err e) → Puts (first ++ second) a b w v r
-puts_front {first} {a} {b} {w} {v} {r} {e} second is p =
-    let l = length-append first second in
-    on_err_and (λ r. Puts (first ++ second) a b w v r) r e is (puts_longer first (first ++ second) a b w v e (omega (arith, l)) p)
-
--- and in a text that is saved
-saves_longer : {some all : List ℕ} {a b : Cache} {w v : WriterView} {r : Result (Unit {0}) CatalogueFault} {e : CatalogueFault} → IsErrAnd r (λ f. f ≡ e) → length some ≤ length all → Saves some a b w v (Err e) → Saves all a b w v r
-saves_longer {some} {all} {a} {b} {w} {v} {r} {e} is less s = on_err_and (λ r. Saves all a b w v r) r e is (record { puts = puts_longer some all a b w v e less s.puts; only = s.only })
+puts_front {first} {a} {b} {w} {v} {r} {e} second is p = on_err_and (λ r. Puts (first ++ second) a b w v r) r e is (puts_refused first (first ++ second) a b w v e p)
 
 allowed_saving : (e : CacheFault) → IsAllowed e → IsSavingStop (fault_of e)
 allowed_saving cache.NoPage h = h
@@ -154,20 +125,9 @@ caused_saving a b cache.StoreFull h = h
 caused_saving a b cache.Memory h = tt
 
 -- the pages that a text fills are not all written
-pub refused_text : (a d : Cache) (w v : WriterView) (e : CacheFault) (f : CatalogueFault) → f ≡ fault_of e → Passes a d → ((text : List ℕ) → Holds a w text → Spares a d) → ((text : List ℕ) → Holds a w text → IsTrue a.store.is_faithful → IsAllowed e) → IsCausedThere a d e
-    → ((text : List ℕ) → Holds a w text → StaysWithin (pages_for text) a w.pages w.earlier d (lacked e)) → Saves [] a d w v (Err f)
-refused_text a d w v e f is passes tree only caused within = record {
-  puts = record {
-    passes = passes;
-    holds = tt;
-    length = tt;
-    tree = tree;
-    reuses = tt;
-    caused = subst (IsCaused a d) (sym is) (caused_saving a d e caused);
-    within = λ text h.
-        subst (λ k. StaysWithin (pages_for (text ++ [])) a w.pages w.earlier d k) (sym (wanted_same e) ∙ ap wanted (sym is))
-        (subst (λ t. StaysWithin (pages_for t) a w.pages w.earlier d (lacked e)) (sym (append-nil text)) (within text h));
-  };
+pub refused_text : (a d : Cache) (w v : WriterView) (e : CacheFault) (f : CatalogueFault) → f ≡ fault_of e → Passes a d → ((text : List ℕ) → Holds a w text → SparesTree a d) → ((text : List ℕ) → Holds a w text → IsTrue a.store.is_faithful → IsAllowed e) → IsCausedThere a d e → Saves [] a d w v (Err f)
+refused_text a d w v e f is passes tree only caused = record {
+  puts = record { passes = passes; holds = tt; length = tt; tree = tree; caused = subst (IsCaused a d) (sym is) (caused_saving a d e caused) };
   only = λ text h f. subst IsSavingStop (sym is) (allowed_saving e (only text h f));
 }
 
@@ -181,6 +141,12 @@ saves_then {first} p q = record {
   puts = puts_then p.puts q.puts;
   only = λ text h f. q.only (text ++ first) (p.puts.holds text h) (p.puts.passes.store.faithful ∙ f);
 }
+
+-- bytes that are saved, and others behind them that are refused: so is a text that begins with them
+pub saves_refused : {first second all : List ℕ} {a b c : Cache} {w v u : WriterView} {r : Result (Unit {0}) CatalogueFault} {e : CatalogueFault} → IsErrAnd r (λ f. f ≡ e) → Saves first a b w v (Ok tt) → Saves second b c v u (Err e) → Saves all a c w u r
+saves_refused {first} {second} {all} {a} {b} {c} {w} {v} {u} {r} {e} is p q =
+    let s = saves_then p q in
+    on_err_and (λ r. Saves all a c w u r) r e is (record { puts = puts_refused (first ++ second) all a c w u e s.puts; only = s.only })
 
 -- the bytes are these
 pub puts_same : {some all : List ℕ} {a b : Cache} {w v : WriterView} {r : Result (Unit {0}) CatalogueFault} → some ≡ all → Puts some a b w v r → Puts all a b w v r
@@ -235,15 +201,11 @@ pub guarded_error : {T E : Type 0} (P : E → Type 0) (r : Result T E) (e : E) �
 guarded_error P r e is h = subst (λ r. OnErr r (IfErr r P)) is h
 
 -- a text begun, put together and written
-module _ {bytes : List ℕ} {a b c d : Cache} {w v : WriterView} (begun : Passes a b) (held : Holds b w []) (spared : Spares a b) (put : Puts bytes b c w v (Ok tt)) where
-  pub whole_kept : Passes c d → ((text : List ℕ) → Holds c v text → Spares c d) → KeepsTree a d
+module _ {bytes : List ℕ} {a b c d : Cache} {w v : WriterView} (begun : Passes a b) (held : Holds b w []) (spared : SparesTree a b) (put : Puts bytes b c w v (Ok tt)) where
+  pub whole_kept : Passes c d → ((text : List ℕ) → Holds c v text → SparesTree c d) → KeepsTree a d
   whole_kept last tree = record {
     passes = passes_trans a c d (passes_trans a b c begun put.passes) last;
-    tree = λ f.
-        let fb = begun.store.faithful ∙ f in
-        pages_trans a c d
-        (pages_trans a b c (spared f) (put.tree [] held fb))
-        (tree ([] ++ bytes) (put.holds [] held) (put.passes.store.faithful ∙ fb));
+    tree = spares_trans a c d (passes_trans a b c begun put.passes) (spares_trans a b c begun spared (put.tree [] held)) (tree ([] ++ bytes) (put.holds [] held));
   }
 
 -- a catalogue in which a file was accepted: its head, and its lists
@@ -252,34 +214,6 @@ pub with_head : {view saved : CatalogueView} {head : BookHead} {a b : Cache} {w 
 with_head {view} {saved} {head} {a} {b} {w} {v} {r} places same is p =
     subst (λ c. Puts (catalogue_text (contents_of c places)) a b w v r) same
     (puts_same (ap (λ h. catalogue_text (option_map (λ (x : BookHead). record { head = head_of x; lists = record { features = features_of view.tracks places; rows = view.rows } }) h)) (sym is)) p)
-
--- the text of more items is as long or longer
-named_longer : {V : Type 0} (text : V → List ℕ) (f : ℕ → V) (n m : ℕ) → length (flat_map text (map f (range_with_len 0 n))) ≤ length (flat_map text (map f (range_with_len 0 (n + m))))
-named_longer text f n zero = let e : n + zero ≡ n = omega arith in subst (λ k. length (flat_map text (map f (range_with_len 0 n))) ≤ length (flat_map text (map f (range_with_len 0 k)))) (sym e) (omega arith)
-named_longer text f n (suc m) =
-    let before = named_longer text f n m in
-    let l = length-append (flat_map text (map f (range_with_len 0 (n + m)))) (text (f (n + m))) in
-    let e = ap length (named_more text f [] (n + m)) in
-    let k : n + m + 1 ≡ n + suc m = omega arith in
-    subst (λ k. length (flat_map text (map f (range_with_len 0 n))) ≤ length (flat_map text (map f (range_with_len 0 k)))) k (omega (arith, before, l, e))
-
-named_first : {V : Type 0} (text : V → List ℕ) (f : ℕ → V) (front : List ℕ) (n all : ℕ) → n ≤ all → length (front ++ flat_map text (map f (range_with_len 0 n))) ≤ length (front ++ flat_map text (map f (range_with_len 0 all)))
-named_first text f front n all few =
-    let e : n + (all - n) ≡ all = omega (arith, few) in
-    let first = flat_map text (map f (range_with_len 0 n)) in
-    let l = length-append front first in
-    let m = length-append front (flat_map text (map f (range_with_len 0 all))) in
-    let h : length first ≤ length (flat_map text (map f (range_with_len 0 all))) = subst (λ k. length first ≤ length (flat_map text (map f (range_with_len 0 k)))) e (named_longer text f n (all - n)) in
-    omega (arith, l, m, h)
-
-listed_first : {V : Type 0} (text : V → List ℕ) (xs : List V) (front : List ℕ) (n : ℕ) → length (front ++ flat_map text (take n xs)) ≤ length (front ++ flat_map text xs)
-listed_first text xs front n =
-    let first = flat_map text (take n xs) in
-    let l = length-append front first in
-    let m = length-append front (flat_map text xs) in
-    let e = ap length (ap (flat_map text) (sym (take-append-drop n xs)) ∙ flat_map-append text (take n xs) (drop n xs)) in
-    let k = length-append first (flat_map text (drop n xs)) in
-    omega (arith, l, m, e, k)
 
 module _ {a b c : Cache} {w v u : WriterView} {r : Result (Unit {0}) CatalogueFault} {V : Type 0} (text : V → List ℕ) where
   -- one item more of those that a number names is saved
@@ -291,23 +225,3 @@ module _ {a b c : Cache} {w v u : WriterView} {r : Result (Unit {0}) CatalogueFa
   module _ (xs : List V) {x : V} {n : ℕ} (less : n < length xs) (is : get_or xs n x ≡ x) where
     pub listed_saved : (front : List ℕ) → Saves (front ++ flat_map text (take n xs)) a b w v (Ok tt) → Saves (text x) b c v u r → Saves (front ++ flat_map text (take (n + 1) xs)) a c w u r
     listed_saved front p q = saves_same (listed_more text xs x x front n less is) (saves_then p q)
-
--- one of them is refused, and so are they all behind their number
-module _ {a b c : Cache} {w v u : WriterView} {r : Result (Unit {0}) CatalogueFault} {e : CatalogueFault} {V : Type 0} (text : V → List ℕ) (refused : IsErrAnd r (λ f. f ≡ e)) {count n : ℕ} where
-  -- those that a number names
-  pub named_refused : (f : ℕ → V) (all : ℕ) → count ≡ all → n < count → Saves (big_bytes 4 count ++ flat_map text (map f (range_with_len 0 n))) a b w v (Ok tt) → Saves (text (f n)) b c v u (Err e)
-      → Saves (big_bytes 4 (length (map f (range_with_len 0 all))) ++ flat_map text (map f (range_with_len 0 all))) a c w u r
-  named_refused f all is less p q =
-      let items = map f (range_with_len 0 all) in
-      let long = is ∙ sym (length-map (range_with_len 0 all) f ∙ length-range_with_len 0 all) in
-      let first = named_first text f (big_bytes 4 count) (n + 1) all (omega (arith, is, less)) in
-      let next = big_bytes 4 count ++ flat_map text (map f (range_with_len 0 (n + 1))) in
-      saves_longer refused (subst (λ k. length next ≤ length (big_bytes 4 k ++ flat_map text items)) long first) (named_saved text f (big_bytes 4 count) p q)
-
-  -- those of a list
-  pub listed_refused : {x : V} (xs : List V) → count ≡ length xs → n < length xs → get_or xs n x ≡ x → Saves (big_bytes 4 count ++ flat_map text (take n xs)) a b w v (Ok tt) → Saves (text x) b c v u (Err e)
-      → Saves (big_bytes 4 (length xs) ++ flat_map text xs) a c w u r
-  listed_refused xs is less at p q =
-      let next = big_bytes 4 count ++ flat_map text (take (n + 1) xs) in
-      let first = listed_first text xs (big_bytes 4 count) (n + 1) in
-      saves_longer refused (subst (λ k. length next ≤ length (big_bytes 4 k ++ flat_map text xs)) is first) (listed_saved text xs less at (big_bytes 4 count) p q)

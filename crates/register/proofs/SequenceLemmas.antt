@@ -5,11 +5,12 @@ use Rattle.std.specs.List.{flat_map}
 use Rattle.std.proofs.lemmas.List.{append_assoc, append-nil, length_push}
 use Rattle.std.proofs.lemmas.List.Elements.{All-push}
 use Rattle.pagecache.specs.Cache.{Cache}
-use Rattle.register.specs.ChainReader.{ReaderView, rest_of, MayBe, ReadsOn, TakesInto}
+use Rattle.chains.specs.Reads.{OnlyReads}
+use Rattle.register.specs.ChainReader.{ReaderView, rest_of, ReadsValue, Shows, TakesInto}
 use Rattle.pages.specs.declared.payload.Payload.{Payload}
 use Rattle.register.specs.declared.fault.CatalogueFault.{CatalogueFault}
 use Rattle.register.specs.declared.fault.CatalogueFault.TheVariants.{Malformed}
-use Rattle.register.proofs.ReaderLemmas.{goes_on, later_fault, map_map, map_same, may_still, on_err_and, some_none, some_same, Leaves}
+use Rattle.register.proofs.ReaderLemmas.{goes_on, later_fault, map_map, map_same, still_shows, on_err_and, some_none, some_same}
 use Rattle.register.proofs.PrefixLemmas.{IsFree, list_split}
 
 -- no text of such a value stands there
@@ -68,17 +69,17 @@ module _ {A B V : Type 0} {text : V → List ℕ} {ok : V → Type 0} {first : A
       l (pair.right v) t (subst (λ x. is_second x (pair.right v)) (sym y.0) (pair.parts v k).1) y.1
 
   -- where the first of the two is refused, so is the value
-  pub first_refused : {a b : Cache} {s t : ReaderView} {r : Result V CatalogueFault} {e : CatalogueFault} → IsErrAnd r (λ f. f ≡ e) → Leaves a b s t first is_first (Err e) → Leaves a b s t text ok r
-  first_refused {a} {b} {s} {t} {r} {e} h p = on_err_and (λ r. Leaves a b s t text ok r) r e h (record {
-    takes = λ at may. record { taken = tt; lacks = λ k. no_first (rest_of at s) ((p.takes at may).lacks k) };
+  pub first_refused : {a b : Cache} {s t : ReaderView} {r : Result V CatalogueFault} {e : CatalogueFault} → IsErrAnd r (λ f. f ≡ e) → ReadsValue a b s t first is_first (Err e) → ReadsValue a b s t text ok r
+  first_refused {a} {b} {s} {t} {r} {e} h p = on_err_and (λ r. ReadsValue a b s t text ok r) r e h (record {
+    takes = λ at shows. record { taken = tt; lacks = λ k. no_first (rest_of at s) ((p.takes at shows).lacks k) };
     reads = p.reads;
     caused = p.caused;
   })
 
   -- or where it was read and no such value has it
-  pub first_unfit : {a b : Cache} {s t : ReaderView} {x : A} → ((v : V) → ok v → x ≡ pair.left v → ⊥) → Leaves a b s t first is_first (Ok x) → Leaves a b s t text ok (Err Malformed)
+  pub first_unfit : {a b : Cache} {s t : ReaderView} {x : A} → ((v : V) → ok v → x ≡ pair.left v → ⊥) → ReadsValue a b s t first is_first (Ok x) → ReadsValue a b s t text ok (Err Malformed)
   first_unfit {a} {b} {s} {t} {x} unlike p = record {
-    takes = λ at may. let one = (p.takes at may).taken in record {
+    takes = λ at shows. let one = (p.takes at shows).taken in record {
       taken = tt;
       lacks = λ _ v t' k e. unlike v k (behind x (rest_of at t) one.0 v t' k (sym one.1 ∙ e)).0;
     };
@@ -88,11 +89,11 @@ module _ {A B V : Type 0} {text : V → List ℕ} {ok : V → Type 0} {first : A
 
   -- or where it was read and the second is refused
   pub second_refused : {a b c : Cache} {s t u : ReaderView} {r : Result V CatalogueFault} {x : A} {e : CatalogueFault} → IsErrAnd r (λ f. f ≡ e)
-      → Leaves a b s t first is_first (Ok x) → Leaves b c t u second (is_second x) (Err e) → Leaves a c s u text ok r
-  second_refused {a} {b} {c} {s} {t} {u} {r} {x} {e} h p q = on_err_and (λ r. Leaves a c s u text ok r) r e h (record {
-    takes = λ at may. let one = (p.takes at may).taken in record {
+      → ReadsValue a b s t first is_first (Ok x) → ReadsValue b c t u second (is_second x) (Err e) → ReadsValue a c s u text ok r
+  second_refused {a} {b} {c} {s} {t} {u} {r} {x} {e} h p q = on_err_and (λ r. ReadsValue a c s u text ok r) r e h (record {
+    takes = λ at shows. let one = (p.takes at shows).taken in record {
       taken = tt;
-      lacks = λ k. no_second x (rest_of at s) (rest_of at t) one.0 one.1 ((q.takes at (may_still p.reads may)).lacks k);
+      lacks = λ k. no_second x (rest_of at s) (rest_of at t) one.0 one.1 ((q.takes at (still_shows p.reads shows)).lacks k);
     };
     reads = goes_on p.reads q.reads;
     caused = later_fault a b c e p.reads q.caused;
@@ -100,11 +101,11 @@ module _ {A B V : Type 0} {text : V → List ℕ} {ok : V → Type 0} {first : A
 
   -- where both were read, so was the value
   pub both_read : {a b c : Cache} {s t u : ReaderView} {v : V} {x : A} → (is_first x → is_second x (pair.right v) → ok v × (x ≡ pair.left v))
-      → Leaves a b s t first is_first (Ok x) → Leaves b c t u second (is_second x) (Ok (pair.right v)) → Leaves a c s u text ok (Ok v)
+      → ReadsValue a b s t first is_first (Ok x) → ReadsValue b c t u second (is_second x) (Ok (pair.right v)) → ReadsValue a c s u text ok (Ok v)
   both_read {a} {b} {c} {s} {t} {u} {v} {x} makes p q = record {
-    takes = λ at may.
-        let one = (p.takes at may).taken in
-        let two = (q.takes at (may_still p.reads may)).taken in
+    takes = λ at shows.
+        let one = (p.takes at shows).taken in
+        let two = (q.takes at (still_shows p.reads shows)).taken in
         let made = makes one.0 two.0 in
         let text_is = ap (λ x. first x ++ second (pair.right v)) made.1 ∙ sym (pair.whole v) in
         let both = taken_both (first x) (second (pair.right v)) (rest_of at s) (rest_of at t) (rest_of at u) one.1 two.1 in
@@ -116,14 +117,14 @@ module _ {A B V : Type 0} {text : V → List ℕ} {ok : V → Type 0} {first : A
 -- where the second of the two is the value itself, and the call that reads it is the last
 pub last_read : {A V : Type 0} {text second : V → List ℕ} {ok : V → Type 0} {first : A → List ℕ} {is_first : A → Type 0} {is_second : A → V → Type 0} {a b c : Cache} {s t u : ReaderView} {x : A}
     (pair : IsPair text ok first is_first second is_second) (r : Result V CatalogueFault) → ((v : V) → pair.right v ≡ v) → ((v : V) → is_first x → is_second x v → ok v × (x ≡ pair.left v))
-    → Leaves a b s t first is_first (Ok x) → Leaves b c t u second (is_second x) r → Leaves a c s u text ok r
+    → ReadsValue a b s t first is_first (Ok x) → ReadsValue b c t u second (is_second x) r → ReadsValue a c s u text ok r
 last_read {second = second} {is_second = is_second} {b = b} {c = c} {t = t} {u = u} {x = x} pair (Ok v) own makes p q =
-    both_read pair (λ h k. makes v h (subst (is_second x) (own v) k)) p (subst (λ w. Leaves b c t u second (is_second x) (Ok w)) (sym (own v)) q)
+    both_read pair (λ h k. makes v h (subst (is_second x) (own v) k)) p (subst (λ w. ReadsValue b c t u second (is_second x) (Ok w)) (sym (own v)) q)
 last_read pair (Err e) own makes p q = second_refused pair refl p q
 
 -- what is said of a value by an equal number is said by this one
-pub goes_with : {N V : Type 0} {a b : Cache} {s t : ReaderView} {text : V → List ℕ} {r : Result V CatalogueFault} (is : N → V → Type 0) {n m : N} → n ≡ m → Leaves a b s t text (is n) r → Leaves a b s t text (is m) r
-goes_with {a = a} {b = b} {s = s} {t = t} {text = text} {r = r} is same h = subst (λ n. Leaves a b s t text (is n) r) same h
+pub goes_with : {N V : Type 0} {a b : Cache} {s t : ReaderView} {text : V → List ℕ} {r : Result V CatalogueFault} (is : N → V → Type 0) {n m : N} → n ≡ m → ReadsValue a b s t text (is n) r → ReadsValue a b s t text (is m) r
+goes_with {a = a} {b = b} {s = s} {t = t} {text = text} {r = r} is same h = subst (λ n. ReadsValue a b s t text (is n) r) same h
 
 -- so many values of a list are taken, one behind another
 pub record AreTaken {V : Type 0} (text : V → List ℕ) (ok : V → Type 0) (xs : List V) (n : ℕ) (old new : Option (List ℕ)) : Type 0 where
@@ -132,21 +133,19 @@ pub record AreTaken {V : Type 0} (text : V → List ℕ) (ok : V → Type 0) (xs
   pub taken : old ≡ option_map (λ t. flat_map text xs ++ t) new
 
 -- and a reader has taken them
-abbrev pub HasRead : {V : Type 0} → Cache → Cache → ReaderView → ReaderView → (V → List ℕ) → (V → Type 0) → List V → ℕ → Type 0
-HasRead a b s t text ok xs n = record {
-  reads : ReadsOn a b s t;
-  taken : (at : ℕ → Option Payload) → MayBe a at → AreTaken text ok xs n (rest_of at s) (rest_of at t);
-}
+pub record HasRead {V : Type 0} (a b : Cache) (s t : ReaderView) (text : V → List ℕ) (ok : V → Type 0) (xs : List V) (n : ℕ) : Type 0 where
+  pub reads : OnlyReads a b
+  pub taken : (at : ℕ → Option Payload) → Shows a at → AreTaken text ok xs n (rest_of at s) (rest_of at t)
 
 module _ {V : Type 0} {text : V → List ℕ} {ok : V → Type 0} (free : IsFree text ok) {a b : Cache} {s t : ReaderView} {xs : List V} {n : ℕ} where
   -- one more is put behind them
-  pub one_put : {T : Type 0} {c : Cache} {u : ReaderView} {ys : List V} {y : T} → HasRead a b s t text ok xs n → ReadsOn b c t u
-      → ((at : ℕ → Option Payload) → MayBe b at → TakesInto at text ok (λ x. ys ≡ xs ++ x ∷ []) (rest_of at t) (rest_of at u) (Ok y)) → HasRead a c s u text ok ys (n + 1)
+  pub one_put : {T : Type 0} {c : Cache} {u : ReaderView} {ys : List V} {y : T} → HasRead a b s t text ok xs n → OnlyReads b c
+      → ((at : ℕ → Option Payload) → Shows b at → TakesInto text ok (λ x. ys ≡ xs ++ x ∷ []) (rest_of at t) (rest_of at u) (Ok y)) → HasRead a c s u text ok ys (n + 1)
   one_put {u = u} p reads takes = record {
     reads = goes_on p.reads reads;
-    taken = λ at may.
-        let before = p.taken at may in
-        let one = (takes at (may_still p.reads may)).taken in
+    taken = λ at shows.
+        let before = p.taken at shows in
+        let one = (takes at (still_shows p.reads shows)).taken in
         let text_is = ap (λ l. option_map (λ t. flat_map text l ++ t) (rest_of at u)) (sym one.1) in
         record {
           each = subst (λ l. All ok l) (sym one.1) (All-push ok xs one.0 before.each one.2);
@@ -156,20 +155,20 @@ module _ {V : Type 0} {text : V → List ℕ} {ok : V → Type 0} (free : IsFree
   }
 
   -- one more that was read
-  pub one_read : {c : Cache} {u : ReaderView} {ys : List V} {x : V} → ys ≡ xs ++ x ∷ [] → HasRead a b s t text ok xs n → Leaves b c t u text ok (Ok x) → HasRead a c s u text ok ys (n + 1)
+  pub one_read : {c : Cache} {u : ReaderView} {ys : List V} {x : V} → ys ≡ xs ++ x ∷ [] → HasRead a b s t text ok xs n → ReadsValue b c t u text ok (Ok x) → HasRead a c s u text ok ys (n + 1)
   one_read {x = x} items p q =
-      one_put {T = V} {y = x} p q.reads (λ at may. let one = (q.takes at may).taken in record { taken = (x, items, one.0, one.1); lacks = tt })
+      one_put {T = V} {y = x} p q.reads (λ at shows. let one = (q.takes at shows).taken in record { taken = (x, items, one.0, one.1); lacks = tt })
 
   -- one is refused before there are so many
   pub list_refused : {c : Cache} {u : ReaderView} {count : ℕ} {are : List V → Type 0} {r : Result (List V) CatalogueFault} {e : CatalogueFault} → ((l : List V) → are l → All ok l × (length l ≡ count)) → n < count
-      → IsErrAnd r (λ f. f ≡ e) → HasRead a b s t text ok xs n → Leaves b c t u text ok (Err e) → Leaves a c s u (λ l. flat_map text l) are r
-  list_refused {c} {u} {are = are} {r = r} {e = e} parts less is p q = on_err_and (λ r. Leaves a c s u (λ l. flat_map text l) are r) r e is (record {
-    takes = λ at may. let before = p.taken at may in record {
+      → IsErrAnd r (λ f. f ≡ e) → HasRead a b s t text ok xs n → ReadsValue b c t u text ok (Err e) → ReadsValue a c s u (λ l. flat_map text l) are r
+  list_refused {c} {u} {are = are} {r = r} {e = e} parts less is p q = on_err_and (λ r. ReadsValue a c s u (λ l. flat_map text l) are r) r e is (record {
+    takes = λ at shows. let before = p.taken at shows in record {
       taken = tt;
       lacks = λ k l t' h found.
           let many = (parts l h).1 in
           let own = before.many in
-          split_at text ok free xs (rest_of at t) l t' before.each (parts l h).0 (omega (arith, less, many, own)) (sym before.taken ∙ found) ((q.takes at (may_still p.reads may)).lacks k);
+          split_at text ok free xs (rest_of at t) l t' before.each (parts l h).0 (omega (arith, less, many, own)) (sym before.taken ∙ found) ((q.takes at (still_shows p.reads shows)).lacks k);
     };
     reads = goes_on p.reads q.reads;
     caused = later_fault a b c e p.reads q.caused;
@@ -177,9 +176,9 @@ module _ {V : Type 0} {text : V → List ℕ} {ok : V → Type 0} (free : IsFree
 
   -- there are so many
   pub list_read : {count : ℕ} {are : List V → Type 0} {ys : List V} → ((l : List V) → All ok l → length l ≡ count → are l) → n ≡ count → ys ≡ xs
-      → HasRead a b s t text ok xs n → Leaves a b s t (λ l. flat_map text l) are (Ok ys)
-  list_read {are = are} makes many same p = subst (λ l. Leaves a b s t (λ l. flat_map text l) are (Ok l)) (sym same) (record {
-    takes = λ at may. let all = p.taken at may in record { taken = (makes xs all.each (all.many ∙ many), all.taken); lacks = tt };
+      → HasRead a b s t text ok xs n → ReadsValue a b s t (λ l. flat_map text l) are (Ok ys)
+  list_read {are = are} makes many same p = subst (λ l. ReadsValue a b s t (λ l. flat_map text l) are (Ok l)) (sym same) (record {
+    takes = λ at shows. let all = p.taken at shows in record { taken = (makes xs all.each (all.many ∙ many), all.taken); lacks = tt };
     reads = p.reads;
     caused = tt;
   })

@@ -1,18 +1,14 @@
 -- What a step leaves of the pages that are none of a text's.
-use Rattle.std.proofs.Common.{ℕ, ◌≡◌, ◌+◌, ◌<◌, ◌==◌, true, false, cond, refl, sym, ap, ◌∙◌, arith, IsTrue, Option, Some, None, option_map, unwrap_or, ⊎_elim}
-use Rattle.std.specs.Box.{box_value}
-use Rattle.std.specs.Option.{option_or}
+use Rattle.std.proofs.Common.{ℕ, ◌≡◌, ◌+◌, ◌<◌, ◌==◌, true, false, cond, refl, sym, ap, ◌∙◌, arith, IsTrue, Some, None, option_map, ⊎_elim}
 use Rattle.std.proofs.lemmas.Bool.Decides.{eqb_tells}
 use Rattle.std.proofs.lemmas.Bool.{cases_lt}
-use Rattle.std.proofs.lemmas.Int.{clamps}
 use Rattle.legs.specs.Boxes.{BoxView}
 use Rattle.legs.specs.Legs.{LegView}
 use Rattle.pages.specs.Zero.{zero_payload}
 use Rattle.pages.specs.declared.payload.Kind.{Kind}
-use Rattle.pages.specs.declared.payload.Kind.TheVariants.{Header, Catalogue}
+use Rattle.pages.specs.declared.payload.Kind.TheVariants.{Catalogue}
 use Rattle.pages.specs.declared.payload.Payload.{Payload}
-use Rattle.pagecache.specs.Cache.{Cache, Adds, AsksOnce, KeepsPayloads, in_memory, is_changed, page_of, payload_of, sealed_payload}
-use Rattle.pagecache.specs.declared.slots.Held.{Held}
+use Rattle.pagecache.specs.Cache.{Cache, Adds, KeepsPayloads, payload_of}
 use Rattle.pagecache.specs.declared.fault.CacheFault.{CacheFault}
 use Rattle.pagecache.specs.declared.fault.CacheFault.TheVariants as cache
 use Rattle.tbnode.specs.Form.{node_of, node_by}
@@ -20,7 +16,8 @@ use Rattle.tbtree.specs.Descent.{IsSameTree, node_in}
 use Rattle.tbtree.specs.Nodes.{Pages, pages_of_cache}
 use Rattle.tbtree.specs.Passes.{Passes, KeepsLength}
 use Rattle.register.specs.Chain.{part_payload}
-use Rattle.register.specs.ChainSteps.{Fills, Gives, PayloadsStay, Spares, SparesPages}
+use Rattle.register.specs.ChainSteps.{Fills, Gives, PayloadsStay}
+use Rattle.register.specs.Saved.{SparesTree}
 use Rattle.register.specs.ChainWriter.{IsCaused}
 
 -- a step that is passed on is caused by what came before it too
@@ -37,62 +34,34 @@ no_page n m h = ⊎_elim (λ t. absurd (h t.1)) (λ f. f.0) (eqb_tells n m)
 pub is_page : (n m : ℕ) → n ≡ m → (n == m) ≡ true
 is_page n m e = ⊎_elim (λ t. t.0) (λ f. absurd (f.1 e)) (eqb_tells n m)
 
--- a page without a payload is not changed
-none_unchanged : (held : Option Held) (sealed : Option Payload) → option_or (option_map (λ h. box_value h.payload) held) sealed ≡ None → unwrap_or (option_map (λ h. h.changed) held) false ≡ false
-none_unchanged None sealed e = refl
-none_unchanged (Some h) sealed e = absurd cc
+-- the pages of a tree say what they said
+pub same_refl : (a : Pages LegView BoxView) → IsSameTree a a
+same_refl a = record { count = omega arith; held = λ p h e. (h, e); rest = λ p h. refl }
 
-pub unchanged : (c : Cache) (p : ℕ) → payload_of c p ≡ None → is_changed c p ≡ false
-unfolding payload_of is_changed
-unchanged c p e = none_unchanged (in_memory c p) (sealed_payload c p) e
-
--- the pages that are none of a catalogue's
-pub pages_refl : (a : Cache) → SparesPages a a
-pages_refl a = record {
-  tree = record { count = omega arith; held = λ p h e. (h, e); rest = λ p h. refl };
-  others = λ p v h e k. e;
-  unreadable = λ p h l e. (e, refl);
-}
-
-same_trans : (a b c : Pages LegView BoxView) → IsSameTree a b → IsSameTree b c → IsSameTree a c
+pub same_trans : (a b c : Pages LegView BoxView) → IsSameTree a b → IsSameTree b c → IsSameTree a c
 same_trans a b c s t = record {
   count = (let x = s.count in let y = t.count in omega (arith, x, y));
   held = λ p h e. (let r = t.held p h e in s.held p r.0 r.1);
   rest = λ p h. t.rest p h ∙ s.rest p h;
 }
 
-pub pages_trans : (a b c : Cache) → SparesPages a b → SparesPages b c → SparesPages a c
-pages_trans a b c s t = record {
-  tree = same_trans (pages_of_cache a) (pages_of_cache b) (pages_of_cache c) s.tree t.tree;
-  others = λ p v h e k. t.others p v h (s.others p v h e k) k;
-  unreadable = λ p h l e.
-      let x = s.unreadable p h l e in
-      let y = t.unreadable p h (let n = s.tree.count in omega (arith, n, l)) x.0 in
-      (y.0, y.1 ∙ x.1);
-}
+pub spares_then : (a b c : Cache) → b.store.is_faithful ≡ a.store.is_faithful → SparesTree a b → SparesTree b c → SparesTree a c
+spares_then a b c same s t = λ f. same_trans (pages_of_cache a) (pages_of_cache b) (pages_of_cache c) (s f) (t (same ∙ f))
 
-pub spares_then : (a b c : Cache) → b.store.is_faithful ≡ a.store.is_faithful → Spares a b → Spares b c → Spares a c
-spares_then a b c same s t = λ f. pages_trans a b c (s f) (t (same ∙ f))
-
-pub spares_trans : (a b c : Cache) → Passes a b → Spares a b → Spares b c → Spares a c
+pub spares_trans : (a b c : Cache) → Passes a b → SparesTree a b → SparesTree b c → SparesTree a c
 spares_trans a b c p s t = spares_then a b c p.store.faithful s t
 
 -- no page has another payload
-pub same_spare : (a b : Cache) → b.count ≡ a.count → (IsTrue a.store.is_faithful → (p : ℕ) → payload_of b p ≡ payload_of a p)
-    → (IsTrue a.store.is_faithful → (p : ℕ) → p < a.count → is_changed a p ≡ false → page_of b p ≡ page_of a p) → Spares a b
-same_spare a b count same written = λ f. record {
-  tree = record {
-    count = omega (arith, count);
-    held = λ p h e. (omega (arith, count, h), ap (option_map node_of) (sym (same f p)) ∙ e);
-    rest = λ p h. ap (λ o. node_in (option_map node_of o)) (same f p);
-  };
-  others = λ p v h e k. same f p ∙ e;
-  unreadable = λ p h l e. (same f p ∙ e, written f p l (unchanged a p e));
+pub same_spare : (a b : Cache) → b.count ≡ a.count → (IsTrue a.store.is_faithful → (p : ℕ) → payload_of b p ≡ payload_of a p) → SparesTree a b
+same_spare a b count same = λ f. record {
+  count = omega (arith, count);
+  held = λ p h e. (omega (arith, count, h), ap (option_map node_of) (sym (same f p)) ∙ e);
+  rest = λ p h. ap (λ o. node_in (option_map node_of o)) (same f p);
 }
 
 -- as where the payloads are kept
-pub stays_spares : (a b : Cache) → KeepsPayloads a b → Spares a b
-stays_spares a b s = same_spare a b s.count s.payloads s.keeps.written
+pub stays_spares : (a b : Cache) → KeepsPayloads a b → SparesTree a b
+stays_spares a b s = same_spare a b s.count s.payloads
 
 -- a payload that says no node
 node_of-catalogue : (p : Payload) → p.kind ≡ Catalogue → node_of p ≡ None
@@ -151,32 +120,13 @@ pub adds_stay : (a b : Cache) (w : Payload) → payload_of a a.count ≡ None �
 adds_stay a b w none s = λ f p v e.
     s.payloads f p ∙ ap (λ t. cond t (Some w) (payload_of a p)) (no_page a.count p (λ at. some_none v (sym e ∙ ap (payload_of a) (sym at) ∙ none))) ∙ e
 
-pub adds_spares : (a b : Cache) (w : Payload) → node_of w ≡ None → payload_of a a.count ≡ None → Adds w a b → Spares a b
-adds_spares a b w e none s = λ f. record {
-  tree = spared_more a b a.count w (s.payloads f) e (ap (λ o. node_in (option_map node_of o)) none) refl s.count;
-  others = λ p v h is k. adds_stay a b w none s f p v is;
-  unreadable = λ p h l is. (
-    s.payloads f p ∙ ap (λ t. cond t (Some w) (payload_of a p)) (no_page a.count p (λ at. omega (arith, at, l))) ∙ is,
-    s.keeps.written f p l (unchanged a p is),
-  );
-}
+pub adds_spares : (a b : Cache) (w : Payload) → node_of w ≡ None → payload_of a a.count ≡ None → Adds w a b → SparesTree a b
+adds_spares a b w e none s = λ f. spared_more a b a.count w (s.payloads f) e (ap (λ o. node_in (option_map node_of o)) none) refl s.count
 
-one_kind : (v u : Payload) → Some v ≡ Some u → v.kind ≡ Catalogue → u.kind ≡ Catalogue
-one_kind v u e k = let same : v ≡ u = cc in sym (ap (λ (x : Payload). x.kind) same) ∙ k
-
-pub fills_spares : (a b : Cache) (n : ℕ) (next : ℕ) (text : _) (v : Payload) → v.kind ≡ Catalogue → (IsTrue a.store.is_faithful → payload_of a n ≡ Some v) → Fills n (part_payload next text) a b → Spares a b
+pub fills_spares : (a b : Cache) (n : ℕ) (next : ℕ) (text : _) (v : Payload) → v.kind ≡ Catalogue → (IsTrue a.store.is_faithful → payload_of a n ≡ Some v) → Fills n (part_payload next text) a b → SparesTree a b
 fills_spares a b n next text v k at l = λ f.
     let before = ap (λ o. node_in (option_map node_of o)) (at f) ∙ node_of-catalogue v k in
-    record {
-      tree = spared a b n (part_payload next text) (l.writes.payloads f) (node_of-part next text) before (sym l.writes.count);
-      others = λ p u h e other.
-          elsewhere a b n (part_payload next text) (l.writes.payloads f) (node_of-part next text) before p
-          (λ z. other (one_kind v u (sym (at f) ∙ ap (payload_of a) z ∙ e) k)) ∙ e;
-      unreadable = λ p h less e. (
-        elsewhere a b n (part_payload next text) (l.writes.payloads f) (node_of-part next text) before p (λ z. some_none v (sym (at f) ∙ ap (payload_of a) z ∙ e)) ∙ e,
-        l.writes.keeps.written f p less (unchanged a p e),
-      );
-    }
+    spared a b n (part_payload next text) (l.writes.payloads f) (node_of-part next text) before (sym l.writes.count)
 
 pub stay_trans : (a b c : Cache) → Passes a b → PayloadsStay a b → PayloadsStay b c → PayloadsStay a c
 stay_trans a b c p s t = λ f n v e. t (p.store.faithful ∙ f) n v (s f n v e)

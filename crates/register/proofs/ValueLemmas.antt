@@ -8,11 +8,11 @@ use Rattle.byteorder.specs.Numbers.{big_number-reads_back, length-bytes_high_fir
 use Rattle.pages.specs.declared.payload.Payload.{Payload}
 use Rattle.pagecache.specs.Cache.{Cache}
 use Rattle.register.specs.Chain.{text_at}
-use Rattle.register.specs.ChainReader.{ReaderView, rest_of, BreaksAt, IsTextFault, MayBe, Takes}
+use Rattle.register.specs.ChainReader.{ReaderView, rest_of, IsBroken, IsTextFault, ReadsAhead, ReadsValue, Shows}
 use Rattle.register.specs.Text.{short_text, IsNumber, IsShortText}
 use Rattle.register.specs.declared.fault.CatalogueFault.{CatalogueFault}
 use Rattle.register.specs.declared.fault.CatalogueFault.TheVariants.{Memory, Store, StoreFull, Damaged, Unfinished, Version, Malformed}
-use Rattle.register.proofs.ReaderLemmas.{goes_on, later_fault, map_map, map_same, may_still, on_err_and, skips, some_none, some_same, text_read, IsFilled, Leaves}
+use Rattle.register.proofs.ReaderLemmas.{goes_on, later_fault, map_map, map_same, still_shows, on_err_and, some_none, some_same, text_read}
 
 -- two texts that are equal in front of something, where they are of one length
 pub same_front : (a b s t : List ℕ) → length a ≡ length b → a ++ s ≡ b ++ t → (a ≡ b) × (s ≡ t)
@@ -26,17 +26,20 @@ big_same n m k s t h l e =
     (sym (big_number-reads_back n m s h) ∙ ap (λ x. big_number n x) e ∙ big_number-reads_back n k t l, both.1)
 
 -- a value of n bytes is not there where there are fewer
-module _ {V : Type 0} (text : V → List ℕ) (is_value : V → Type 0) (n : ℕ) (len : (v : V) → length (text v) ≡ n) where
-  pub failed : {at : ℕ → Option Payload} {old new : Option (List ℕ)} {r : Result V CatalogueFault} (e : CatalogueFault) → IsErrAnd r (λ f. f ≡ e) → (BreaksAt at e → (t : List ℕ) → old ≡ Some t → length t < n) → Takes at text is_value old new r
-  failed {at} {old} {new} {r} e is h =
-      on_err_and (λ r. Takes at text is_value old new r) r e is (record {
-        taken = tt;
-        lacks = λ b v t k found.
-            let short = h b (text v ++ t) found in
-            let both = length-append (text v) t in
-            let own = len v in
-            absurd (omega (arith, short, both, own));
-      })
+pub not_filled : {V : Type 0} (text : V → List ℕ) (ok : V → Type 0) (n : ℕ) → ((v : V) → length (text v) ≡ n) → {a b : Cache} {s t : ReaderView} {r : Result V CatalogueFault} {e : CatalogueFault}
+    → IsErrAnd r (λ f. f ≡ e) → ReadsAhead a b s t n (Err e) → ReadsValue a b s t text ok r
+not_filled text ok n len {a} {b} {s} {t} {r} {e} is fill = on_err_and (λ r. ReadsValue a b s t text ok r) r e is (record {
+  takes = λ at shows. record {
+    taken = tt;
+    lacks = λ k v rest h found.
+        let short = fill.broken at shows k (text v ++ rest) found in
+        let both = length-append (text v) rest in
+        let own = len v in
+        absurd (omega (arith, short, both, own));
+  };
+  reads = fill.reads;
+  caused = fill.caused;
+})
 
 -- what stands ready, and what is behind it
 pub ready : (at : ℕ → Option Payload) (r : ReaderView) (n : ℕ)
@@ -45,6 +48,17 @@ ready at r n =
     map_same (λ t. r.bytes ++ t) (λ t. take n r.bytes ++ (drop n r.bytes ++ t)) (text_at at r.left r.next)
     (λ t. ap (λ b. b ++ t) (sym (take-append-drop n r.bytes)) ∙ append_assoc (take n r.bytes) (drop n r.bytes) t)
     ∙ sym (map_map (λ t. take n r.bytes ++ t) (λ t. drop n r.bytes ++ t) (text_at at r.left r.next))
+
+-- a value of n bytes stands ready, and is taken
+pub filled : {V : Type 0} {text : V → List ℕ} {ok : V → Type 0} {n : ℕ} {v : V} {a b : Cache} {s t u : ReaderView} → ReadsAhead a b s t n (Ok tt) → text v ≡ take n t.bytes → ok v → u ≡ record t { bytes = drop n t.bytes } → ReadsValue a b s u text ok (Ok v)
+filled {text = text} {n = n} {v = v} {t = t} {u = u} fill is h end = record {
+  takes = λ at shows. record {
+    taken = (h, sym (fill.same at shows) ∙ ready at t n ∙ ap (λ r. option_map (λ s. take n t.bytes ++ s) (rest_of at r)) (sym end) ∙ ap (λ l. option_map (λ s. l ++ s) (rest_of at u)) (sym is));
+    lacks = tt;
+  };
+  reads = fill.reads;
+  caused = tt;
+}
 
 -- what stands behind a length
 behind : (n : ℕ) (mid : Option (List ℕ)) (v t : List ℕ) → n < 256 ^ 8 → length v < 256 ^ 8 → option_map (λ s. big_bytes 8 n ++ s) mid ≡ Some (short_text v ++ t) → (n ≡ length v) × (mid ≡ Some (v ++ t))
@@ -55,28 +69,28 @@ behind n (Some s) v t h l e =
     (both.0, ap Some both.1)
 
 -- what is broken is no text
-text_fault : {T Q : Type 0} (at : ℕ → Option Payload) (e : CatalogueFault) → IsTextFault e → (IsErrOf {T = T} (Err e) Malformed → Q) → BreaksAt at e → Q
-text_fault at Memory h f b = absurd b
-text_fault at Store h f b = absurd b
-text_fault at StoreFull h f b = absurd b
-text_fault at (Damaged n) h f b = absurd h
-text_fault at Unfinished h f b = absurd b
-text_fault at Version h f b = absurd b
-text_fault at Malformed h f b = f refl
+text_fault : {T Q : Type 0} (e : CatalogueFault) → IsTextFault e → (IsErrOf {T = T} (Err e) Malformed → Q) → IsBroken e → Q
+text_fault Memory h f b = absurd b
+text_fault Store h f b = absurd b
+text_fault StoreFull h f b = absurd b
+text_fault (Damaged n) h f b = absurd h
+text_fault Unfinished h f b = absurd b
+text_fault Version h f b = absurd b
+text_fault Malformed h f b = f refl
 
 -- a text behind its length: the length was read, and pages until as many bytes stand ready
-module _ {a b : Cache} {s t : ReaderView} {n : ℕ} (len : Leaves a b s t (big_bytes 8) (IsNumber 64) (Ok n)) where
-  split : (at : ℕ → Option Payload) → MayBe a at → (v w : List ℕ) → IsShortText v → rest_of at s ≡ Some (short_text v ++ w) → (n ≡ length v) × (rest_of at t ≡ Some (v ++ w))
-  split at may v w is e = let l = (len.takes at may).taken in behind n (rest_of at t) v w l.0 is.short (sym l.1 ∙ e)
+module _ {a b : Cache} {s t : ReaderView} {n : ℕ} (len : ReadsValue a b s t (big_bytes 8) (IsNumber 64) (Ok n)) where
+  split : (at : ℕ → Option Payload) → Shows a at → (v w : List ℕ) → IsShortText v → rest_of at s ≡ Some (short_text v ++ w) → (n ≡ length v) × (rest_of at t ≡ Some (v ++ w))
+  split at shows v w is e = let l = (len.takes at shows).taken in behind n (rest_of at t) v w l.0 is.short (sym l.1 ∙ e)
 
   -- the text is not there whole
-  pub text_cut : {c : Cache} {u : ReaderView} {e : CatalogueFault} → IsFilled b c t u n (Err e) → Leaves a c s u short_text IsShortText (Err e)
+  pub text_cut : {c : Cache} {u : ReaderView} {e : CatalogueFault} → ReadsAhead b c t u n (Err e) → ReadsValue a c s u short_text IsShortText (Err e)
   text_cut {c} {e = e} fill = record {
-    takes = λ at may. record {
+    takes = λ at shows. record {
       taken = tt;
       lacks = λ k v w is found.
-          let l = split at may v w is found in
-          let short = fill.broken at (may_still len.reads may) k (v ++ w) l.1 in
+          let l = split at shows v w is found in
+          let short = fill.broken at (still_shows len.reads shows) k (v ++ w) l.1 in
           let both = length-append v w in
           let own = l.0 in
           absurd (omega (arith, short, both, own));
@@ -85,7 +99,7 @@ module _ {a b : Cache} {s t : ReaderView} {n : ℕ} (len : Leaves a b s t (big_b
     caused = later_fault a b c e len.reads fill.caused;
   }
 
-  module _ {c : Cache} {u : ReaderView} (fill : IsFilled b c t u n (Ok tt)) where
+  module _ {c : Cache} {u : ReaderView} (fill : ReadsAhead b c t u n (Ok tt)) where
     abbrev own : List ℕ
     own = take n u.bytes
 
@@ -97,26 +111,26 @@ module _ {a b : Cache} {s t : ReaderView} {n : ℕ} (len : Leaves a b s t (big_b
     front_is (Some s) v t l e = (same_front own v s t l (some_same (own ++ s) (v ++ t) e)).0
 
     -- it is there, and is no text
-    pub no_text : {T : Type 0} {e : CatalogueFault} → IsTextFault e → (IsErrOf {T = T} (Err e) Malformed → IsUtf8 own → ⊥) → Leaves a c s u short_text IsShortText (Err e)
+    pub no_text : {T : Type 0} {e : CatalogueFault} → IsTextFault e → (IsErrOf {T = T} (Err e) Malformed → IsUtf8 own → ⊥) → ReadsValue a c s u short_text IsShortText (Err e)
     no_text {e = e} fault broken = record {
-      takes = λ at may. record {
+      takes = λ at shows. record {
         taken = tt;
         lacks = λ k v w is found.
-            let l = split at may v w is found in
-            let there = sym (ready at u n) ∙ fill.same at (may_still len.reads may) ∙ l.1 in
+            let l = split at shows v w is found in
+            let there = sym (ready at u n) ∙ fill.same at (still_shows len.reads shows) ∙ l.1 in
             let front = front_is (rest_of at (record u { bytes = drop n u.bytes })) v w (own_length ∙ l.0) there in
-            text_fault at e fault broken k (subst (λ x. IsUtf8 x) (sym front) is.utf8);
+            text_fault e fault broken k (subst (λ x. IsUtf8 x) (sym front) is.utf8);
       };
       reads = goes_on len.reads fill.reads;
-      caused = text_read a c s e fault;
+      caused = text_read a c e fault;
     }
 
     -- it is there, and is one
-    pub text_taken : {w : ReaderView} {v : List ℕ} → v ≡ own → IsUtf8 v → w ≡ record u { bytes = drop n u.bytes } → Leaves a c s w short_text IsShortText (Ok v)
+    pub text_taken : {w : ReaderView} {v : List ℕ} → v ≡ own → IsUtf8 v → w ≡ record u { bytes = drop n u.bytes } → ReadsValue a c s w short_text IsShortText (Ok v)
     text_taken {w} {v} is utf8 end = record {
-      takes = λ at may.
-          let l = (len.takes at may).taken in
-          let mid = sym (fill.same at (may_still len.reads may)) ∙ ready at u n ∙ ap (λ r. option_map (λ s. own ++ s) (rest_of at r)) (sym end) in
+      takes = λ at shows.
+          let l = (len.takes at shows).taken in
+          let mid = sym (fill.same at (still_shows len.reads shows)) ∙ ready at u n ∙ ap (λ r. option_map (λ s. own ++ s) (rest_of at r)) (sym end) in
           record {
             taken = (
               record { utf8 = utf8; short = subst (λ k. k < 2 ^ 64) (sym (ap length is ∙ own_length)) l.0 },
@@ -127,6 +141,6 @@ module _ {a b : Cache} {s t : ReaderView} {n : ℕ} (len : Leaves a b s t (big_b
             );
             lacks = tt;
           };
-      reads = skips (drop n u.bytes) (goes_on len.reads fill.reads) end;
+      reads = goes_on len.reads fill.reads;
       caused = tt;
     }

@@ -15,7 +15,8 @@ use Rattle.tbtree.specs.Passes.{Passes}
 use Rattle.register.proofs.SpareLemmas.{is_page, no_page, fills_spares, spares_trans, stays_spares}
 use Rattle.register.proofs.ChainLemmas.{pages_of, text_is_at, written_length}
 use Rattle.register.specs.Chain.{most_used, part_payload, text_at}
-use Rattle.register.specs.ChainSteps.{Fills, Gives, IsNumber, IsPutBehind, OnlyAsks, Spares}
+use Rattle.register.specs.ChainSteps.{Fills, Gives, IsNumber, IsPutBehind, OnlyAsks}
+use Rattle.register.specs.Saved.{SparesTree}
 use Rattle.register.specs.ChainWriter.{AreWritten, HasText, Holds, HoldsText, IsOwn, WriterView}
 
 -- a number that none of a list reaches is none of them
@@ -118,7 +119,7 @@ module _ (a b d : Cache) (w : WriterView) (l page : ℕ) (part : List ℕ) (give
       let f : IsTrue a.store.is_faithful = sym passes.store.faithful ∙ sym lends.writes.keeps.store.faithful ∙ fd in
       step lends f earlier rest keys text puts is len some (h f)
 
-  pub tree_step : {T E : Type 0} (r : Result T E) (text : List ℕ) → 0 < length w.pages → Spares a b → OnOk r (Fills l (part_payload page part) b d) → OnErr r (OnlyAsks b d) → Holds a w text → Spares a d
+  pub tree_step : {T E : Type 0} (r : Result T E) (text : List ℕ) → 0 < length w.pages → SparesTree a b → OnOk r (Fills l (part_payload page part) b d) → OnErr r (OnlyAsks b d) → Holds a w text → SparesTree a d
   tree_step (Ok x) text some tree lends rests h = λ f.
       let o : IsOwn (payload_of a) l = subst (IsOwn (payload_of a)) (sym at) ((h f).own (length w.pages - 1) 0 (omega (arith, some))) in
       spares_trans a b d passes tree (fills_spares b d l page part o.payload o.kind (λ _. gives.stay f l o.payload o.is) lends) f
@@ -148,8 +149,8 @@ module _ (a b d : Cache) (v : WriterView) (l page done k : ℕ) (ks items bytes 
       (subst (λ t. Fills l (part_payload page t) b d) part_is lends)
       (subst (λ ks. All (λ p. p < a.count) ks → IsPutBehind ks page keys) pages puts) (cut done 4040 v.text) len (omega (arith, y, more)) h)
 
-  pub part_tree : {T E : Type 0} (r : Result T E) (text : List ℕ) → 0 < length v.pages → Spares a b → OnOk r (Fills l (part_payload page (take k (drop done bytes))) b d) → OnErr r (OnlyAsks b d)
-      → Holds a (record v { text = drop done v.text }) text → Spares a d
+  pub part_tree : {T E : Type 0} (r : Result T E) (text : List ℕ) → 0 < length v.pages → SparesTree a b → OnOk r (Fills l (part_payload page (take k (drop done bytes))) b d) → OnErr r (OnlyAsks b d)
+      → Holds a (record v { text = drop done v.text }) text → SparesTree a d
   part_tree r text some tree lends rests h = tree_step a b d (record v { text = drop done v.text }) l page (take k (drop done bytes)) gives passes at r text some tree lends rests h
 
 among_below : (xs : List ℕ) (q n : ℕ) → All (λ p. p < n) xs → list_any (nat_eq q) xs ≡ true → q < n
@@ -229,21 +230,8 @@ module _ (a d : Cache) (rest text : List ℕ) (l : ℕ) (short : length rest ≤
       closed_pages w.pages w.earlier len first at from (size ∙ ap (λ t. 4040 * (length w.pages - 1) + length t) same) numbers
       (subst (λ t. HoldsText (payload_of a) a.count (record { pages = w.pages; earlier = w.earlier; text = t }) text) same (h f))
 
--- the text takes as many pages
-counted_pages : (at : ℕ → Option Payload) (count : ℕ) (pages : List ℕ) (earlier : ℕ) (rest text : List ℕ) → length rest ≤ 4040 → 0 < length text → HoldsText at count (record { pages = pages; earlier = earlier; text = rest }) text → div_ceil (length text) most_used ≡ length pages
-counted_pages at count [] earlier rest text short some h = absurd h.parts
-counted_pages at count (p ∷ pages) earlier rest text short some h =
-    let n : length text ≡ length h.written + length rest = ap length h.all ∙ length-append h.written rest in
-    let k = written_length at p pages h.written h.parts in
-    let left : 0 < length rest = ⊎_elim (λ lt. h.left lt) (λ ge. omega (arith, ge, n, some)) (cases_lt 0 (length h.written)) in
-    let size : length text ≡ 4040 * length pages + length rest = omega (arith, n, k) in
-    ap (λ m. div_ceil m 4040) size ∙ pages_of (length pages) (length rest) left short
-
-pub pages_taken : (c : Cache) (w : WriterView) (text : List ℕ) → length w.text ≤ 4040 → Holds c w text → 0 < length text → IsTrue c.store.is_faithful → div_ceil (length text) most_used ≡ length w.pages
-pages_taken c w text short h some f = counted_pages (payload_of c) c.count w.pages w.earlier w.text text short some (h f)
-
 -- so is a page that is the last one
-pub last_tree : (a d : Cache) (w : WriterView) (l next : ℕ) (bytes text : List ℕ) → l ≡ get_or w.pages (length w.pages - 1) 0 → 0 < length w.pages → Fills l (part_payload next bytes) a d → Holds a w text → Spares a d
+pub last_tree : (a d : Cache) (w : WriterView) (l next : ℕ) (bytes text : List ℕ) → l ≡ get_or w.pages (length w.pages - 1) 0 → 0 < length w.pages → Fills l (part_payload next bytes) a d → Holds a w text → SparesTree a d
 last_tree a d w l next bytes text at some lends h = λ f.
     let o : IsOwn (payload_of a) l = subst (IsOwn (payload_of a)) (sym at) ((h f).own (length w.pages - 1) 0 (omega (arith, some))) in
     fills_spares a d l next bytes o.payload o.kind (λ _. o.is) lends f

@@ -1,5 +1,5 @@
 -- How the text of a catalogue lies in a chain of pages.
-use Rattle.std.specs.Prelude.{ℕ, zero, suc, ◌+◌, ◌-◌, ◌==◌, nat_le, min, Bool, true, false, ◌&&◌, cond, if◌then◌else◌, List, [], ◌++◌, length, replicate, Option, Some, None, option_map, option_and_then, unwrap_or}
+use Rattle.std.specs.Prelude.{ℕ, zero, suc, ◌+◌, ◌-◌, ◌==◌, nat_le, min, Bool, true, false, ◌&&◌, cond, if◌then◌else◌, List, [], ◌++◌, length, replicate, Option, Some, None, option_map, option_and_then}
 use Rattle.std.specs.Int.{div_ceil}
 use Rattle.byteorder.specs.Endian.{big_bytes}
 use Rattle.pages.specs.declared.payload.Kind.{Kind}
@@ -56,20 +56,3 @@ chain_text at (suc n) left p =
 -- full
 unfoldable pub text_at : (ℕ → Option Payload) → ℕ → ℕ → Option (List ℕ)
 text_at at length p = chain_text at (div_ceil length most_used) length p
-
--- how many pages a text takes
-abbrev pub pages_for : List ℕ → ℕ
-pages_for text = div_ceil (length text) most_used
-
--- the first page without a payload on the way along a text of `left` bytes, in so many pages from
--- page p on; each page before it has the form of its page of the text
-abbrev pub chain_stop : (ℕ → Option Payload) → ℕ → ℕ → ℕ → Option ℕ
-chain_stop at zero left p = None
-chain_stop at (suc n) left p =
-    unwrap_or (option_map (λ payload. cond (is_part (min most_used left) payload)
-    (chain_stop at n (left - most_used) (next_in payload))
-    None) (at p)) (Some p)
-
--- the page at which reading the text of that length from page p on stops, as it has no payload
-unfoldable pub text_stop : (ℕ → Option Payload) → ℕ → ℕ → Option ℕ
-text_stop at length p = chain_stop at (div_ceil length most_used) length p

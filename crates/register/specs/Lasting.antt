@@ -1,5 +1,5 @@
 -- What the pages of a store keep of a database beside its legs.
-use Rattle.std.specs.Prelude.{ℕ, ◌≡◌, ◌≢◌, ◌≤◌, ◌<◌, ◌==◌, ◌⊎◌, nat_lt, Bool, false, if◌then◌else◌, List, [], map, length, All, AllPairs, Option, Some, None, IsTrue}
+use Rattle.std.specs.Prelude.{ℕ, ◌≡◌, ◌≢◌, ◌≤◌, ◌<◌, ◌==◌, ◌⊎◌, nat_lt, false, if◌then◌else◌, List, [], map, length, All, AllPairs, Option, Some, None}
 use Rattle.std.specs.Int.{div_ceil}
 use Rattle.timebase.specs.Instant.{IsMoment}
 use Rattle.legs.specs.Law.{IsName}
@@ -46,20 +46,6 @@ payload_fault (Some payload) = header_fault payload
 -- with a store of so many pages, by page 0
 abbrev pub first_fault : ℕ → Option Payload → Option CatalogueFault
 first_fault count first = if nat_lt 0 count then payload_fault first else Some Malformed
-
--- that page of so many is there, and, where the store is faithful, has no payload
-abbrev pub IsDamagedPage : Bool → (ℕ → Option Payload) → ℕ → ℕ → Type 0
-IsDamagedPage faithful at count page = (page < count) × (IsTrue faithful → at page ≡ None)
-
--- a page that is said to be damaged is so
-abbrev pub IsTrulyDamaged : Bool → (ℕ → Option Payload) → ℕ → CatalogueFault → Type 0
-IsTrulyDamaged faithful at count Memory = Unit {0}
-IsTrulyDamaged faithful at count Store = Unit {0}
-IsTrulyDamaged faithful at count StoreFull = Unit {0}
-IsTrulyDamaged faithful at count (Damaged page) = IsDamagedPage faithful at count page
-IsTrulyDamaged faithful at count Unfinished = Unit {0}
-IsTrulyDamaged faithful at count Version = Unit {0}
-IsTrulyDamaged faithful at count Malformed = Unit {0}
 
 -- memory ran out, or the store failed
 abbrev pub IsStop : CatalogueFault → Type 0

@@ -1,6 +1,5 @@
 pub mod Text
 pub mod Chain
-pub mod Earlier
 pub mod ChainWriter
 pub mod ChainSteps
 pub mod ChainReader
@@ -8,5 +7,4 @@ pub mod Saved
 pub mod Saving
 pub mod Lasting
 pub mod Restoring
-pub mod Stopping
 pub mod Building

@@ -1,13 +1,12 @@
 -- What a database keeps, as the text of its catalogue says it.
-use Rattle.std.specs.Prelude.{ℕ, ◌≡◌, ◌≢◌, ◌<◌, ◌≤◌, ◌^◌, ◌-◌, false, min, List, Option, Some, None, take, drop, IsTrue}
+use Rattle.std.specs.Prelude.{ℕ, ◌≡◌, ◌≤◌, ◌^◌, ◌-◌, false, min, List, Option, Some, None, take, drop, IsTrue}
 use Rattle.pages.specs.Store as store
 use Rattle.legs.specs.Limits.{LimitsView}
 use Rattle.legs.specs.Tracks.{TracksView}
 use Rattle.legs.specs.declared.head.BookHead.{BookHead}
 use Rattle.mfcsv.specs.declared.Dimension.TheVariants.{Two, Three}
-use Rattle.pages.specs.declared.payload.Kind.TheVariants.{Catalogue}
 use Rattle.pages.specs.declared.payload.Payload.{Payload}
-use Rattle.pagecache.specs.Cache.{is_changed, page_of, payload_of, Cache, IsSettled}
+use Rattle.pagecache.specs.Cache.{is_changed, payload_of, Cache, IsSettled}
 use Rattle.tbtree.specs.Descent.{IsSameTree}
 use Rattle.tbtree.specs.Nodes.{pages_of_cache}
 use Rattle.tbtree.specs.declared.tree.TbTree.{TbTree}
@@ -67,25 +66,6 @@ pub record Continues (old new : Cache) : Type 0 where
 abbrev pub SparesTree : Cache → Cache → Type 0
 SparesTree old new =
     IsTrue old.store.is_faithful → IsSameTree (pages_of_cache old) (pages_of_cache new)
-
--- a page above page 0 that is none of a catalogue's has its payload
-abbrev pub OthersStay : (old new : ℕ → Option Payload) → Type 0
-OthersStay old new =
-    (p : ℕ) (payload : Payload) → 0 < p → old p ≡ Some payload → payload.kind ≢ Catalogue
-    → new p ≡ Some payload
-
-abbrev pub SparesOthers : Cache → Cache → Type 0
-SparesOthers old new =
-    IsTrue old.store.is_faithful → OthersStay (payload_of old) (payload_of new)
-
--- and one that has no payload has none, and stays as it is written
-abbrev pub UnreadableStay : Cache → Cache → Type 0
-UnreadableStay old new =
-    (p : ℕ) → 0 < p → p < old.count → payload_of old p ≡ None
-    → (payload_of new p ≡ None) × (page_of new p ≡ page_of old p)
-
-abbrev pub SparesUnreadable : Cache → Cache → Type 0
-SparesUnreadable old new = IsTrue old.store.is_faithful → UnreadableStay old new
 
 -- no page but page 0 is changed; so each other one is as written
 pub record IsWrittenButFirst (c : Cache) : Type 0 where

@@ -13,10 +13,8 @@ use Rattle.header.specs.declared.header_fields.Fields.{Fields}
 use Rattle.tbtree.specs.Passes.{KeepsLength, Passes}
 use Rattle.tbtree.specs.Stands.{no_place}
 use Rattle.tbtree.specs.declared.tree.Place.{Place}
-use Rattle.register.specs.Chain.{pages_for}
-use Rattle.register.specs.ChainSteps.{Reuses, Spares, StaysWithin}
 use Rattle.register.specs.ChainWriter.{Holds, WriterView}
-use Rattle.register.specs.Saved.{head_of, CatalogueView}
+use Rattle.register.specs.Saved.{head_of, CatalogueView, SparesTree}
 use Rattle.register.specs.declared.contents.Contents.{Contents}
 use Rattle.register.specs.declared.contents.Feature.{Feature}
 use Rattle.register.specs.declared.fault.CatalogueFault.{CatalogueFault}
@@ -71,17 +69,6 @@ IsSavingStop Unfinished = ⊥
 IsSavingStop Version = ⊥
 IsSavingStop Malformed = ⊥
 
--- the refusals over a faithful store: page 0 is damaged where it is there and has no payload, and the store is malformed
--- where it has no page
-abbrev pub IsSavingFault : Cache → CatalogueFault → Type 0
-IsSavingFault c Memory = Unit {0}
-IsSavingFault c Store = Unit {0}
-IsSavingFault c StoreFull = Unit {0}
-IsSavingFault c (Damaged page) = (page ≡ 0) × (0 < c.count) × (payload_of c 0 ≡ None)
-IsSavingFault c Unfinished = ⊥
-IsSavingFault c Version = ⊥
-IsSavingFault c Malformed = c.count ≡ 0
-
 -- the store failed where that is said, and is full where that is said
 abbrev pub IsCaused : Cache → Cache → CatalogueFault → Type 0
 IsCaused old new Memory = Unit {0}
@@ -102,27 +89,14 @@ IsNotWritten old new Unfinished = ⊥
 IsNotWritten old new Version = ⊥
 IsNotWritten old new Malformed = ⊥
 
--- how many pages a refused call wanted for which the store had no room
-abbrev pub wanted : CatalogueFault → ℕ
-wanted Memory = 0
-wanted Store = 0
-wanted StoreFull = 1
-wanted (Damaged page) = 0
-wanted Unfinished = 0
-wanted Version = 0
-wanted Malformed = 0
-
 -- these bytes are put at the end of a text, of which some pages may be written
 pub record Puts (bytes : List ℕ) (old new : Cache) (w v : WriterView)
     (result : Result (Unit {0}) CatalogueFault) : Type 0 where
   pub passes : Passes old new
   pub holds : OnOk result ((text : List ℕ) → Holds old w text → Holds new v (text ++ bytes))
   pub length : OnOk result (KeepsLength old new)
-  pub tree : (text : List ℕ) → Holds old w text → Spares old new
-  pub reuses : OnOk result (Reuses old w.pages w.earlier new v.pages v.earlier)
+  pub tree : (text : List ℕ) → Holds old w text → SparesTree old new
   pub caused : IfErr result (IsCaused old new)
-  pub within : IfErr result (λ fault. (text : List ℕ) → Holds old w text
-      → StaysWithin (pages_for (text ++ bytes)) old w.pages w.earlier new (wanted fault))
 
 -- and they are refused for want of memory or by the store alone
 pub record Saves (bytes : List ℕ) (old new : Cache) (w v : WriterView)
@@ -146,8 +120,7 @@ pub record PutsFields (fields : Fields) (old new : Cache) : Type 0 where
   pub front : take 12 now.bytes ≡ take 12 was.bytes
   pub rest : drop 60 now.bytes ≡ drop 60 was.bytes
 
--- whatever is answered: page 0 is as it was, the pages of a tree say what they said, and the pages that are none of a
--- catalogue's have their payloads
+-- whatever is answered: page 0 is as it was, and the pages of a tree say what they said
 pub record KeepsTree (old new : Cache) : Type 0 where
   pub passes : Passes old new
-  pub tree : Spares old new
+  pub tree : SparesTree old new

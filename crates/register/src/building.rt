@@ -1,14 +1,13 @@
 //! A catalogue that is made of what its text says.
-ghost use Rattle.std.specs.Prelude.{List, ◌≡◌, ◌≢◌, ◌≤◌, ◌<◌, ◌-◌, ◌^◌, ◌↔◌, ◌++◌, ◌∷◌, [], min, map, length, All, AllPairs, IsTrue, IfOk, IfErr, IfSome, OnOk, None, Some};
+ghost use Rattle.std.specs.Prelude.{List, ◌≡◌, ◌≢◌, ◌≤◌, ◌<◌, ◌-◌, ◌↔◌, [], length, All, IsTrue, IfOk, IfErr, IfSome, OnOk, None, Some};
 ghost use Rattle.timebase.specs.Instant.{IsMoment};
 ghost use Rattle.legs.specs.Law.{IsName};
 ghost use Rattle.legs.specs.Limits.{IsLimits};
 ghost use Rattle.legs.specs.declared.head.BookHead.{BookHead};
 ghost use Rattle.register.specs.Building.{number_of, tree_of, AddsFeature, AreLawful, IsKnown, IsOf};
 ghost use Rattle.register.specs.ChainReader.{IsBroken, IsTextFault};
-ghost use Rattle.register.specs.Lasting.{IsLawful, IsLawfulFeature, IsWithin};
+ghost use Rattle.register.specs.Lasting.{IsLawfulFeature, IsWithin};
 ghost use Rattle.register.specs.Saved.{dimension_of, head_of, CatalogueView};
-ghost use Rattle.register.specs.Saving.{contents_of};
 ghost use Rattle.tbtree.specs.declared.tree.Place.{Place};
 
 use crate::contents::{Contents, Feature, Features, Head, Lists};

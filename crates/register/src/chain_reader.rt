@@ -1,6 +1,5 @@
 //! A text that is read from a chain of pages.
-ghost use Rattle.std.specs.Prelude.{◌≡◌, ◌+◌, ◌-◌, ◌<◌, ◌≤◌, ◌^◌, min, List, Option, ℕ, length, IfErr, OnErr, OnOk, Some, None, [], drop, take};
-ghost use Rattle.byteorder.specs.Endian.{big_bytes};
+ghost use Rattle.std.specs.Prelude.{◌≡◌, ◌+◌, ◌-◌, ◌<◌, ◌≤◌, min, Option, ℕ, length, IfErr, OnErr, OnOk, None, [], drop, take};
 ghost use Rattle.pages.specs.declared.payload.Payload.{Payload};
 ghost use Rattle.register.specs.Chain.{is_part};
 ghost use Rattle.register.specs.ChainReader.{fault_of};
@@ -77,7 +76,8 @@ impl Model for ChainReader {
 }
 
 impl ChainReader {
-    ghost use Rattle.register.specs.ChainReader.{rest_of, BreaksAt, IsPageFault, IsReaderFault, MayBe, ReadsOn, Takes, TakesPart};
+    ghost use Rattle.chains.specs.Reads.{OnlyReads};
+    ghost use Rattle.register.specs.ChainReader.{rest_of, IsBroken, IsPageFault, IsReadFault, ReadsAhead, Shows, TakesPart};
 
     /// Reads a text of that length from the chain that begins with a page.
     pub fn new(alloc: Global, first: u32, length: u64) -> ChainReader
@@ -140,13 +140,13 @@ impl ChainReader {
     /// Reads the next page of the chain.
     fn load<S: PageStore>(&mut self, cache: &mut PageCache<S>) -> Result<(), CatalogueFault>
         requires { 0 < self.old.left }
-        ensures same { OnOk result ((at : ℕ → Option Payload) → MayBe cache.old at
+        ensures same { OnOk result ((at : ℕ → Option Payload) → Shows cache.old at
             → rest_of at self.new ≡ rest_of at self.old) }
         ensures left { OnOk result (self.new.left < self.old.left) }
-        ensures broken { IfErr result (λ e. (at : ℕ → Option Payload) → MayBe cache.old at
-            → BreaksAt at e → rest_of at self.old ≡ None) }
-        ensures reads { ReadsOn cache.old cache.new self.old self.new }
-        ensures caused { IfErr result (IsReaderFault cache.old cache.new self.old) }
+        ensures broken { IfErr result (λ e. (at : ℕ → Option Payload) → Shows cache.old at
+            → IsBroken e → rest_of at self.old ≡ None) }
+        ensures reads { OnlyReads cache.old cache.new }
+        ensures caused { IfErr result (IsReadFault cache.old cache.new) }
     {
         match cache.page(self.next) {
             Ok(payload) => self.take_page(payload),
@@ -160,14 +160,7 @@ impl ChainReader {
         cache: &mut PageCache<S>,
         len: usize,
     ) -> Result<(), CatalogueFault>
-        ensures same { OnOk result ((at : ℕ → Option Payload) → MayBe cache.old at
-            → rest_of at self.new ≡ rest_of at self.old) }
-        ensures ready { OnOk result (len ≤ length self.new.bytes) }
-        ensures broken { IfErr result (λ e. (at : ℕ → Option Payload) → MayBe cache.old at
-            → BreaksAt at e → (text : List ℕ) → rest_of at self.old ≡ Some text
-            → length text < len) }
-        ensures reads { ReadsOn cache.old cache.new self.old self.new }
-        ensures caused { IfErr result (IsReaderFault cache.old cache.new self.old) }
+        ensures { ReadsAhead cache.old cache.new self.old self.new len result }
     {
         while self.bytes.len() - self.taken < len {
             if self.left == 0 {

@@ -1,13 +1,14 @@
 //! A text that is written to a chain of pages.
-ghost use Rattle.std.specs.Prelude.{ℕ, ◌≡◌, ◌+◌, ◌<◌, ◌≤◌, ◌++◌, ◌∷◌, [], false, length, List, nat_eq, All, OnOk, OnErr, IfOk, IfErr, IfSome, IsTrue, ◌↔◌, None, Some};
+ghost use Rattle.std.specs.Prelude.{ℕ, ◌≡◌, ◌+◌, ◌<◌, ◌≤◌, ◌++◌, [], false, length, List, nat_eq, All, OnOk, OnErr, IfOk, IfErr, IfSome, IsTrue, ◌↔◌, None, Some};
 ghost use Rattle.pages.specs.declared.payload.Kind.TheVariants.{Catalogue};
 ghost use Rattle.pages.specs.Zero.{zero_payload};
 ghost use Rattle.pagecache.specs.Cache.{payload_of, Adds, AsksOnce, IsNotAdded, IsRefused, Lends, Rests, KeepsPayloads};
 ghost use Rattle.tbtree.specs.Passes.{Passes, KeepsLength};
 ghost use Rattle.indexmap.specs.IndexSet.{insert_key, contains, spare};
 ghost use Rattle.pages.specs.declared.payload.Payload.{Payload};
-ghost use Rattle.register.specs.Chain.{next_in, part_payload};
-ghost use Rattle.register.specs.ChainSteps.{lacked, AreNumbers, Fills, IsAhead, IsNumber, IsPutBehind, Gives, IsThere, OnlyAsks, PayloadsStay, Reuses, Spares, StaysWithin};
+ghost use Rattle.register.specs.Chain.{part_payload};
+ghost use Rattle.register.specs.ChainSteps.{AreNumbers, Fills, IsNumber, IsPutBehind, Gives, IsThere, OnlyAsks, PayloadsStay};
+ghost use Rattle.register.specs.Saved.{SparesTree};
 ghost use Rattle.register.specs.ChainWriter.{IsAllowed, IsCaused};
 
 use crate::chain_reader::MOST_USED;
@@ -108,10 +109,8 @@ fn write_page<S: PageStore>(
 }
 
 /// What a page of a catalogue says comes after it.
-#[tactic(auto, unfolding(crate::specs::Chain::next_in))]
 fn next_of(payload: &Payload) -> Option<u32>
     ensures kind { IfSome result (λ next. payload.now.kind ≡ Catalogue) }
-    ensures next { payload.now.kind ≡ Catalogue → result ≡ Some (next_in payload.now) }
 {
     if payload.kind != Kind::Catalogue {
         return None;
@@ -123,12 +122,8 @@ fn next_of(payload: &Payload) -> Option<u32>
 fn following<S: PageStore>(cache: &mut PageCache<S>, page: u32) -> Result<Option<u32>, CacheFault>
     ensures rests { Rests cache.old cache.new }
     ensures there { IfOk result (λ o. IfSome o (λ next. IsThere cache.old page)) }
-    ensures next { IfOk result (λ o. IsTrue cache.old.store.is_faithful → (payload : Payload)
-        → payload_of cache.old page ≡ Some payload → payload.kind ≡ Catalogue
-        → o ≡ Some (next_in payload)) }
     ensures only { IfErr result IsAllowed }
     ensures caused { IfErr result (IsCaused cache.old cache.new) }
-    ensures room { IfErr result (λ fault. lacked fault ≡ 0) }
 {
     match cache.page(page) {
         Ok(payload) => Ok(next_of(payload)),
@@ -142,10 +137,9 @@ fn following<S: PageStore>(cache: &mut PageCache<S>, page: u32) -> Result<Option
 fn add_first<S: PageStore>(cache: &mut PageCache<S>) -> Result<(), CacheFault>
     ensures some { OnOk result (0 < cache.new.count) }
     ensures passes { Passes cache.old cache.new }
-    ensures tree { Spares cache.old cache.new }
+    ensures tree { SparesTree cache.old cache.new }
     ensures length { OnOk result (KeepsLength cache.old cache.new) }
     ensures stay { PayloadsStay cache.old cache.new }
-    ensures none { 0 < cache.old.count → cache.new.count ≡ cache.old.count }
     ensures only { IfErr result IsAllowed }
     ensures caused { IfErr result (IsCaused cache.old cache.new) }
 {
@@ -175,10 +169,8 @@ fn add_zeros<S: PageStore>(cache: &mut PageCache<S>) -> Result<u32, CacheFault>
 fn add_above<S: PageStore>(cache: &mut PageCache<S>) -> Result<u32, CacheFault>
     ensures gives { IfOk result (λ page. Gives cache.old page cache.new) }
     ensures new { IfOk result (λ page. cache.old.count ≤ page) }
-    ensures one { OnOk result (0 < cache.old.count → cache.new.count ≡ cache.old.count + 1) }
-    ensures none { OnErr result (0 < cache.old.count → cache.new.count ≡ cache.old.count) }
     ensures passes { Passes cache.old cache.new }
-    ensures tree { Spares cache.old cache.new }
+    ensures tree { SparesTree cache.old cache.new }
     ensures only { IfErr result IsAllowed }
     ensures caused { IfErr result (IsCaused cache.old cache.new) }
 {
@@ -198,19 +190,12 @@ fn reused<S: PageStore>(
     ensures apart { IfOk result (λ o. IfSome o (λ next.
         contains nat_eq pages.now earlier ≡ false)) }
     ensures gives { IfOk result (λ o. IfSome o (λ next. Gives cache.old earlier cache.new)) }
-    ensures next { IfOk result (λ o. IfSome o (λ next. IsTrue cache.old.store.is_faithful
-        → (payload : Payload) → payload_of cache.old earlier ≡ Some payload
-        → next ≡ next_in payload)) }
-    ensures none { IfOk result (λ o. o ≡ None → (page : ℕ) (others : List ℕ)
-        → IsAhead cache.old pages.now.keys earlier (page ∷ others) → ⊥) }
     ensures length { KeepsLength cache.old cache.new }
-    ensures count { cache.new.count ≡ cache.old.count }
     ensures stay { PayloadsStay cache.old cache.new }
     ensures passes { Passes cache.old cache.new }
-    ensures tree { Spares cache.old cache.new }
+    ensures tree { SparesTree cache.old cache.new }
     ensures only { IfErr result IsAllowed }
     ensures caused { IfErr result (IsCaused cache.old cache.new) }
-    ensures room { IfErr result (λ fault. lacked fault ≡ 0) }
 {
     if earlier == 0 || pages.contains(&earlier) {
         return Ok(None);
@@ -228,12 +213,8 @@ fn next_page<S: PageStore>(
     ensures gives { IfOk result (λ r. Gives cache.old r.0 cache.new) }
     ensures apart { IfOk result (λ r. All (λ p. p < cache.old.count) pages.now.keys
         → contains nat_eq pages.now r.0 ≡ false) }
-    ensures reuses { IfOk result (λ r. Reuses cache.old pages.now.keys earlier
-        cache.new (pages.now.keys ++ r.0 ∷ []) r.1) }
-    ensures within { IfErr result (λ fault. StaysWithin (length pages.now.keys + 1)
-        cache.old pages.now.keys earlier cache.new (lacked fault)) }
     ensures passes { Passes cache.old cache.new }
-    ensures tree { Spares cache.old cache.new }
+    ensures tree { SparesTree cache.old cache.new }
     ensures only { IfErr result IsAllowed }
     ensures caused { IfErr result (IsCaused cache.old cache.new) }
 {
@@ -266,12 +247,8 @@ fn take_page<S: PageStore>(
         → IsPutBehind pages.old.keys r.0 pages.new.keys) }
     ensures numbers { OnOk result (All IsNumber pages.old.keys → AreNumbers pages.new.keys) }
     ensures same { OnErr result (pages.new.keys ≡ pages.old.keys) }
-    ensures reuses { IfOk result (λ r. Reuses cache.old pages.old.keys earlier
-        cache.new pages.new.keys r.1) }
-    ensures within { IfErr result (λ fault. StaysWithin (length pages.old.keys + 1)
-        cache.old pages.old.keys earlier cache.new (lacked fault)) }
     ensures passes { Passes cache.old cache.new }
-    ensures tree { Spares cache.old cache.new }
+    ensures tree { SparesTree cache.old cache.new }
     ensures only { IfErr result IsAllowed }
     ensures caused { IfErr result (IsCaused cache.old cache.new) }
 {
@@ -287,8 +264,9 @@ impl ChainWriter {
     ghost use Rattle.std.specs.Prelude.{List, ℕ, [], All, ◌≡◌, ◌+◌, ◌-◌, ◌*◌, ◌<◌, ◌≤◌, ◌++◌, OnOk, OnErr, IfOk, IfErr, IsTrue, length, slice_index};
     ghost use Rattle.std.specs.Int.{div_ceil};
     ghost use Rattle.tbtree.specs.Passes.{Passes, KeepsLength};
-    ghost use Rattle.register.specs.Chain.{most_used, pages_for};
-    ghost use Rattle.register.specs.ChainSteps.{behind, lacked, IsAhead, IsNumber, Reuses, Spares, StaysWithin, TakesFew};
+    ghost use Rattle.register.specs.Chain.{most_used};
+    ghost use Rattle.register.specs.ChainSteps.{behind, IsNumber};
+    ghost use Rattle.register.specs.Saved.{SparesTree};
     ghost use Rattle.register.specs.ChainWriter.{HasText, Holds, IsAllowed, IsCaused};
 
     /// A writer of a text, to an earlier chain that begins at that page, 0 for none. The numbers of
@@ -301,13 +279,9 @@ impl ChainWriter {
     ) -> Result<ChainWriter, CacheFault>
         ensures holds { IfOk result (λ w. Holds cache.new w []) }
         ensures text { IfOk result (λ w. w.text ≡ []) }
-        ensures reuses { IfOk result (λ w. Reuses cache.old [] earlier
-            cache.new w.pages w.earlier) }
-        ensures within { IfErr result (λ fault. StaysWithin 1 cache.old [] earlier cache.new
-            (lacked fault)) }
         ensures passes { Passes cache.old cache.new }
         ensures length { OnOk result (KeepsLength cache.old cache.new) }
-        ensures tree { Spares cache.old cache.new }
+        ensures tree { SparesTree cache.old cache.new }
         ensures only { IsTrue cache.old.store.is_faithful → IfErr result IsAllowed }
         ensures caused { IfErr result (IsCaused cache.old cache.new) }
     {
@@ -357,14 +331,10 @@ impl ChainWriter {
         ensures text { self.new.text ≡ self.old.text }
         ensures holds { OnOk result ((text : List ℕ) → Holds cache.old (behind done self.old) text
             → Holds cache.new (behind (done + 4040) self.new) text) }
-        ensures reuses { OnOk result (Reuses cache.old self.old.pages self.old.earlier
-            cache.new self.new.pages self.new.earlier) }
-        ensures within { IfErr result (λ fault. StaysWithin (length self.old.pages + 1)
-            cache.old self.old.pages self.old.earlier cache.new (lacked fault)) }
         ensures passes { Passes cache.old cache.new }
         ensures length { OnOk result (KeepsLength cache.old cache.new) }
         ensures tree { (text : List ℕ) → Holds cache.old (behind done self.old) text
-            → Spares cache.old cache.new }
+            → SparesTree cache.old cache.new }
         ensures only { (text : List ℕ) → Holds cache.old (behind done self.old) text
             → IsTrue cache.old.store.is_faithful → IfErr result IsAllowed }
         ensures caused { IfErr result (IsCaused cache.old cache.new) }
@@ -390,15 +360,10 @@ impl ChainWriter {
         ensures holds { OnOk result ((text : List ℕ) → Holds cache.old self.old text
             → Holds cache.new self.new text) }
         ensures short { OnOk result (length self.new.text ≤ 4040) }
-        ensures reuses { OnOk result (Reuses cache.old self.old.pages self.old.earlier
-            cache.new self.new.pages self.new.earlier) }
-        ensures within { IfErr result (λ fault. (text : List ℕ) → Holds cache.old self.old text
-            → StaysWithin (pages_for text) cache.old self.old.pages self.old.earlier cache.new
-            (lacked fault)) }
         ensures passes { Passes cache.old cache.new }
         ensures length { OnOk result (KeepsLength cache.old cache.new) }
         ensures tree { (text : List ℕ) → Holds cache.old self.old text
-            → Spares cache.old cache.new }
+            → SparesTree cache.old cache.new }
         ensures only { (text : List ℕ) → Holds cache.old self.old text
             → IsTrue cache.old.store.is_faithful → IfErr result IsAllowed }
         ensures caused { IfErr result (IsCaused cache.old cache.new) }
@@ -439,15 +404,10 @@ impl ChainWriter {
             → HasText cache.new r.1 r.0 text
             × (r.1 ≡ length text) × (0 < r.0) × (r.0 < cache.new.count)
             × (div_ceil r.1 most_used ≤ cache.new.count)) }
-        ensures pages { (text : List ℕ) → Holds cache.old self.now text
-            → 0 < length text → IsTrue cache.old.store.is_faithful
-            → div_ceil (length text) most_used ≡ length self.now.pages }
-        ensures count { cache.new.count ≡ cache.old.count }
-        ensures room { IfErr result (λ fault. lacked fault ≡ 0) }
         ensures passes { Passes cache.old cache.new }
         ensures length { OnOk result (KeepsLength cache.old cache.new) }
         ensures tree { (text : List ℕ) → Holds cache.old self.now text
-            → Spares cache.old cache.new }
+            → SparesTree cache.old cache.new }
         ensures only { (text : List ℕ) → Holds cache.old self.now text
             → IsTrue cache.old.store.is_faithful → IfErr result IsAllowed }
         ensures caused { IfErr result (IsCaused cache.old cache.new) }
@@ -469,18 +429,10 @@ impl ChainWriter {
             → HasText cache.new r.1 r.0 text
             × (r.1 ≡ length text) × (0 < r.0) × (r.0 < cache.new.count)
             × (div_ceil r.1 most_used ≤ cache.new.count)) }
-        ensures reuses { OnOk result ((text : List ℕ) → Holds cache.old self text
-            → 0 < length text → (pages : List ℕ)
-            → IsAhead cache.old self.pages self.earlier pages → TakesFew
-            (div_ceil (length text) most_used) (length self.pages) (length pages)
-            cache.old.count cache.new.count) }
-        ensures within { IfErr result (λ fault. (text : List ℕ) → Holds cache.old self text
-            → 0 < length text → StaysWithin (pages_for text) cache.old self.pages self.earlier
-            cache.new (lacked fault)) }
         ensures passes { Passes cache.old cache.new }
         ensures length { OnOk result (KeepsLength cache.old cache.new) }
         ensures tree { (text : List ℕ) → Holds cache.old self text
-            → Spares cache.old cache.new }
+            → SparesTree cache.old cache.new }
         ensures only { (text : List ℕ) → Holds cache.old self text
             → IsTrue cache.old.store.is_faithful → IfErr result IsAllowed }
         ensures caused { IfErr result (IsCaused cache.old cache.new) }

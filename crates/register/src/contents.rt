@@ -1,5 +1,4 @@
 //! What the text of a catalogue says.
-ghost use Rattle.std.specs.Prelude.{◌≡◌};
 
 use mfcsv::{Columns, Text};
 use rows::Rows;

@@ -1,7 +1,6 @@
 //! What a text says of columns, features and rows.
-ghost use Rattle.std.specs.Prelude.{◌≡◌, ◌-◌, ◌^◌, ℕ, Option, min, length, IfErr};
+ghost use Rattle.std.specs.Prelude.{◌≡◌, ◌-◌, ◌^◌, ℕ, min, length};
 ghost use Rattle.std.specs.List.{flat_map};
-ghost use Rattle.pages.specs.declared.payload.Payload.{Payload};
 ghost use Rattle.register.specs.Text.{kept_text, leg_sum, IsKept};
 
 use crate::chain_reader::ChainReader;
@@ -50,8 +49,8 @@ fn leg_sum(features: &Features) -> u64
 
 impl ChainReader {
     ghost use Rattle.std.specs.Prelude.{◌≡◌, ◌++◌, ◌∷◌, [], OnOk, Some};
-    ghost use Rattle.register.specs.ChainReader.{rest_of, IsReaderFault, MayBe, ReadsOn, Takes, TakesInto};
-    ghost use Rattle.register.specs.Text.{column_text, columns_text, contents_text, feature_text, features_text, head_text, kept_text, lists_text, row_text, rows_text, short_text, space_text, AreColumns, AreFeatures, AreFewRows, AreRead, AreRows, IsColumn, IsFeature, IsHead, IsKept, IsRead, IsRow, IsShortText, IsSpace, HasColumns, HasFeatures};
+    ghost use Rattle.register.specs.ChainReader.{ReadsInto, ReadsValue};
+    ghost use Rattle.register.specs.Text.{column_text, columns_text, contents_text, feature_text, features_text, head_text, kept_text, lists_text, row_text, rows_text, space_text, AreColumns, AreFeatures, AreFewRows, AreRead, AreRows, IsColumn, IsFeature, IsHead, IsKept, IsRead, IsRow, IsSpace, HasColumns, HasFeatures};
 
     /// An attribute column.
     fn column<S: PageStore>(
@@ -59,10 +58,7 @@ impl ChainReader {
         alloc: Global,
         cache: &mut PageCache<S>,
     ) -> Result<Column, CatalogueFault>
-        ensures takes { (at : ℕ → Option Payload) → MayBe cache.old at
-            → Takes at column_text IsColumn (rest_of at self.old) (rest_of at self.new) result }
-        ensures reads { ReadsOn cache.old cache.new self.old self.new }
-        ensures caused { IfErr result (IsReaderFault cache.old cache.new self.old) }
+        ensures { ReadsValue cache.old cache.new self.old self.new column_text IsColumn result }
     {
         let name = self.text(alloc, cache)?;
         let kind = self.text(alloc, cache)?;
@@ -76,11 +72,8 @@ impl ChainReader {
         cache: &mut PageCache<S>,
         count: u64,
     ) -> Result<Columns, CatalogueFault>
-        ensures takes { (at : ℕ → Option Payload) → MayBe cache.old at
-            → Takes at (λ columns. flat_map column_text columns) (AreColumns count)
-            (rest_of at self.old) (rest_of at self.new) result }
-        ensures reads { ReadsOn cache.old cache.new self.old self.new }
-        ensures caused { IfErr result (IsReaderFault cache.old cache.new self.old) }
+        ensures { ReadsValue cache.old cache.new self.old self.new
+            (λ columns. flat_map column_text columns) (AreColumns count) result }
     {
         let mut columns = Vec::new(alloc);
         for _ in 0..count {
@@ -95,10 +88,7 @@ impl ChainReader {
         alloc: Global,
         cache: &mut PageCache<S>,
     ) -> Result<Columns, CatalogueFault>
-        ensures takes { (at : ℕ → Option Payload) → MayBe cache.old at
-            → Takes at columns_text HasColumns (rest_of at self.old) (rest_of at self.new) result }
-        ensures reads { ReadsOn cache.old cache.new self.old self.new }
-        ensures caused { IfErr result (IsReaderFault cache.old cache.new self.old) }
+        ensures { ReadsValue cache.old cache.new self.old self.new columns_text HasColumns result }
     {
         let count = self.u64(cache)?;
         self.columns(alloc, cache, count)
@@ -106,10 +96,7 @@ impl ChainReader {
 
     /// What is kept of a feature beside its name.
     fn kept<S: PageStore>(&mut self, cache: &mut PageCache<S>) -> Result<Kept, CatalogueFault>
-        ensures takes { (at : ℕ → Option Payload) → MayBe cache.old at
-            → Takes at kept_text IsKept (rest_of at self.old) (rest_of at self.new) result }
-        ensures reads { ReadsOn cache.old cache.new self.old self.new }
-        ensures caused { IfErr result (IsReaderFault cache.old cache.new self.old) }
+        ensures { ReadsValue cache.old cache.new self.old self.new kept_text IsKept result }
     {
         self.fill(cache, 28)?;
         let kept = kept_of(self.ahead(28));
@@ -123,10 +110,7 @@ impl ChainReader {
         alloc: Global,
         cache: &mut PageCache<S>,
     ) -> Result<Feature, CatalogueFault>
-        ensures takes { (at : ℕ → Option Payload) → MayBe cache.old at
-            → Takes at feature_text IsFeature (rest_of at self.old) (rest_of at self.new) result }
-        ensures reads { ReadsOn cache.old cache.new self.old self.new }
-        ensures caused { IfErr result (IsReaderFault cache.old cache.new self.old) }
+        ensures { ReadsValue cache.old cache.new self.old self.new feature_text IsFeature result }
     {
         let name = self.text(alloc, cache)?;
         let kept = self.kept(cache)?;
@@ -140,11 +124,8 @@ impl ChainReader {
         cache: &mut PageCache<S>,
         count: u32,
     ) -> Result<Features, CatalogueFault>
-        ensures takes { (at : ℕ → Option Payload) → MayBe cache.old at
-            → Takes at (λ features. flat_map feature_text features) (AreFeatures count)
-            (rest_of at self.old) (rest_of at self.new) result }
-        ensures reads { ReadsOn cache.old cache.new self.old self.new }
-        ensures caused { IfErr result (IsReaderFault cache.old cache.new self.old) }
+        ensures { ReadsValue cache.old cache.new self.old self.new
+            (λ features. flat_map feature_text features) (AreFeatures count) result }
     {
         let mut features = Vec::new(alloc);
         for _ in 0..count {
@@ -159,11 +140,8 @@ impl ChainReader {
         alloc: Global,
         cache: &mut PageCache<S>,
     ) -> Result<Features, CatalogueFault>
-        ensures takes { (at : ℕ → Option Payload) → MayBe cache.old at
-            → Takes at features_text HasFeatures
-            (rest_of at self.old) (rest_of at self.new) result }
-        ensures reads { ReadsOn cache.old cache.new self.old self.new }
-        ensures caused { IfErr result (IsReaderFault cache.old cache.new self.old) }
+        ensures { ReadsValue cache.old cache.new self.old self.new
+            features_text HasFeatures result }
     {
         let count = self.u32(cache)?;
         self.features(alloc, cache, count)
@@ -177,13 +155,9 @@ impl ChainReader {
         rows: &mut GrowingRows,
     ) -> Result<(), CatalogueFault>
         requires { rows.old.row ≡ [] }
-        ensures takes { (at : ℕ → Option Payload) → MayBe cache.old at
-            → TakesInto at row_text (IsRow columns)
-            (λ row. rows.new.rows ≡ rows.old.rows ++ row ∷ [])
-            (rest_of at self.old) (rest_of at self.new) result }
+        ensures into { ReadsInto cache.old cache.new self.old self.new
+            row_text (IsRow columns) (λ row. rows.new.rows ≡ rows.old.rows ++ row ∷ []) result }
         ensures ended { OnOk result (rows.new.row ≡ []) }
-        ensures reads { ReadsOn cache.old cache.new self.old self.new }
-        ensures caused { IfErr result (IsReaderFault cache.old cache.new self.old) }
     {
         for _ in 0..columns {
             self.value(cache, rows)?;
@@ -202,11 +176,8 @@ impl ChainReader {
         columns: u64,
         count: u32,
     ) -> Result<Rows, CatalogueFault>
-        ensures takes { (at : ℕ → Option Payload) → MayBe cache.old at
-            → Takes at (λ rows. flat_map row_text rows) (AreRows columns count)
-            (rest_of at self.old) (rest_of at self.new) result }
-        ensures reads { ReadsOn cache.old cache.new self.old self.new }
-        ensures caused { IfErr result (IsReaderFault cache.old cache.new self.old) }
+        ensures { ReadsValue cache.old cache.new self.old self.new
+            (λ rows. flat_map row_text rows) (AreRows columns count) result }
     {
         let mut rows = GrowingRows::new(alloc);
         for _ in 0..count {
@@ -223,11 +194,8 @@ impl ChainReader {
         columns: u64,
         most: u64,
     ) -> Result<Rows, CatalogueFault>
-        ensures takes { (at : ℕ → Option Payload) → MayBe cache.old at
-            → Takes at rows_text (AreFewRows columns most)
-            (rest_of at self.old) (rest_of at self.new) result }
-        ensures reads { ReadsOn cache.old cache.new self.old self.new }
-        ensures caused { IfErr result (IsReaderFault cache.old cache.new self.old) }
+        ensures { ReadsValue cache.old cache.new self.old self.new
+            rows_text (AreFewRows columns most) result }
     {
         let count = self.u32(cache)?;
         if u64::from(count) > most {
@@ -242,10 +210,7 @@ impl ChainReader {
         alloc: Global,
         cache: &mut PageCache<S>,
     ) -> Result<Space, CatalogueFault>
-        ensures takes { (at : ℕ → Option Payload) → MayBe cache.old at
-            → Takes at space_text IsSpace (rest_of at self.old) (rest_of at self.new) result }
-        ensures reads { ReadsOn cache.old cache.new self.old self.new }
-        ensures caused { IfErr result (IsReaderFault cache.old cache.new self.old) }
+        ensures { ReadsValue cache.old cache.new self.old self.new space_text IsSpace result }
     {
         let crs = self.text(alloc, cache)?;
         let columns = self.counted_columns(alloc, cache)?;
@@ -258,10 +223,7 @@ impl ChainReader {
         alloc: Global,
         cache: &mut PageCache<S>,
     ) -> Result<Head, CatalogueFault>
-        ensures takes { (at : ℕ → Option Payload) → MayBe cache.old at
-            → Takes at head_text IsHead (rest_of at self.old) (rest_of at self.new) result }
-        ensures reads { ReadsOn cache.old cache.new self.old self.new }
-        ensures caused { IfErr result (IsReaderFault cache.old cache.new self.old) }
+        ensures { ReadsValue cache.old cache.new self.old self.new head_text IsHead result }
     {
         let base = self.i64(cache)?;
         let space = self.space(alloc, cache)?;
@@ -277,11 +239,8 @@ impl ChainReader {
         columns: u64,
         limits: &Limits,
     ) -> Result<Lists, CatalogueFault>
-        ensures takes { (at : ℕ → Option Payload) → MayBe cache.old at
-            → Takes at lists_text (AreRead columns limits.now.legs)
-            (rest_of at self.old) (rest_of at self.new) result }
-        ensures reads { ReadsOn cache.old cache.new self.old self.new }
-        ensures caused { IfErr result (IsReaderFault cache.old cache.new self.old) }
+        ensures { ReadsValue cache.old cache.new self.old self.new
+            lists_text (AreRead columns limits.now.legs) result }
     {
         let features = self.counted_features(alloc, cache)?;
         let legs = leg_sum(&features);
@@ -299,11 +258,8 @@ impl ChainReader {
         cache: &mut PageCache<S>,
         limits: &Limits,
     ) -> Result<Contents, CatalogueFault>
-        ensures takes { (at : ℕ → Option Payload) → MayBe cache.old at
-            → Takes at contents_text (λ contents. IsRead limits.now.legs (Some contents))
-            (rest_of at self.old) (rest_of at self.new) result }
-        ensures reads { ReadsOn cache.old cache.new self.old self.new }
-        ensures caused { IfErr result (IsReaderFault cache.old cache.new self.old) }
+        ensures { ReadsValue cache.old cache.new self.old self.new
+            contents_text (λ contents. IsRead limits.now.legs (Some contents)) result }
     {
         let head = self.head(alloc, cache)?;
         let columns = head.space.columns.as_slice().len() as u64;

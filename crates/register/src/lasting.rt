@@ -1,19 +1,15 @@
 //! What holds of what the pages of a store keep, for the proofs of a caller.
-ghost use Rattle.std.specs.Prelude.{ℕ, ◌≡◌, ◌<◌, length, List, Option, Some};
+ghost use Rattle.std.specs.Prelude.{ℕ, ◌≡◌, ◌<◌, List, Option, Some};
 ghost use Rattle.pages.specs.declared.payload.Kind.TheVariants.{Header};
 ghost use Rattle.pages.specs.declared.payload.Payload.{Payload};
 ghost use Rattle.tbtree.specs.declared.tree.Place.{Place};
 ghost use Rattle.tbtree.specs.declared.tree.TbTree.{TbTree};
-ghost use Rattle.register.specs.Chain.{pages_for};
-ghost use Rattle.register.specs.Earlier.{AreEarlier};
 ghost use Rattle.header.specs.Front.{with_state};
 ghost use Rattle.legs.specs.Book.{Book};
 ghost use Rattle.legs.specs.Limits.{IsLimits};
 ghost use Rattle.legs.specs.Tracks.{StandsFor};
 ghost use Rattle.register.specs.Lasting.{IsKept, IsLawful, IsSame, Says};
 ghost use Rattle.register.specs.Saved.{CatalogueView};
-ghost use Rattle.register.specs.Saving.{contents_of};
-ghost use Rattle.register.specs.Text.{catalogue_text};
 
 /// What holds of what the pages of a store keep beside its legs, for the proofs of a caller. It does
 /// nothing.
@@ -34,11 +30,4 @@ pub fn laws()
     ensures books { (count : ℕ) (c : CatalogueView) (places : List Place) → IsLawful count c places
         → IsLimits c.limits → (book : Book) × StandsFor c.tracks book × (book.head ≡ c.head)
         × (book.names ≡ c.tracks.names) × (book.rows ≡ c.rows) }
-
-    // The pages of the text that they keep are those of an earlier one.
-    ensures earlier { (at : ℕ → Option Payload) (count : ℕ) (c : CatalogueView) (tree : TbTree)
-        (places : List Place) → Says at count c tree places
-        → (header : Payload) → at 0 ≡ Some header → header.kind ≡ Header
-        → (pages : List ℕ) × AreEarlier at pages
-        × (length pages ≡ pages_for (catalogue_text (contents_of c places))) }
 {}

@@ -1,15 +1,11 @@
 //! Page 0 of a store that is read back.
-ghost use Rattle.std.specs.Prelude.{ℕ, Bool, Option, ◌≡◌, ◌↔◌, IsTrue, IfErr, IfOk, OnOk, Some, None};
-ghost use Rattle.legs.specs.Limits.{IsLimits};
+ghost use Rattle.std.specs.Prelude.{ℕ, Option, ◌≡◌, IsTrue, IfErr, IfOk, Some, None};
 ghost use Rattle.pages.specs.Store.{Store};
 ghost use Rattle.pages.specs.declared.payload.Payload.{Payload};
 ghost use Rattle.pagecache.specs.Cache.{payload_of};
-ghost use Rattle.tbtree.specs.Shape.{IsShape};
 ghost use Rattle.chains.specs.Reads.{OnlyReads};
-ghost use Rattle.header.specs.Fields.{FitsFields, HasFields};
-ghost use Rattle.register.specs.Lasting.{first_fault, front_fault, header_fault, state_fault, ComesFirst, IsReadingFault, IsStop, IsTrulyDamaged};
+ghost use Rattle.register.specs.Lasting.{first_fault, front_fault, header_fault, state_fault, ComesFirst, IsReadingFault, IsStop};
 ghost use Rattle.register.specs.Restoring.{result_of, HeaderSays, IsHeaderFault, SaysFields};
-ghost use Rattle.register.specs.declared.fault.CatalogueFault.TheVariants.{Damaged};
 ghost use Rattle.header.specs.declared.header_fields.Fields.{Fields};
 
 use crate::chain_reader::fault_of;
@@ -22,8 +18,6 @@ use pages::{PageStore, Payload};
 fn test_state(state: u32) -> Result<(), CatalogueFault>
     ensures value { result ≡ result_of (state_fault state) }
     ensures caused { IfErr result (λ e. (old new : Store) → IsReadingFault old new e) }
-    ensures damaged { IfErr result (λ e. (faithful : Bool) (at : ℕ → Option Payload) (count : ℕ)
-        → IsTrulyDamaged faithful at count e) }
 {
     if state == UNFINISHED.state {
         return Err(CatalogueFault::Unfinished);
@@ -40,8 +34,6 @@ pub fn test_front(version: u32, front: Option<Front>) -> Result<(), CatalogueFau
     ensures value { result ≡ result_of (front_fault version front) }
     // It never reports a failed or a full store.
     ensures caused { IfErr result (λ e. (old new : Store) → IsReadingFault old new e) }
-    ensures damaged { IfErr result (λ e. (faithful : Bool) (at : ℕ → Option Payload) (count : ℕ)
-        → IsTrulyDamaged faithful at count e) }
 {
     match front {
         Some(front) => {
@@ -59,8 +51,6 @@ pub fn test_front(version: u32, front: Option<Front>) -> Result<(), CatalogueFau
 fn test_header(payload: &Payload) -> Result<(), CatalogueFault>
     ensures value { result ≡ result_of (header_fault payload.now) }
     ensures caused { IfErr result (λ e. (old new : Store) → IsReadingFault old new e) }
-    ensures damaged { IfErr result (λ e. (faithful : Bool) (at : ℕ → Option Payload) (count : ℕ)
-        → IsTrulyDamaged faithful at count e) }
 {
     test_front(FINISHED.version, front_of(payload))
 }
@@ -70,8 +60,6 @@ fn header_of(payload: &Payload) -> Result<Fields, CatalogueFault>
     ensures says { IfOk result (λ fields. HeaderSays payload.now fields) }
     ensures fault { IfErr result (IsHeaderFault payload.now) }
     ensures caused { IfErr result (λ e. (old new : Store) → IsReadingFault old new e) }
-    ensures damaged { IfErr result (λ e. (faithful : Bool) (at : ℕ → Option Payload) (count : ℕ)
-        → IsTrulyDamaged faithful at count e) }
 {
     test_header(payload)?;
     match fields_of(payload) {
@@ -90,9 +78,6 @@ pub(crate) fn read_header<S: PageStore>(cache: &mut PageCache<S>) -> Result<Fiel
         → (fields : Fields) → SaysFields cache.old.count (payload_of cache.old 0) fields → ⊥) }
     ensures reads { OnlyReads cache.old cache.new }
     ensures caused { IfErr result (IsReadingFault cache.old.store cache.new.store) }
-    ensures damaged { IfErr result (IsTrulyDamaged cache.old.store.is_faithful
-        (payload_of cache.old) cache.old.count) }
-    ensures zero { IfErr result (λ e. (page : ℕ) → e ≡ Damaged page → page ≡ 0) }
 {
     match cache.page(0) {
         Ok(payload) => header_of(payload),

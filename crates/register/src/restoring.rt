@@ -1,16 +1,15 @@
 //! A catalogue is read back from the pages of a store.
-ghost use Rattle.std.specs.Prelude.{ℕ, ◌≡◌, ◌≤◌, ◌↔◌, [], List, Option, Some, None, IsTrue, IfErr, IfOk, OnOk};
+ghost use Rattle.std.specs.Prelude.{ℕ, ◌≡◌, ◌≤◌, ◌↔◌, [], List, Option, IsTrue, IfErr, IfOk};
 ghost use Rattle.std.specs.Int.{div_ceil};
 ghost use Rattle.pages.specs.Store.{IsLawful};
 ghost use Rattle.pages.specs.declared.payload.Payload.{Payload};
 ghost use Rattle.pagecache.specs.Cache.{payload_of};
 ghost use Rattle.chains.specs.Reads.{OnlyReads};
 ghost use Rattle.register.specs.Chain.{most_used};
-ghost use Rattle.register.specs.ChainReader.{reader_of, BreaksAt, IsReaderFault, MayBe};
+ghost use Rattle.register.specs.ChainReader.{IsBroken, IsReadFault, Shows};
 ghost use Rattle.register.specs.Building.{tree_of};
-ghost use Rattle.register.specs.Lasting.{first_fault, ComesFirst, IsKept, IsReadingFault, IsStop, IsTrulyDamaged};
+ghost use Rattle.register.specs.Lasting.{first_fault, ComesFirst, IsKept, IsReadingFault, IsStop};
 ghost use Rattle.register.specs.Restoring.{HoldsContents, IsRest};
-ghost use Rattle.register.specs.Stopping.{NamesStop};
 ghost use Rattle.register.specs.Saved.{CatalogueView};
 ghost use Rattle.register.specs.Text.{AreFew};
 ghost use Rattle.tbtree.specs.declared.tree.Place.{Place};
@@ -43,13 +42,13 @@ fn read_contents<S: PageStore>(
     cache: &mut PageCache<S>,
     fields: &Fields,
 ) -> Result<Option<Contents>, CatalogueFault>
-    ensures holds { IfOk result (λ contents. (at : ℕ → Option Payload) → MayBe cache.old at
+    ensures holds { IfOk result (λ contents. (at : ℕ → Option Payload) → Shows cache.old at
         → HoldsContents at cache.old.count fields.now.first fields.now.length contents) }
-    ensures broken { IfErr result (λ e. (at : ℕ → Option Payload) → MayBe cache.old at
-        → BreaksAt at e → (contents : Option Contents) → AreFew fields.now.limits.legs contents
+    ensures broken { IfErr result (λ e. (at : ℕ → Option Payload) → Shows cache.old at
+        → IsBroken e → (contents : Option Contents) → AreFew fields.now.limits.legs contents
         → HoldsContents at cache.old.count fields.now.first fields.now.length contents → ⊥) }
     ensures reads { OnlyReads cache.old cache.new }
-    ensures caused { IfErr result (IsReaderFault cache.old cache.new (reader_of fields.now)) }
+    ensures caused { IfErr result (IsReadFault cache.old cache.new) }
 {
     if !is_short(cache, fields.length) {
         return Err(CatalogueFault::Malformed);
@@ -66,13 +65,13 @@ fn read_rest<S: PageStore>(
     cache: &mut PageCache<S>,
     fields: &Fields,
 ) -> Result<(Catalogue, Vec<Place>), CatalogueFault>
-    ensures rest { IfOk result (λ r. (at : ℕ → Option Payload) → MayBe cache.old at
+    ensures rest { IfOk result (λ r. (at : ℕ → Option Payload) → Shows cache.old at
         → IsRest at cache.old.count fields.now r.0 r.1.items) }
-    ensures broken { IfErr result (λ e. (at : ℕ → Option Payload) → MayBe cache.old at
-        → BreaksAt at e → (c : CatalogueView) (places : List Place)
+    ensures broken { IfErr result (λ e. (at : ℕ → Option Payload) → Shows cache.old at
+        → IsBroken e → (c : CatalogueView) (places : List Place)
         → IsRest at cache.old.count fields.now c places → ⊥) }
     ensures reads { OnlyReads cache.old cache.new }
-    ensures caused { IfErr result (IsReaderFault cache.old cache.new (reader_of fields.now)) }
+    ensures caused { IfErr result (IsReadFault cache.old cache.new) }
 {
     let count = cache.count();
     if !is_within(count, fields) {
@@ -130,10 +129,6 @@ pub fn read_back<S: PageStore>(
     ensures reads { OnlyReads cache.old cache.new }
     // `Store` is returned only if the store failed, and `StoreFull` never.
     ensures caused { IfErr result (IsReadingFault cache.old.store cache.new.store) }
-    ensures damaged { IfErr result (IsTrulyDamaged cache.old.store.is_faithful
-        (payload_of cache.old) cache.old.count) }
-    ensures named { IfErr result (λ e. IsTrue cache.old.store.is_faithful
-        → NamesStop (payload_of cache.old) cache.old.count e) }
 {
     let fields = read_header(cache)?;
     let (catalogue, places) = read_rest(alloc, keys, cache, &fields)?;

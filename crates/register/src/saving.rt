@@ -3,23 +3,19 @@ ghost use Rattle.std.specs.Prelude.{List, ℕ, ◌≡◌, ◌<◌, ◌≤◌, �
 ghost use Rattle.std.specs.Int.{div_ceil};
 ghost use Rattle.pages.specs.Store.{IsSynced, NoneUnsynced};
 ghost use Rattle.pagecache.specs.Cache.{is_changed, page_of, payload_of, IsClean, IsWritten, Rests, SameLength, KeepsPayloads};
-ghost use Rattle.pages.specs.declared.payload.Payload.{Payload};
-ghost use Rattle.register.specs.Chain.{most_used, pages_for};
+ghost use Rattle.register.specs.Chain.{most_used};
 ghost use Rattle.register.specs.ChainWriter.{HasText, Holds};
 ghost use Rattle.register.specs.Lasting.{Says};
 ghost use Rattle.chains.specs.Reads.{OnlyReads};
 ghost use Rattle.tbtree.specs.Passes.{KeepsLength};
 ghost use Rattle.tbtree.specs.Stands.{no_place};
-ghost use Rattle.byteorder.specs.Endian.{big_bytes};
 ghost use Rattle.legs.specs.Limits.{IsLimits};
 ghost use Rattle.tbtree.specs.Shape.{IsShape};
 ghost use Rattle.header.specs.Fields.{first_of, FitsFields};
-ghost use Rattle.register.specs.ChainSteps.{IsAhead, StaysWithin};
-ghost use Rattle.register.specs.Earlier.{AddsFew, AreEarlier, HasNoRoom};
-ghost use Rattle.register.specs.Saved.{dimension_of, fields_for, head_of, Continues, IsWrittenButFirst, KeepsFront, SparesOthers, SparesUnreadable, SparesTree};
-ghost use Rattle.register.specs.Saving.{contents_of, end_of, feature_at, features_of, wanted, HasFew, HasPageZero, IsSavingFault, IsSavingStop, IsCatalogue, IsCaused, IsNotWritten, KeepsTree, Puts, PutsFields, Saves};
+ghost use Rattle.register.specs.Saved.{dimension_of, fields_for, head_of, Continues, IsWrittenButFirst, KeepsFront, SparesTree};
+ghost use Rattle.register.specs.Saving.{contents_of, end_of, feature_at, features_of, HasFew, HasPageZero, IsSavingStop, IsCatalogue, IsCaused, IsNotWritten, KeepsTree, Puts, PutsFields, Saves};
 ghost use Rattle.register.specs.declared.fault.CatalogueFault.TheVariants.{Malformed};
-ghost use Rattle.register.specs.Text.{catalogue_text, feature_text, features_text, head_text, lists_text, row_text, rows_text, HasFeatures, IsFeature, IsHead, IsNumber, IsShortText, IsWhole};
+ghost use Rattle.register.specs.Text.{catalogue_text, feature_text, features_text, head_text, row_text, rows_text, HasFeatures, IsFeature, IsHead, IsNumber, IsShortText, IsWhole};
 
 use crate::chain_reader::fault_of;
 use crate::chain_writer::ChainWriter;
@@ -266,16 +262,12 @@ fn write_catalogue<S: PageStore>(
 
 /// The first page of the earlier catalogue, 0 for none.
 fn earlier_page<S: PageStore>(cache: &mut PageCache<S>) -> Result<u32, CatalogueFault>
-    ensures first { IfOk result (λ page. IsTrue cache.old.store.is_faithful → (payload : Payload)
-        → payload_of cache.old 0 ≡ Some payload → page ≡ first_of payload) }
     ensures some { OnOk result (0 < cache.old.count) }
     ensures there { OnOk result (HasPageZero cache.old) }
     ensures reads { OnlyReads cache.old cache.new }
     ensures only { IsTrue cache.old.store.is_faithful → 0 < cache.old.count
         → HasPageZero cache.old → IfErr result IsSavingStop }
-    ensures named { IsTrue cache.old.store.is_faithful → IfErr result (IsSavingFault cache.old) }
     ensures caused { IfErr result (IsCaused cache.old cache.new) }
-    ensures room { IfErr result (λ fault. wanted fault ≡ 0) }
 {
     match cache.page(0) {
         Ok(payload) => Ok(first_of(payload)),
@@ -299,7 +291,6 @@ fn write_fields<S: PageStore>(
     ensures only { IsTrue cache.old.store.is_faithful → 0 < cache.old.count
         → HasPageZero cache.old → IfErr result IsSavingStop }
     ensures caused { IfErr result (IsCaused cache.old cache.new) }
-    ensures room { IfErr result (λ fault. wanted fault ≡ 0) }
 {
     match cache.page_mut(0) {
         Ok(payload) => {
@@ -326,12 +317,6 @@ fn write_chain<S: PageStore>(
         (catalogue_text (contents_of catalogue.now places.now))) }
     ensures few { IfOk result (λ r. IsTrue cache.old.store.is_faithful
         → div_ceil r.1 most_used ≤ cache.new.count) }
-    ensures takes { OnOk result ((pages : List ℕ) → IsAhead cache.old [] earlier pages
-        → AddsFew cache.old.count (catalogue_text (contents_of catalogue.now places.now)) pages
-        cache.new.count) }
-    ensures within { IfErr result (λ fault. StaysWithin
-        (pages_for (catalogue_text (contents_of catalogue.now places.now)))
-        cache.old [] earlier cache.new (wanted fault)) }
     ensures whole { OnOk result (IsCatalogue catalogue.now
         → IsWhole (contents_of catalogue.now places.now)) }
     ensures only { HasFew catalogue.now → IsTrue cache.old.store.is_faithful
@@ -391,12 +376,6 @@ fn write_whole<S: PageStore>(
         (catalogue_text (contents_of catalogue.now places.now))) }
     ensures few { IfOk result (λ r. IsTrue cache.old.store.is_faithful
         → div_ceil r.1 most_used ≤ cache.new.count) }
-    ensures takes { OnOk result ((pages : List ℕ) → IsAhead cache.old [] earlier pages
-        → AddsFew cache.old.count (catalogue_text (contents_of catalogue.now places.now)) pages
-        cache.new.count) }
-    ensures within { IfErr result (λ fault. StaysWithin
-        (pages_for (catalogue_text (contents_of catalogue.now places.now)))
-        cache.old [] earlier cache.new (wanted fault)) }
     ensures whole { OnOk result (IsCatalogue catalogue.now
         → IsWhole (contents_of catalogue.now places.now)) }
     ensures written { OnOk result (IsClean cache.new) }
@@ -479,16 +458,9 @@ pub fn keep<S: PageStore>(
     ensures later { Continues cache.old cache.new }
     // The pages of the tree say what they said, on an error too.
     ensures tree { SparesTree cache.old cache.new }
-    ensures others { SparesOthers cache.old cache.new }
-    ensures unreadable { SparesUnreadable cache.old cache.new }
+    // After `Ok` the cache counts all pages of the store, if it did before.
     ensures length { OnOk result (KeepsLength cache.old cache.new) }
-    ensures takes { IsTrue cache.old.store.is_faithful → (pages : List ℕ)
-        → AreEarlier (payload_of cache.old) pages → AddsFew cache.old.count
-        (catalogue_text (contents_of catalogue.now places.now)) pages cache.new.count }
-    ensures full { IsErrOf result CatalogueFault.StoreFull → IsTrue cache.old.store.is_faithful
-        → (pages : List ℕ) → AreEarlier (payload_of cache.old) pages
-        → HasNoRoom cache.old.count cache.old.store.most
-        (catalogue_text (contents_of catalogue.now places.now)) pages }
+    // After `Ok` no page but page 0 is changed.
     ensures written { OnOk result (IsWrittenButFirst cache.new) }
     // After `Ok` every page that was written is synced.
     ensures synced { OnOk result (NoneUnsynced cache.new.store) }
@@ -496,8 +468,7 @@ pub fn keep<S: PageStore>(
     // fails or is full.
     ensures only { HasFew catalogue.now → IsTrue cache.old.store.is_faithful
         → 0 < cache.old.count → HasPageZero cache.old → IfErr result IsSavingStop }
-    ensures named { HasFew catalogue.now → IsTrue cache.old.store.is_faithful
-        → IfErr result (IsSavingFault cache.old) }
+    // `Store` is returned only if the store failed, and `StoreFull` only if it is full.
     ensures caused { IfErr result (IsCaused cache.old cache.new) }
 {
     let earlier = earlier_page(cache)?;

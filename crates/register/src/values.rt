@@ -1,7 +1,6 @@
 //! The values of a text, as they are read one after another.
 ghost use Rattle.std.specs.Prelude.{◌≡◌, ◌∷◌, ◌≤◌, [], ℕ, Option, take, length, IsUtf8, IsErrOf, IfErr, IfOk, IfSome, None, OnOk};
 ghost use Rattle.byteorder.specs.Endian.{big_bytes};
-ghost use Rattle.pages.specs.declared.payload.Payload.{Payload};
 ghost use Rattle.tbnode.specs.Parts.{signed_bytes};
 ghost use Rattle.rows.specs.Rows.{with_value};
 ghost use Rattle.register.specs.declared.fault.CatalogueFault.{CatalogueFault};
@@ -40,7 +39,7 @@ fn put_value(rows: &mut GrowingRows, text: &str) -> Result<(), CatalogueFault>
 }
 
 impl ChainReader {
-    ghost use Rattle.register.specs.ChainReader.{rest_of, IsReaderFault, IsTextFault, MayBe, ReadsOn, Takes, TakesInto};
+    ghost use Rattle.register.specs.ChainReader.{IsTextFault, ReadsInto, ReadsValue};
     ghost use Rattle.register.specs.Text.{short_text, IsNumber, IsSigned, IsShortText};
 
     /// A number of one byte.
@@ -48,11 +47,8 @@ impl ChainReader {
         &mut self,
         cache: &mut PageCache<S>,
     ) -> Result<u8, CatalogueFault>
-        ensures takes { (at : ℕ → Option Payload) → MayBe cache.old at
-            → Takes at (λ n. n ∷ []) (IsNumber 8)
-            (rest_of at self.old) (rest_of at self.new) result }
-        ensures reads { ReadsOn cache.old cache.new self.old self.new }
-        ensures caused { IfErr result (IsReaderFault cache.old cache.new self.old) }
+        ensures { ReadsValue cache.old cache.new self.old self.new
+            (λ n. n ∷ []) (IsNumber 8) result }
     {
         self.fill(cache, 1)?;
         let value = self.ahead(1)[0];
@@ -65,11 +61,8 @@ impl ChainReader {
         &mut self,
         cache: &mut PageCache<S>,
     ) -> Result<u32, CatalogueFault>
-        ensures takes { (at : ℕ → Option Payload) → MayBe cache.old at
-            → Takes at (big_bytes 4) (IsNumber 32)
-            (rest_of at self.old) (rest_of at self.new) result }
-        ensures reads { ReadsOn cache.old cache.new self.old self.new }
-        ensures caused { IfErr result (IsReaderFault cache.old cache.new self.old) }
+        ensures { ReadsValue cache.old cache.new self.old self.new
+            (big_bytes 4) (IsNumber 32) result }
     {
         self.fill(cache, 4)?;
         let value = u32_of(self.ahead(4));
@@ -82,11 +75,8 @@ impl ChainReader {
         &mut self,
         cache: &mut PageCache<S>,
     ) -> Result<u64, CatalogueFault>
-        ensures takes { (at : ℕ → Option Payload) → MayBe cache.old at
-            → Takes at (big_bytes 8) (IsNumber 64)
-            (rest_of at self.old) (rest_of at self.new) result }
-        ensures reads { ReadsOn cache.old cache.new self.old self.new }
-        ensures caused { IfErr result (IsReaderFault cache.old cache.new self.old) }
+        ensures { ReadsValue cache.old cache.new self.old self.new
+            (big_bytes 8) (IsNumber 64) result }
     {
         self.fill(cache, 8)?;
         let value = u64_of(self.ahead(8));
@@ -99,10 +89,7 @@ impl ChainReader {
         &mut self,
         cache: &mut PageCache<S>,
     ) -> Result<i64, CatalogueFault>
-        ensures takes { (at : ℕ → Option Payload) → MayBe cache.old at
-            → Takes at signed_bytes IsSigned (rest_of at self.old) (rest_of at self.new) result }
-        ensures reads { ReadsOn cache.old cache.new self.old self.new }
-        ensures caused { IfErr result (IsReaderFault cache.old cache.new self.old) }
+        ensures { ReadsValue cache.old cache.new self.old self.new signed_bytes IsSigned result }
     {
         self.fill(cache, 8)?;
         let value = i64_of(self.ahead(8));
@@ -148,11 +135,8 @@ impl ChainReader {
         cache: &mut PageCache<S>,
         rows: &mut GrowingRows,
     ) -> Result<(), CatalogueFault>
-        ensures takes { (at : ℕ → Option Payload) → MayBe cache.old at
-            → TakesInto at short_text IsShortText (λ text. rows.new ≡ with_value rows.old text)
-            (rest_of at self.old) (rest_of at self.new) result }
-        ensures reads { ReadsOn cache.old cache.new self.old self.new }
-        ensures caused { IfErr result (IsReaderFault cache.old cache.new self.old) }
+        ensures { ReadsInto cache.old cache.new self.old self.new
+            short_text IsShortText (λ text. rows.new ≡ with_value rows.old text) result }
     {
         let len = self.u64(cache)? as usize;
         self.fill(cache, len)?;
@@ -167,10 +151,7 @@ impl ChainReader {
         alloc: Global,
         cache: &mut PageCache<S>,
     ) -> Result<Text, CatalogueFault>
-        ensures takes { (at : ℕ → Option Payload) → MayBe cache.old at
-            → Takes at short_text IsShortText (rest_of at self.old) (rest_of at self.new) result }
-        ensures reads { ReadsOn cache.old cache.new self.old self.new }
-        ensures caused { IfErr result (IsReaderFault cache.old cache.new self.old) }
+        ensures { ReadsValue cache.old cache.new self.old self.new short_text IsShortText result }
     {
         let len = self.u64(cache)? as usize;
         self.fill(cache, len)?;

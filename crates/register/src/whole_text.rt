@@ -11,7 +11,8 @@ use pages::PageStore;
 use std::alloc::Global;
 
 impl ChainReader {
-    ghost use Rattle.register.specs.ChainReader.{rest_of, BreaksAt, IsReaderFault, MayBe, ReadsOn, Takes};
+    ghost use Rattle.chains.specs.Reads.{OnlyReads};
+    ghost use Rattle.register.specs.ChainReader.{rest_of, IsBroken, IsReadFault, ReadsValue, Shows};
     ghost use Rattle.register.specs.Text.{body_text, catalogue_text, IsBody, IsRead};
     ghost use Rattle.register.specs.declared.contents.Contents.{Contents};
 
@@ -23,11 +24,8 @@ impl ChainReader {
         limits: &Limits,
         flag: u8,
     ) -> Result<Option<Contents>, CatalogueFault>
-        ensures takes { (at : ℕ → Option Payload) → MayBe cache.old at
-            → Takes at body_text (IsBody limits.now.legs flag)
-            (rest_of at self.old) (rest_of at self.new) result }
-        ensures reads { ReadsOn cache.old cache.new self.old self.new }
-        ensures caused { IfErr result (IsReaderFault cache.old cache.new self.old) }
+        ensures { ReadsValue cache.old cache.new self.old self.new
+            body_text (IsBody limits.now.legs flag) result }
     {
         match flag {
             0 => Ok(None),
@@ -46,11 +44,8 @@ impl ChainReader {
         cache: &mut PageCache<S>,
         limits: &Limits,
     ) -> Result<Option<Contents>, CatalogueFault>
-        ensures takes { (at : ℕ → Option Payload) → MayBe cache.old at
-            → Takes at catalogue_text (IsRead limits.now.legs)
-            (rest_of at self.old) (rest_of at self.new) result }
-        ensures reads { ReadsOn cache.old cache.new self.old self.new }
-        ensures caused { IfErr result (IsReaderFault cache.old cache.new self.old) }
+        ensures { ReadsValue cache.old cache.new self.old self.new
+            catalogue_text (IsRead limits.now.legs) result }
     {
         let flag = self.byte(cache)?;
         let contents = self.body(alloc, cache, limits, flag)?;
@@ -78,14 +73,19 @@ impl ChainReader {
         cache: &mut PageCache<S>,
         limits: &Limits,
     ) -> Result<Option<Contents>, CatalogueFault>
-        ensures whole { IfOk result (λ contents. (at : ℕ → Option Payload) → MayBe cache.old at
+        // It returns exactly the contents whose text is left to read, with few enough legs and
+        // rows.
+        ensures whole { IfOk result (λ contents. (at : ℕ → Option Payload) → Shows cache.old at
             → IsRead limits.now.legs contents
             × (rest_of at self.old ≡ Some (catalogue_text contents))) }
-        ensures broken { IfErr result (λ e. (at : ℕ → Option Payload) → MayBe cache.old at
-            → BreaksAt at e → (contents : Option Contents) → IsRead limits.now.legs contents
+        // If it fails for another reason than memory or the store, no such text is left.
+        ensures broken { IfErr result (λ e. (at : ℕ → Option Payload) → Shows cache.old at
+            → IsBroken e → (contents : Option Contents) → IsRead limits.now.legs contents
             → rest_of at self.old ≢ Some (catalogue_text contents)) }
-        ensures reads { ReadsOn cache.old cache.new self.old self.new }
-        ensures caused { IfErr result (IsReaderFault cache.old cache.new self.old) }
+        // No payload changes, and no page that was not changed is written.
+        ensures reads { OnlyReads cache.old cache.new }
+        // `Store` is returned only if the store failed.
+        ensures caused { IfErr result (IsReadFault cache.old cache.new) }
     {
         let contents = self.catalogue(alloc, cache, limits)?;
         if !self.is_at_end() {

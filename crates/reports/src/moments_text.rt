@@ -96,6 +96,7 @@ fn push_quoted(alloc: Global, text: &mut Vec<u8>, name: &str) -> Result<(), RunF
 pub fn push_label(alloc: Global, text: &mut Vec<u8>, name: &str) -> Result<(), RunFault>
     // It is refused for want of memory alone, and else quoted where CSV needs it.
     ensures fault { IfErr result (λ fault. fault ≡ RunFault.Memory) }
+    // It appends exactly the label: the name, quoted where CSV needs it, and a comma.
     ensures text { OnOk result (text.new.items ≡ text.old.items ++ label_text name.now) }
 {
     push_quoted(alloc, text, name)?;

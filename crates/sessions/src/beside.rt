@@ -79,6 +79,7 @@ pub fn run_on_copy<'a, F: Folder, O: Output>(
     files: &Files,
     out: &mut O,
 ) -> Ended<'a>
+    // The cache has room for a page.
     requires { 0 < how.now.cache_pages }
 
     // Whatever is answered, what was sent is the answers to some first lines over the book that the
@@ -109,6 +110,7 @@ pub fn run_on_copy<'a, F: Folder, O: Output>(
         ≡ min (F.copy_calls folder.old + 1) (2 ^ 64 - 1) }
     // No copy is left, as far as the system lets it be taken away.
     ensures gone { F.has_copy folder.new ≡ false }
+    // After `Ok` the folder refused no call.
     ensures refuses_none { OnOk result.kept (F.refusals folder.new ≡ F.refusals folder.old) }
 
     // Where it is not kept the name stands for what it stood for, all along.

@@ -50,6 +50,7 @@ pub struct Opening {
 ///
 /// Where it is refused, the store is handed back, and why, as `Db::create` and `Db::open` say it.
 pub fn database<S: PageStore>(how: &Opening, store: S) -> Result<Db<S>, (S, OpenFault)>
+    // The cache has room for a page.
     requires { 0 < how.now.cache_pages }
     // A store that has a page, or of which none is to be made, is opened, be what it holds sound or not; any other is made
     // an empty database, which has page 0 alone, and is synced, or is handed back.
@@ -160,6 +161,7 @@ pub fn answer<'a, S: PageStore, O: Output>(
     // nothing is sent.
     ensures over { RunsOver S.seen O.seen database files.now out.old out.new
         (lines_of script.now) result.1.ran result.1.kept (S.seen result.0) }
+    // `Store` is returned only if the store failed.
     ensures caused { IfOk database (λ db. IsErrOf result.1.ran (Fault.Run RunFault.Store)
         → Faulted (store_of db) (S.seen result.0)) }
 {

@@ -6,7 +6,7 @@ use Rattle.std.proofs.lemmas.List.{length-map, map-append, append-nil, take-appe
 use Rattle.std.proofs.lemmas.Option.{slice_get_within, slice_get-map}
 use Rattle.tbtree.specs.Nodes.{with_next, Pages, ALeaf, LeafView, Adds, Links}
 use Rattle.tbtree.specs.Stands.{owner, marks, new_leaf, leaf_of, pages_of, head_or_zero, last_or, LeavesStand}
-use Rattle.legs.specs.GroupLemmas.{some_none, some_same}
+use Rattle.legs.proofs.GroupLemmas.{some_none, some_same}
 use Rattle.tbtree.proofs.RoomLemmas.{neq-eqb}
 use Rattle.tbtree.proofs.Widening.{leaf_same}
 

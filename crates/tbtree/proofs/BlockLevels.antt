@@ -7,7 +7,7 @@ use Rattle.std.proofs.lemmas.List.{take_all}
 use Rattle.std.proofs.lemmas.Nat.{mul-le}
 use Rattle.std.proofs.lemmas.Option.{slice_get_within}
 use Rattle.legs.specs.Blocks.{groups, runs_after, level, block, joined}
-use Rattle.legs.specs.GroupLemmas.{group_within, group_beyond, group_is, some_same, joined_blocks}
+use Rattle.legs.proofs.GroupLemmas.{group_within, group_beyond, group_is, some_same, joined_blocks}
 use Rattle.tbtree.proofs.FullLemmas.{one_group}
 use Rattle.tbtree.proofs.Widening.{pow_above}
 

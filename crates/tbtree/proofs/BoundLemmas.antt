@@ -7,7 +7,7 @@ use Rattle.std.proofs.lemmas.Nat.{mul-le}
 use Rattle.std.proofs.lemmas.Map.Steps.{length-le_from_distinct_below}
 use Rattle.legs.specs.Blocks.{runs, runs_after, begins, same}
 use Rattle.tbtree.specs.Stands.{page_at, head_or_zero, NumbersStand}
-use Rattle.legs.specs.GroupLemmas.{some_none, some_same}
+use Rattle.legs.proofs.GroupLemmas.{some_none, some_same}
 use Rattle.tbtree.proofs.RoomLemmas.{neq-eqb, push_same, push_other, count_cons-same, count_cons-other}
 
 all_rec : (P : ℕ → Type 0) (xs : List ℕ) → ((i a : ℕ) → slice_get xs i ≡ Some a → P a) → AllByRecursion P xs

@@ -5,7 +5,7 @@ use Rattle.tbtree.specs.Insert.{Stands, IsPlace}
 use Rattle.legs.specs.Legs.{LegView}
 use Rattle.legs.specs.Boxes.{BoxView}
 use Rattle.tbtree.specs.declared.tree.TbTree.{TbTree}
-use Rattle.legs.specs.GroupLemmas.{some_none}
+use Rattle.legs.proofs.GroupLemmas.{some_none}
 
 pub empty_stands : (nodes : Pages LegView BoxView) (tree : TbTree) → tree.root ≡ 0 → tree.levels ≡ 0 → tree.leaves ≡ 0 → 0 < nodes.count → ((p : ℕ) → p < nodes.count → nodes.at p ≢ None) → Stands nodes tree [] (λ _. [])
 empty_stands nodes tree r l v h held = record {

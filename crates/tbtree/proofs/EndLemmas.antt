@@ -11,7 +11,7 @@ use Rattle.tbtree.specs.Nodes.{Pages, ALeaf, LeafView, Adds, Links, Pushes, HasL
 use Rattle.tbtree.specs.Payloads.{TakesLegs, are_of_one_leaf, goes_on}
 use Rattle.tbtree.specs.Stands.{new_leaf, owner}
 use Rattle.tbtree.specs.declared.fault.TreeFault.{TreeFault}
-use Rattle.legs.specs.GroupLemmas.{some_same}
+use Rattle.legs.proofs.GroupLemmas.{some_same}
 use Rattle.tbtree.proofs.TakeLemmas.{both_true}
 use Rattle.tbtree.proofs.Widening.{leaf_same}
 

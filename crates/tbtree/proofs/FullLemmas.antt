@@ -5,7 +5,7 @@ use Rattle.std.proofs.Math.Nat.{mul-mod_left, pow-suc}
 use Rattle.std.proofs.lemmas.Bool.{cases_eq, cases_lt}
 use Rattle.std.proofs.lemmas.List.{drop_all, take_all, length-set}
 use Rattle.legs.specs.Blocks.{groups, block}
-use Rattle.legs.specs.GroupLemmas.{group_within, group_beyond}
+use Rattle.legs.proofs.GroupLemmas.{group_within, group_beyond}
 use Rattle.tbtree.proofs.PushLemmas.{groups_push-same}
 use Rattle.tbtree.proofs.Widening.{pow_above}
 

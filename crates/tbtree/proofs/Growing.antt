@@ -15,7 +15,7 @@ use Rattle.tbtree.specs.Way.{Going, IsWidened, IsOnWay}
 use Rattle.tbtree.specs.Faults.{MayRefuseWrite}
 use Rattle.tbtree.specs.declared.fault.TreeFault.{TreeFault}
 use Rattle.tbtree.specs.Insert.{Grows}
-use Rattle.legs.specs.GroupLemmas.{some_same}
+use Rattle.legs.proofs.GroupLemmas.{some_same}
 use Rattle.tbtree.proofs.RoomLemmas.{set_same}
 use Rattle.tbtree.proofs.Widening.{get-set_same, get-set_other, groups_set, leaf_inner, leaf_same, pow_above}
 use Rattle.tbtree.proofs.WiderLemmas.{becomes_held, wider_grown, keep_inner}

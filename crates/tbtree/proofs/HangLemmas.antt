@@ -12,7 +12,7 @@ use Rattle.tbtree.specs.Way.{IsWidened, Going, Hanging, Hung, Hangs}
 use Rattle.tbtree.specs.declared.fault.TreeFault.{TreeFault}
 use Rattle.tbtree.specs.declared.tree.Top.{Top}
 use Rattle.std.specs.Prelude.{Result}
-use Rattle.legs.specs.GroupLemmas.{some_same, block_push-at, block_push-other}
+use Rattle.legs.proofs.GroupLemmas.{some_same, block_push-at, block_push-other}
 use Rattle.tbtree.proofs.BeginLemmas.{get-push_last, get-push_other}
 use Rattle.tbtree.proofs.HullLemmas.{hull_alone}
 use Rattle.tbtree.proofs.FullLemmas.{full_up, room_above, block_past, block_short}

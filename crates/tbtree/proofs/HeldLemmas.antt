@@ -10,7 +10,7 @@ use Rattle.legs.specs.Costs.{leg_feature}
 use Rattle.legs.specs.Index.{feature_count, last_end, legs_of, CanFollow, CanFollowInTurn}
 use Rattle.legs.specs.Legs.{LegView}
 use Rattle.tbtree.specs.Turn.{last_leg, first_ordinal, ComesAfter, ComeInTurn, IsRising}
-use Rattle.legs.specs.GroupLemmas.{some_none, some_same}
+use Rattle.legs.proofs.GroupLemmas.{some_none, some_same}
 use Rattle.tbtree.proofs.KeyRuns.{is}
 use Rattle.tbtree.proofs.OwnedLists.{numbered_at, numbered_rise}
 use Rattle.tbtree.proofs.RisingLists.{get_few, own_first, not_own, past_get}

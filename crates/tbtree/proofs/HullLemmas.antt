@@ -5,7 +5,7 @@ use Rattle.tbtree.proofs.LawfulBoxes.{AreLawful}
 use Rattle.legs.specs.Blocks.{joined}
 use Rattle.tbtree.specs.Nodes.{cover_all}
 use Rattle.tbtree.proofs.Widening.{cons_head, cons_tail, nil_cons}
-use Rattle.legs.specs.GroupLemmas.{some_none, some_same}
+use Rattle.legs.proofs.GroupLemmas.{some_none, some_same}
 
 module _ {L B : Type 0} (s : Boxes L B) (laws : AreLawful s) where
   both-assoc : (a b c : Option B) → both s (both s a b) c ≡ both s a (both s b c)

@@ -27,7 +27,7 @@ use Rattle.legs.specs.Legs.{LegView}
 use Rattle.tbtree.specs.declared.tree.Place.{Place}
 use Rattle.legs.specs.Boxes.{BoxView}
 use Rattle.tbtree.specs.declared.tree.TbTree.{TbTree}
-use Rattle.legs.specs.GroupLemmas.{some_none, some_same}
+use Rattle.legs.proofs.GroupLemmas.{some_none, some_same}
 use Rattle.tbtree.proofs.BeginLemmas.{begin_leaf, get-zip, zip-second}
 use Rattle.tbtree.proofs.Widening.{leaf_inner}
 use Rattle.tbtree.proofs.WiderLemmas.{becomes_held, keep_inner}

@@ -9,7 +9,7 @@ use Rattle.std.proofs.lemmas.List.{take-append-drop}
 use Rattle.std.proofs.lemmas.List.Elements.{filter-append}
 use Rattle.std.proofs.lemmas.List.Sorted.{IsPermutation-refl, IsPermutation-cons, IsPermutation-trans, IsPermutation-sym, IsPermutation-middle}
 use Rattle.legs.specs.Blocks.{begins, runs_after, runs, joined}
-use Rattle.legs.specs.BlockLemmas.{step_of_multiple}
+use Rattle.legs.proofs.BlockLemmas.{step_of_multiple}
 use Rattle.tbtree.proofs.RoomLemmas.{neq-eqb, push_same, push_other}
 use Rattle.tbtree.proofs.Widening.{cons_head, cons_tail, nil_cons}
 

@@ -20,8 +20,8 @@ use Rattle.tbtree.specs.Nodes.{EntryView, Node, ALeaf, AnInner, Pages, HasLeaf}
 use Rattle.tbtree.specs.Shape.{IsShape}
 use Rattle.tbtree.specs.Stands.{owner, pages_of, marks, leaf_of, no_place, head_or_zero, last_or}
 use Rattle.tbtree.specs.declared.tree.TbTree.{TbTree}
-use Rattle.legs.specs.BlockLemmas.{all_pass}
-use Rattle.legs.specs.GroupLemmas.{some_none, some_same}
+use Rattle.legs.proofs.BlockLemmas.{all_pass}
+use Rattle.legs.proofs.GroupLemmas.{some_none, some_same}
 use Rattle.tbtree.proofs.BlockLevels.{one_above}
 use Rattle.tbtree.proofs.BoundLemmas.{few_leaves, run_short}
 use Rattle.tbtree.proofs.DescentLemmas.{legs_found, all_asked, fewer, inners_met, leaves_met, few_levels, top_block, some_run}

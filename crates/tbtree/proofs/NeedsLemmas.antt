@@ -1,7 +1,7 @@
 -- A page that a refused insertion names was not what it needs.
 use Rattle.std.proofs.Common.{ℕ, ◌<◌, ◌≡◌, ◌∙◌, refl, sym, ap, subst, Some, None}
 use Rattle.std.specs.Prelude.{option_map, Result, Err, IfErr, IsTrue}
-use Rattle.legs.specs.GroupLemmas.{some_none}
+use Rattle.legs.proofs.GroupLemmas.{some_none}
 use Rattle.legs.specs.Hull.{leg_boxes}
 use Rattle.pagecache.specs.Cache.{payload_of, Cache, IsRefused}
 use Rattle.pagecache.specs.declared.fault.CacheFault.{CacheFault}

@@ -7,7 +7,7 @@ use Rattle.std.proofs.lemmas.List.Elements.{filter-append}
 use Rattle.std.proofs.lemmas.List.Sums.{length-filter}
 use Rattle.legs.specs.Blocks.{begins, runs_after, runs, groups}
 use Rattle.tbtree.specs.Stands.{owner}
-use Rattle.legs.specs.BlockLemmas.{all_pass, count_all}
+use Rattle.legs.proofs.BlockLemmas.{all_pass, count_all}
 use Rattle.tbtree.proofs.RoomLemmas.{neq-eqb}
 use Rattle.tbtree.proofs.KeyRuns.{is}
 

@@ -9,8 +9,8 @@ use Rattle.legs.specs.Blocks.{joined}
 use Rattle.legs.specs.Legs.{LegView}
 use Rattle.tbtree.specs.Turn.{IsPast, IsRising}
 use Rattle.tbtree.specs.Descent.{sort_by_ordinal}
-use Rattle.legs.specs.BlockLemmas.{all_pass}
-use Rattle.legs.specs.GroupLemmas.{some_none, some_same}
+use Rattle.legs.proofs.BlockLemmas.{all_pass}
+use Rattle.legs.proofs.GroupLemmas.{some_none, some_same}
 use Rattle.tbtree.proofs.KeyRuns.{is}
 use Rattle.tbtree.proofs.OrdinalOrder.{IsUp}
 use Rattle.tbtree.proofs.RisingLists.{own_first, not_own, own_order}

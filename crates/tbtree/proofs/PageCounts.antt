@@ -2,7 +2,7 @@
 use Rattle.std.proofs.Common.{ℕ, zero, suc, ◌+◌, ◌-◌, ◌<◌, ◌≤◌, ◌≡◌, List, [], ◌∷◌, ◌++◌, length, refl, sym, ap, ◌∙◌, arith, ⊎_elim, Some, slice_get}
 use Rattle.std.proofs.lemmas.Bool.{cases_lt}
 use Rattle.tbtree.specs.Stands.{page_at, NumbersStand}
-use Rattle.legs.specs.GroupLemmas.{some_none}
+use Rattle.legs.proofs.GroupLemmas.{some_none}
 use Rattle.tbtree.proofs.BoundLemmas.{few_pages}
 
 module _ {X : Type 0} where

@@ -6,7 +6,7 @@ use Rattle.std.proofs.lemmas.List.{length_push}
 use Rattle.std.proofs.Math.Nat.{pow-suc, div-div-eq-div-mul}
 use Rattle.legs.specs.Blocks.{level}
 use Rattle.tbtree.specs.Stands.{page_at, NumbersStand}
-use Rattle.legs.specs.GroupLemmas.{some_same}
+use Rattle.legs.proofs.GroupLemmas.{some_same}
 use Rattle.tbtree.proofs.BeginLemmas.{get-push_last, get-push_other}
 use Rattle.tbtree.proofs.PushLemmas.{groups_push-new, groups_full}
 use Rattle.tbtree.proofs.FullLemmas.{full_below, full_down, as_many_same, one_group}

@@ -11,7 +11,7 @@ use Rattle.tbtree.specs.Nodes.{Pages}
 use Rattle.tbtree.specs.Stands.{owner, marks, pages_of, head_or_zero, last_or, PlaceStands, NumbersStand, TreeStands}
 use Rattle.tbtree.specs.Way.{Hung}
 use Rattle.tbtree.specs.declared.tree.Place.{Place}
-use Rattle.legs.specs.GroupLemmas.{some_none, some_same, get-drop, length-groups}
+use Rattle.legs.proofs.GroupLemmas.{some_none, some_same, get-drop, length-groups}
 use Rattle.tbtree.proofs.RoomLemmas.{neq-eqb, runs_grown, count_append, count_all_same, count_all_other}
 use Rattle.tbtree.proofs.BeginLemmas.{get-zip, get-push_last, get-push_other, marks_begun, pages_of-push, length-zip', zip-second}
 use Rattle.tbtree.proofs.Growing.{marks_grown}

@@ -4,7 +4,7 @@ use Rattle.std.proofs.lemmas.Nat.{div-add-mod', mod_below}
 use Rattle.std.proofs.lemmas.Bool.{cases_eq, cases_lt}
 use Rattle.std.proofs.lemmas.List.{length_push, drop_all, take_all}
 use Rattle.legs.specs.Blocks.{groups, block}
-use Rattle.legs.specs.GroupLemmas.{group_at, group_is, group_within, group_beyond, block_push-at, block_push-other, same_by_get}
+use Rattle.legs.proofs.GroupLemmas.{group_at, group_is, group_within, group_beyond, block_push-at, block_push-other, same_by_get}
 use Rattle.tbtree.proofs.Widening.{get-set_same, get-set_other}
 use Rattle.tbtree.proofs.BeginLemmas.{get-push_last, get-push_other}
 

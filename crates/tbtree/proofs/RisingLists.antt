@@ -7,8 +7,8 @@ use Rattle.std.proofs.lemmas.List.Sums.{sum_by-cons}
 use Rattle.std.proofs.lemmas.List.Elements.{All-head, All-tail, All-nil, All-cons}
 use Rattle.std.proofs.lemmas.List.Sorted.{sum_by-IsPermutation, All-permutation}
 use Rattle.tbtree.specs.Turn.{IsPast, IsRising}
-use Rattle.legs.specs.BlockLemmas.{all_pass}
-use Rattle.legs.specs.GroupLemmas.{some_none, some_same}
+use Rattle.legs.proofs.BlockLemmas.{all_pass}
+use Rattle.legs.proofs.GroupLemmas.{some_none, some_same}
 use Rattle.tbtree.proofs.KeyRuns.{is}
 use Rattle.tbtree.proofs.OrdinalOrder.{AreAbove, IsUp, same_in_order, all_from_get, times, weight, up_from_sorted}
 use Rattle.tbtree.proofs.RoomLemmas.{neq-eqb}

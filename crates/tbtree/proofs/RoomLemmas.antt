@@ -8,8 +8,8 @@ use Rattle.std.proofs.lemmas.Bool.{cases_lt, cases_eq, eqb-true}
 use Rattle.std.proofs.lemmas.List.{take_all, length-take-le, append-nil}
 use Rattle.legs.specs.Blocks.{same, begins, runs_after, runs, grown}
 use Rattle.tbtree.specs.Stands.{owner}
-use Rattle.legs.specs.BlockLemmas.{step_of_multiple, runs-push, runs_after-full}
-use Rattle.legs.specs.GroupLemmas.{some_none, some_same}
+use Rattle.legs.proofs.BlockLemmas.{step_of_multiple, runs-push, runs_after-full}
+use Rattle.legs.proofs.GroupLemmas.{some_none, some_same}
 use Rattle.tbtree.proofs.Widening.{get-set_same, get-set_other}
 
 pub neq-eqb : (a b : ℕ) → a ≢ b → (a == b) ≡ false

@@ -11,7 +11,7 @@ use Rattle.tbtree.proofs.LawfulBoxes.{AreLawful}
 use Rattle.tbtree.specs.Nodes.{boxes, Pages, ALeaf, AnInner, Adds, Covers, HasCover, cover_of_page}
 use Rattle.tbtree.specs.Stands.{page_at, leaf_of, marks, owner, NumbersStand, InnerStands, LevelStands}
 use Rattle.tbtree.specs.Way.{Hanging, Hung}
-use Rattle.legs.specs.GroupLemmas.{some_none, some_same, group_is, joined_blocks}
+use Rattle.legs.proofs.GroupLemmas.{some_none, some_same, group_is, joined_blocks}
 use Rattle.tbtree.proofs.BeginLemmas.{get-push_other}
 use Rattle.tbtree.proofs.HullLemmas.{cover_joined, hull_alone, hull_of_one, hull_some, cover_some}
 use Rattle.tbtree.proofs.PagesLemmas.{grown_to, grown_below, grown_above, blocks_are, begun_level, rooted_numbers}

@@ -10,7 +10,7 @@ use Rattle.legs.specs.Costs.{some_meets, block_meets}
 use Rattle.tbtree.specs.Descent.{entries_in, node_at, children_met, IsPruning}
 use Rattle.tbtree.specs.Nodes.{Pages, EntryView}
 use Rattle.tbtree.specs.Stands.{NumbersStand, InnerStands, LevelStands}
-use Rattle.legs.specs.GroupLemmas.{some_none, some_same}
+use Rattle.legs.proofs.GroupLemmas.{some_none, some_same}
 use Rattle.tbtree.proofs.Widening.{cons_head, cons_tail, nil_cons, pow_above}
 use Rattle.tbtree.proofs.LawfulBoxes.{AreLawful}
 use Rattle.tbtree.proofs.BlockLevels.{groups_as_many, group_get, groups_of_level, block_of_level, joined-groups}

@@ -16,7 +16,7 @@ use Rattle.legs.specs.Boxes.{BoxView}
 use Rattle.tbtree.specs.Nodes.{LeafView, Node, ALeaf}
 use Rattle.tbtree.specs.Joining.{CanJoin, CanJoinInTurn}
 use Rattle.tbtree.specs.Payloads.{TakesLegs, Takes, are_of_one_leaf, goes_on, leaf_with_legs}
-use Rattle.legs.specs.GroupLemmas.{some_none, some_same}
+use Rattle.legs.proofs.GroupLemmas.{some_none, some_same}
 use Rattle.tbtree.proofs.Widening.{cons_head}
 use Rattle.tbtree.proofs.BeginLemmas.{get-push_last}
 

@@ -22,7 +22,7 @@ use Rattle.tbtree.specs.Order.{put_in, put_all, elements, run_for, with_last, nu
 use Rattle.tbtree.specs.Stands.{TreeStands, PlaceStands, marks}
 use Rattle.tbtree.specs.declared.tree.TbTree.{TbTree}
 use Rattle.tbtree.proofs.BlockOrder.{Each, IsUpFrom, PassesOthers, IsPut, ahead, count_differ, passes, begun_last, next_put, order_kept, order_moves, order_runs, start}
-use Rattle.legs.specs.GroupLemmas.{some_same}
+use Rattle.legs.proofs.GroupLemmas.{some_same}
 use Rattle.tbtree.proofs.HeldLemmas.{get_append, none_beyond, numbers_rise}
 use Rattle.tbtree.proofs.KeyRuns.{is}
 use Rattle.tbtree.proofs.OrdinalOrder.{all_from_get}

@@ -12,7 +12,7 @@ use Rattle.tbtree.specs.Stands.{page_at, NumbersStand, LevelStands}
 use Rattle.tbtree.specs.Faults.{MayRefuseWrite}
 use Rattle.tbtree.specs.Way.{Wider, IsWidened, Going, IsOnWay}
 use Rattle.tbtree.specs.declared.fault.TreeFault.{TreeFault}
-use Rattle.legs.specs.GroupLemmas.{some_none, some_same, get-block}
+use Rattle.legs.proofs.GroupLemmas.{some_none, some_same, get-block}
 use Rattle.tbtree.proofs.Widening.{inner_same}
 use Rattle.tbtree.proofs.WiderLemmas.{becomes_held, keep_inner, widen_level}
 

@@ -7,7 +7,7 @@ use Rattle.std.proofs.lemmas.List.{length-set}
 use Rattle.legs.specs.Blocks.{groups, block}
 use Rattle.legs.specs.Hull.{Boxes, both}
 use Rattle.tbtree.specs.Nodes.{Node, ALeaf, AnInner, LeafView, InnerView, EntryView, widened}
-use Rattle.legs.specs.GroupLemmas.{some_none, some_same, group_at, block_set-at, block_set-other, same_by_get}
+use Rattle.legs.proofs.GroupLemmas.{some_none, some_same, group_at, block_set-at, block_set-other, same_by_get}
 
 module _ {X : Type 0} where
   pub get-set_same : (xs : List X) (i : ℕ) (v x : X) → slice_get xs i ≡ Some x → slice_get (set xs i v) i ≡ Some v

@@ -9,7 +9,7 @@ use Rattle.tbtree.proofs.LawfulBoxes.{AreLawful}
 use Rattle.tbtree.specs.Nodes.{Pages, Node, Becomes, InnerView, children, boxes, with_wider, Widens}
 use Rattle.tbtree.specs.Stands.{page_at, NumbersStand, InnerStands, LevelStands}
 use Rattle.tbtree.specs.Way.{Wider}
-use Rattle.legs.specs.GroupLemmas.{some_none, some_same, group_is, get-block, block_set-at, block_set-other}
+use Rattle.legs.proofs.GroupLemmas.{some_none, some_same, group_is, get-block, block_set-at, block_set-other}
 use Rattle.tbtree.proofs.HullLemmas.{hull_of_push, hull_of_grown}
 use Rattle.tbtree.proofs.PushLemmas.{groups_push-same}
 use Rattle.tbtree.proofs.Widening.{groups_set, widened_stands, widened_children, inner_same}

@@ -18,8 +18,8 @@ use Rattle.tbtree.specs.Descent.{legs_in}
 use Rattle.tbtree.specs.Nodes.{Pages}
 use Rattle.tbtree.specs.Stands.{head_or_zero, last_or}
 use Rattle.tbtree.specs.declared.tree.Place.{Place}
-use Rattle.legs.specs.BlockLemmas.{all_pass}
-use Rattle.legs.specs.GroupLemmas.{some_none, some_same}
+use Rattle.legs.proofs.BlockLemmas.{all_pass}
+use Rattle.legs.proofs.GroupLemmas.{some_none, some_same}
 use Rattle.tbtree.proofs.KeyRuns.{is}
 use Rattle.treecheck.proofs.CheckingLemmas.{chains_once, rising_map}
 use Rattle.treecheck.proofs.LeafChains.{runs_rise, legs_at, own, all_legs, leaves_own}

@@ -18,7 +18,7 @@ use Rattle.tbtree.specs.Shape.{IsShape}
 use Rattle.tbtree.specs.Stands.{owner, marks, pages_of, head_or_zero, last_or, LeavesStand}
 use Rattle.tbtree.specs.declared.tree.Place.{Place}
 use Rattle.tbtree.specs.declared.tree.TbTree.{TbTree}
-use Rattle.legs.specs.GroupLemmas.{some_none, some_same}
+use Rattle.legs.proofs.GroupLemmas.{some_none, some_same}
 use Rattle.tbtree.proofs.KeyRuns.{is}
 use Rattle.treecheck.proofs.LeafChains.{split_at, legs_at, own, marks_pair, pages_own, take_pair, drop_pair, filter_legs, up_legs, leaf_groups, leaf_split}
 use Rattle.tbtree.proofs.OrdinalOrder.{IsUp}

@@ -22,8 +22,8 @@ use Rattle.tbtree.specs.Shape.{IsShape}
 use Rattle.tbtree.specs.Stands.{marks, pages_of, page_at, head_or_zero, last_or, LeavesStand, NumbersStand, TreeStands}
 use Rattle.tbtree.specs.declared.tree.Place.{Place}
 use Rattle.tbtree.specs.declared.tree.TbTree.{TbTree}
-use Rattle.legs.specs.BlockLemmas.{groups-map}
-use Rattle.legs.specs.GroupLemmas.{some_none, some_same, group_beyond, get-take, get-drop}
+use Rattle.legs.proofs.BlockLemmas.{groups-map}
+use Rattle.legs.proofs.GroupLemmas.{some_none, some_same, group_beyond, get-take, get-drop}
 use Rattle.tbtree.proofs.BlockLevels.{groups_of_level}
 use Rattle.treecheck.proofs.CheckLemmas.{get_map, get_some, get_few, none_behind, legs, numbers, chain, own_legs, few, led, not_none, as_many, legs_in_turn, runs_are, runs_rising, legs_rise, leaves_stand, own_pages, leaf_firsts, first_is, Chain, turn_row, order_chain, as_many_places, h}
 use Rattle.tbtree.proofs.KeyRuns.{is}

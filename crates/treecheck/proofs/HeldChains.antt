@@ -12,7 +12,7 @@ use Rattle.tbtree.specs.Turn.{IsPast, IsRising}
 use Rattle.tbtree.specs.Nodes.{Pages, ALeaf}
 use Rattle.tbtree.specs.Stands.{head_or_zero, last_or}
 use Rattle.tbtree.specs.declared.tree.Place.{Place}
-use Rattle.legs.specs.BlockLemmas.{all_pass}
+use Rattle.legs.proofs.BlockLemmas.{all_pass}
 use Rattle.tbtree.proofs.KeyRuns.{is, of_key_runs}
 use Rattle.treecheck.proofs.LeafChains.{legs_at, groups_first, groups_only}
 use Rattle.tbtree.proofs.OwnedLists.{AreOf, AreOwned}

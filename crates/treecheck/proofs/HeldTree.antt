@@ -24,7 +24,7 @@ use Rattle.tbtree.specs.declared.tree.Place.{Place}
 use Rattle.tbtree.specs.declared.tree.TbTree.{TbTree}
 use Rattle.treecheck.proofs.CheckLemmas.{get_of_map, get_map, get_few, runs_rising}
 use Rattle.treecheck.proofs.CheckTree.{level_map}
-use Rattle.legs.specs.GroupLemmas.{some_same}
+use Rattle.legs.proofs.GroupLemmas.{some_same}
 use Rattle.treecheck.proofs.HeldChains.{same_map, map_none, rising_unmap, flat_joined, filter_of, owned_range, get_range, rising_range, joined_groups, length_none, AreLinked, leaves_from, chains_from}
 use Rattle.tbtree.proofs.HeldLemmas.{split_filter, come_in_turn, numbers_are, numbers_rise, firsts_rise, none_beyond}
 use Rattle.tbtree.proofs.KeyRuns.{is, gathered}

@@ -12,7 +12,7 @@ use Rattle.tbtree.specs.Turn.{first_ordinal, ComeInTurn, IsPast, IsRising}
 use Rattle.tbtree.specs.Descent.{legs_in}
 use Rattle.tbtree.specs.Nodes.{Pages, ALeaf}
 use Rattle.tbtree.specs.Stands.{owner, marks, pages_of, head_or_zero, last_or}
-use Rattle.legs.specs.GroupLemmas.{some_none, some_same, group_at, same_by_get}
+use Rattle.legs.proofs.GroupLemmas.{some_none, some_same, group_at, same_by_get}
 use Rattle.tbtree.proofs.KeyRuns.{is}
 use Rattle.tbtree.proofs.OrdinalOrder.{IsUp}
 use Rattle.tbtree.proofs.OwnedLists.{AreOf}

@@ -9,8 +9,8 @@ use Rattle.legs.specs.Blocks.{block, groups}
 use Rattle.legs.specs.Boxes.{BoxView}
 use Rattle.legs.specs.Hull.{both, leg_boxes}
 use Rattle.tbtree.specs.Nodes.{EntryView, InnerView, boxes, children}
-use Rattle.legs.specs.GroupLemmas.{same_by_get}
-use Rattle.legs.specs.GroupSteps.{group_below, groups_ceil}
+use Rattle.legs.proofs.GroupLemmas.{same_by_get}
+use Rattle.legs.proofs.GroupSteps.{group_below, groups_ceil}
 use Rattle.boxsearch.proofs.PushLemmas.{some_same, take_at}
 use Rattle.treecheck.proofs.WalkLemmas.{drop_at}
 use Rattle.treecheck.specs.Levels.{cover_of_leaves, pages_of_leaves}

@@ -11,7 +11,7 @@ use Rattle.legs.specs.Hull.{both, hull_of, leg_boxes}
 use Rattle.legs.specs.Legs.{LegView}
 use Rattle.tbtree.specs.Descent.{entries_in, legs_in}
 use Rattle.tbtree.specs.Nodes.{Pages, EntryView, AnInner, InnerView, boxes, children}
-use Rattle.legs.specs.GroupSteps.{groups_ceil, no_groups, from_none, from_some, groups_step, groups_take, groups_drop, block_groups, drop_drop}
+use Rattle.legs.proofs.GroupSteps.{groups_ceil, no_groups, from_none, from_some, groups_step, groups_take, groups_drop, block_groups, drop_drop}
 use Rattle.boxsearch.proofs.PushLemmas.{some_same, some_none}
 use Rattle.treecheck.specs.Levels.{cover_of_leaves, pages_of_leaves, named_by, AllStandAbove, StandsAbove}
 use Rattle.treecheck.specs.Walking.{IsMet}

@@ -15,7 +15,7 @@ use Rattle.tbtree.specs.Descent.{legs_in}
 use Rattle.tbtree.specs.Nodes.{Pages}
 use Rattle.tbtree.specs.Stands.{page_at, InnerStands}
 use Rattle.tbtree.specs.declared.tree.TbTree.{TbTree}
-use Rattle.legs.specs.GroupSteps.{from_some}
+use Rattle.legs.proofs.GroupSteps.{from_some}
 use Rattle.treecheck.proofs.OverLemmas.{below, gathers, named_is, boxes_over, block_pages, same_count, one_group, more_groups}
 use Rattle.boxsearch.proofs.PushLemmas.{some_same, some_none}
 use Rattle.treecheck.proofs.SpanLemmas.{pow_above}

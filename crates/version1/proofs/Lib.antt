@@ -1,12 +1,10 @@
 pub mod OldFormLemmas
 pub mod OldLemmas
-pub mod OldNamedLemmas
 pub mod OpenedLemmas
 pub mod SurveyedLemmas
 pub mod TakingLemmas
 pub mod LentLemmas
 pub mod MigrateLemmas
-pub mod NamedLemmas
 pub mod OldBookLemmas
 pub mod OldHeaderLemmas
 pub mod OldStoreLemmas

@@ -30,7 +30,7 @@ use Rattle.register.specs.ChainReader.{fault_of}
 use Rattle.catalogue.specs.Holding.{AnswersBook}
 use Rattle.register.specs.Lasting.{IsStop}
 use Rattle.catalogue.specs.Beginning.{IsLeftOver}
-use Rattle.version1.specs.Migrating.{brought_fault, IsLegFault, IsMigratingFault}
+use Rattle.version1.specs.Migrating.{brought_fault, IsMigratingFault}
 use Rattle.version1.specs.OldStore.{present_shape, AnswersOldBook}
 use Rattle.register.specs.Saved.{CatalogueView}
 use Rattle.register.specs.Saving.{IsSavingStop}
@@ -95,16 +95,6 @@ allowed_leg index.Store h = tt
 allowed_leg (index.Damaged page) h = h
 allowed_leg index.StoreFull h = tt
 allowed_leg index.Spent h = h
-
--- where it cannot be that nothing stopped it, it stopped, or a page is damaged
-pub leg_stop : (e : CatalogueFault) → ((IsStop e → ⊥) → ⊥) → IsLegFault e
-leg_stop Memory h = tt
-leg_stop Store h = tt
-leg_stop StoreFull h = tt
-leg_stop (Damaged page) h = tt
-leg_stop Unfinished h = h (λ s. s)
-leg_stop Version h = h (λ s. s)
-leg_stop Malformed h = h (λ s. s)
 
 pub allowed_stop : (e : CatalogueFault) → IsStop e → IsSavingStop e
 allowed_stop Memory h = tt

@@ -9,9 +9,9 @@ use Rattle.tbtree.specs.declared.tree.Place.{Place}
 use Rattle.tbtree.specs.declared.tree.TbTree.{TbTree}
 use Rattle.register.specs.Building.{tree_of}
 use Rattle.register.specs.Chain.{text_at}
-use Rattle.register.specs.ChainReader.{rest_of, BreaksAt, ReaderView}
+use Rattle.register.specs.ChainReader.{rest_of, IsBroken, ReaderView}
 use Rattle.header.specs.Fields.{FitsFields}
-use Rattle.register.specs.Lasting.{IsStop, IsTrulyDamaged}
+use Rattle.register.specs.Lasting.{IsStop}
 use Rattle.version1.specs.OldReading.{as_written, IsBringingFault, SaysOldFields}
 use Rattle.version1.specs.OldStore.{old_payload_fault, present_shape, AnswersOld, HasOldFields, IsKeptOld, IsOldReadingFault}
 use Rattle.register.specs.Restoring.{HoldsContents, IsRest}
@@ -151,15 +151,15 @@ module _ (a b : StoreView) (s : Stays a b) (fa : IsTrue a.is_faithful) (fields :
       subst (λ n. IsRest (stored_payload b) n fields c places) (sym s.count)
       (subst (λ (at : ℕ → Option Payload). IsRest at a.count fields c places) (sym (stays_payload a b s fa)) h)
 
--- a fault of bringing over that is none of memory and of the stores is one of the pages as they are
-pub bringing_breaks : (old new below after : StoreView) (e : CatalogueFault) → IsTrue old.is_faithful → IsBringingFault old new below after e → (IsStop e → ⊥) → BreaksAt (stored_payload old) e
-bringing_breaks old new below after Memory fa h not = absurd (not tt)
-bringing_breaks old new below after Store fa h not = absurd (not tt)
-bringing_breaks old new below after StoreFull fa h not = absurd h
-bringing_breaks old new below after (Damaged n) fa h not = h.1 fa
-bringing_breaks old new below after Unfinished fa h not = absurd h
-bringing_breaks old new below after Version fa h not = absurd h
-bringing_breaks old new below after Malformed fa h not = tt
+-- a fault of bringing over that is none of memory and of the stores is one of the pages
+pub bringing_breaks : (old new below after : StoreView) (e : CatalogueFault) → IsBringingFault old new below after e → (IsStop e → ⊥) → IsBroken e
+bringing_breaks old new below after Memory h not = absurd (not tt)
+bringing_breaks old new below after Store h not = absurd (not tt)
+bringing_breaks old new below after StoreFull h not = absurd h
+bringing_breaks old new below after (Damaged n) h not = tt
+bringing_breaks old new below after Unfinished h not = absurd h
+bringing_breaks old new below after Version h not = absurd h
+bringing_breaks old new below after Malformed h not = tt
 
 -- a fault that came later
 module _ (a b d below after : StoreView) (p : Stays a b) where
@@ -171,15 +171,3 @@ module _ (a b d below after : StoreView) (p : Stays a b) where
   bringing_later Unfinished h = tt
   bringing_later Version h = tt
   bringing_later Malformed h = tt
-
-  pub bringing_damaged : (e : CatalogueFault) → IsBringingFault b d below after e → IsTrulyDamaged a.is_faithful (stored_payload a) a.count e
-  bringing_damaged Memory h = tt
-  bringing_damaged Store h = tt
-  bringing_damaged StoreFull h = tt
-  bringing_damaged (Damaged m) h =
-      let l = h.0 in
-      let k = p.count in
-      (omega (arith, l, k), λ fa. ap (λ (f : ℕ → Option Payload). f m) (sym (stays_payload a b p fa)) ∙ h.1 (p.keeps.faithful ∙ fa))
-  bringing_damaged Unfinished h = tt
-  bringing_damaged Version h = tt
-  bringing_damaged Malformed h = tt

@@ -8,11 +8,10 @@ use Rattle.legs.specs.Boxes.{BoxView}
 use Rattle.legs.specs.declared.index.IndexFault.TheVariants as index
 use Rattle.legs.specs.Index.{MayRefuseLeg}
 use Rattle.legs.specs.Legs.{LegView}
-use Rattle.pagecache.specs.Cache.{Cache}
 use Rattle.pagecache.specs.declared.fault.CacheFault.TheVariants as cache
 use Rattle.tbtree.specs.Turn.{IsPast, IsRising}
 use Rattle.tbtree.specs.Descent.{legs_in}
-use Rattle.tbtree.specs.Faults.{MayRefuseRead, RefusesRead}
+use Rattle.tbtree.specs.Faults.{MayRefuseRead}
 use Rattle.tbtree.specs.Nodes.{Pages}
 use Rattle.tbtree.specs.declared.fault.TreeFault.{TreeFault}
 use Rattle.tbtree.specs.declared.fault.TreeFault.TheVariants.{Cache as OfCache, Malformed, Spent}
@@ -32,19 +31,6 @@ allowed_leg (OfCache cache.StoreFull) h = absurd h
 allowed_leg (OfCache cache.Memory) h = tt
 allowed_leg (Malformed n) h = absurd h
 allowed_leg Spent h = absurd h
-
--- what is said of a read is not that it is spent
-pub works_leg : (old new : Cache) (fault : TreeFault) → RefusesRead old new fault → of_tree fault ≡ index.Spent → ⊥
-works_leg old new (OfCache cache.NoPage) h e = absurd h
-works_leg old new (OfCache cache.Store) h e = let no : index.Store ≡ index.Spent = e in absurd (cc)
-works_leg old new (OfCache (cache.Damaged n)) h e = let no : index.Damaged n ≡ index.Spent = e in absurd (cc)
-works_leg old new (OfCache cache.StoreFull) h e = absurd h
-works_leg old new (OfCache cache.Memory) h e = let no : index.Memory ≡ index.Spent = e in absurd (cc)
-works_leg old new (Malformed n) h e = let no : index.Damaged n ≡ index.Spent = e in absurd (cc)
-works_leg old new Spent h e = absurd h
-
-pub damaged_works : (n : ℕ) → index.Damaged n ≡ index.Spent → ⊥
-damaged_works n e = absurd (cc)
 
 pub not_none : {X : Type 0} (o : Option X) → ((x : X) → o ≡ Some x → ⊥) → IsSome o → ⊥
 not_none None h s = let no : false ≡ true = s in absurd (cc)

@@ -1,7 +1,6 @@
 pub mod OldForm
 pub mod OldLegs
 pub mod Migrating
-pub mod Naming
 pub mod OldReading
 pub mod OldStore
 pub mod Waiting

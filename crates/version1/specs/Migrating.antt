@@ -21,17 +21,6 @@ brought_fault (index.Damaged page) = Damaged page
 brought_fault index.StoreFull = StoreFull
 brought_fault index.Spent = Malformed
 
--- why a store whose pages keep a catalogue is not brought over: memory ran out, a store failed or is full, or a page,
--- as of a chain of leaves that is not whole, is damaged
-abbrev pub IsLegFault : CatalogueFault → Type 0
-IsLegFault Memory = Unit {0}
-IsLegFault Store = Unit {0}
-IsLegFault StoreFull = Unit {0}
-IsLegFault (Damaged page) = Unit {0}
-IsLegFault Unfinished = ⊥
-IsLegFault Version = ⊥
-IsLegFault Malformed = ⊥
-
 -- what the pages of a finished store of version 1 keep is brought over: the catalogue, the shape that comes nearest,
 -- and the list of legs that the chains of its features hold, of which the index is sound
 pub record IsBrought (s : StoreView) (c : CatalogueView) (index : IndexView) : Type 0 where

@@ -6,30 +6,27 @@ use Rattle.pages.specs.Store.{Store as StoreView, Faulted}
 use Rattle.pages.specs.declared.payload.Payload.{Payload}
 use Rattle.pagecache.specs.Cache.{stored_payload}
 use Rattle.header.specs.Fields.{FitsFields, SaysShape}
-use Rattle.register.specs.Lasting.{ComesFirst, IsDamagedPage}
-use Rattle.register.specs.Stopping.{IsMended}
+use Rattle.register.specs.Lasting.{ComesFirst}
 use Rattle.version1.specs.OldStore.{old_header_fault, HasOldFields, IsOldShape}
 use Rattle.register.specs.declared.fault.CatalogueFault.{CatalogueFault}
 use Rattle.register.specs.declared.fault.CatalogueFault.TheVariants.{Memory, Store, StoreFull, Damaged, Unfinished, Version, Malformed}
 use Rattle.header.specs.declared.header_fields.Fields.{Fields}
 use Rattle.version1.specs.declared.old_header.OldFields.{OldFields}
 
--- the store failed where that is said; a page that is said to be damaged is so; a call that only
--- reads pages says nothing of a full or unfinished store
+-- the store failed where that is said; a call that only reads pages says nothing of a full or unfinished store
 abbrev pub IsLentFault : StoreView → StoreView → CatalogueFault → Type 0
 IsLentFault old new Memory = Unit {0}
 IsLentFault old new Store = Faulted old new
 IsLentFault old new StoreFull = ⊥
-IsLentFault old new (Damaged page) =
-    IsDamagedPage old.is_faithful (stored_payload old) old.count page
+IsLentFault old new (Damaged page) = Unit {0}
 IsLentFault old new Unfinished = ⊥
 IsLentFault old new Version = ⊥
 IsLentFault old new Malformed = Unit {0}
 
--- the pages of a faithful store, where those that are damaged have any payload
-pub record MayBeLent (s : StoreView) (at : ℕ → Option Payload) : Type 0 where
+-- a faithful store has these pages
+pub record ShowsStored (s : StoreView) (at : ℕ → Option Payload) : Type 0 where
   pub faithful : IsTrue s.is_faithful
-  pub mended : IsMended (stored_payload s) s.count at
+  pub same : (p : ℕ) → at p ≡ stored_payload s p
 
 -- why page n is not read: it is not there, or damaged, or the store failed
 abbrev pub IsUnread : ℕ → StoreView → StoreView → CatalogueFault → Type 0
@@ -37,7 +34,7 @@ IsUnread n old new Memory = ⊥
 IsUnread n old new Store = Faulted old new
 IsUnread n old new StoreFull = ⊥
 IsUnread n old new (Damaged page) =
-    (page ≡ n) × IsDamagedPage old.is_faithful (stored_payload old) old.count n
+    (page ≡ n) × (IsTrue old.is_faithful → stored_payload old n ≡ None)
 IsUnread n old new Unfinished = ⊥
 IsUnread n old new Version = ⊥
 IsUnread n old new Malformed = old.count ≤ n
@@ -80,14 +77,13 @@ pub record IsOldHeaderFault (payload : Payload) (fault : CatalogueFault) : Type 
   pub first : ComesFirst (old_header_fault payload) fault
   pub none : (old : OldFields) → OldHeaderSays payload old → ⊥
 
--- one of two stores failed where that is said, of which the first is lent; a page that is said to
--- be damaged is one of that, and is so; and nothing is said of a full or unfinished store
+-- one of two stores failed where that is said, of which the first is lent; and nothing is said of a full or unfinished
+-- store
 abbrev pub IsBringingFault : (old new below after : StoreView) → CatalogueFault → Type 0
 IsBringingFault old new below after Memory = Unit {0}
 IsBringingFault old new below after Store = Faulted old new ⊎ Faulted below after
 IsBringingFault old new below after StoreFull = ⊥
-IsBringingFault old new below after (Damaged page) =
-    IsDamagedPage old.is_faithful (stored_payload old) old.count page
+IsBringingFault old new below after (Damaged page) = Unit {0}
 IsBringingFault old new below after Unfinished = ⊥
 IsBringingFault old new below after Version = ⊥
 IsBringingFault old new below after Malformed = Unit {0}

@@ -3,9 +3,8 @@ ghost use Rattle.std.specs.Prelude.{ℕ, ◌≡◌, ◌<◌, Option, Some, None,
 ghost use Rattle.pages.specs.Store.{Stays};
 ghost use Rattle.pagecache.specs.Cache.{stored_payload};
 ghost use Rattle.pages.specs.declared.payload.Payload.{Payload};
-ghost use Rattle.register.specs.ChainReader.{rest_of, stop_of, BreaksAt};
-ghost use Rattle.version1.specs.Naming.{IfDamaged};
-ghost use Rattle.version1.specs.OldReading.{IsLentFault, IsUnread, MayBeLent};
+ghost use Rattle.register.specs.ChainReader.{rest_of, IsBroken};
+ghost use Rattle.version1.specs.OldReading.{IsLentFault, IsUnread, ShowsStored};
 
 use pages::{PageFault, PageStore, Payload, unseal};
 use register::{CatalogueFault, ChainReader};
@@ -42,16 +41,11 @@ pub(crate) fn read_sealed<S: PageStore>(
 /// Reads the next page of the chain from a lent store.
 fn load_lent<S: PageStore>(store: &mut S, reader: &mut ChainReader) -> Result<(), CatalogueFault>
     requires { 0 < reader.old.left }
-    ensures same { OnOk result ((at : ℕ → Option Payload) → MayBeLent (S.seen store.old) at
+    ensures same { OnOk result ((at : ℕ → Option Payload) → ShowsStored (S.seen store.old) at
         → rest_of at reader.new ≡ rest_of at reader.old) }
-    ensures along { OnOk result (IsTrue (S.seen store.old).is_faithful
-        → stop_of (stored_payload (S.seen store.old)) reader.new
-        ≡ stop_of (stored_payload (S.seen store.old)) reader.old) }
     ensures left { OnOk result (reader.new.left < reader.old.left) }
     ensures broken { IfErr result (λ e. (at : ℕ → Option Payload)
-        → MayBeLent (S.seen store.old) at → BreaksAt at e → rest_of at reader.old ≡ None) }
-    ensures stops { IfErr result (λ e. IsTrue (S.seen store.old).is_faithful → IfDamaged (λ page.
-        stop_of (stored_payload (S.seen store.old)) reader.old ≡ Some page) e) }
+        → ShowsStored (S.seen store.old) at → IsBroken e → rest_of at reader.old ≡ None) }
     ensures stays { Stays (S.seen store.old) (S.seen store.new) }
     ensures caused { IfErr result (IsLentFault (S.seen store.old) (S.seen store.new)) }
 {
@@ -66,13 +60,11 @@ pub(crate) fn fill_lent<S: PageStore>(
     store: &mut S,
     reader: &mut ChainReader,
 ) -> Result<(), CatalogueFault>
-    ensures same { OnOk result ((at : ℕ → Option Payload) → MayBeLent (S.seen store.old) at
+    ensures same { OnOk result ((at : ℕ → Option Payload) → ShowsStored (S.seen store.old) at
         → rest_of at reader.new ≡ rest_of at reader.old) }
     ensures ended { OnOk result (reader.new.left ≡ 0) }
     ensures broken { IfErr result (λ e. (at : ℕ → Option Payload)
-        → MayBeLent (S.seen store.old) at → BreaksAt at e → rest_of at reader.old ≡ None) }
-    ensures stops { IfErr result (λ e. IsTrue (S.seen store.old).is_faithful → IfDamaged (λ page.
-        stop_of (stored_payload (S.seen store.old)) reader.old ≡ Some page) e) }
+        → ShowsStored (S.seen store.old) at → IsBroken e → rest_of at reader.old ≡ None) }
     ensures stays { Stays (S.seen store.old) (S.seen store.new) }
     ensures caused { IfErr result (IsLentFault (S.seen store.old) (S.seen store.new)) }
 {

@@ -1,5 +1,5 @@
 //! A store of version 1 is brought over.
-ghost use Rattle.std.specs.Prelude.{◌≡◌, ◌<◌, ◌≤◌, ◌^◌, [], List, drop, length, None, Some, IsTrue, IfErr, IfOk};
+ghost use Rattle.std.specs.Prelude.{◌≡◌, ◌<◌, ◌≤◌, [], List, None, IsTrue, IfErr, IfOk};
 ghost use Rattle.legs.specs.Asking.{IsLater};
 ghost use Rattle.legs.specs.Book.{Book};
 ghost use Rattle.legs.specs.Costs.{ShapeView};
@@ -13,15 +13,12 @@ ghost use Rattle.treecheck.specs.Checking.{Agree};
 ghost use Rattle.boxsearch.specs.Index.{content, words, IsMarked, IsSound};
 ghost use Rattle.version1.specs.OldLegs.{pages_of_old};
 ghost use Rattle.catalogue.specs.Holding.{AnswersBook, IsUnfinishedStore};
-ghost use Rattle.register.specs.Lasting.{ComesFirst, IsBehindFirst, IsStop, IsTrulyDamaged};
+ghost use Rattle.register.specs.Lasting.{ComesFirst, IsBehindFirst, IsStop};
 ghost use Rattle.catalogue.specs.Beginning.{IsLeftOver};
-ghost use Rattle.version1.specs.Migrating.{brought_fault, IsBrought, IsLegFault, IsMigratingFault};
-ghost use Rattle.version1.specs.Naming.{AreWhole, NamesOldStop};
-ghost use Rattle.version1.specs.OldStore.{old_first_fault, present_shape, AnswersOld, AnswersOldBook, HoldsOldBook, IsKeptOld, IsOldReadingFault};
-ghost use Rattle.register.specs.Saved.{CatalogueView};
+ghost use Rattle.version1.specs.Migrating.{brought_fault, IsBrought, IsMigratingFault};
+ghost use Rattle.version1.specs.OldStore.{old_first_fault, present_shape, AnswersOld, AnswersOldBook, HoldsOldBook, IsOldReadingFault};
 ghost use Rattle.register.specs.Saving.{IsSavingStop};
 ghost use Rattle.tbtree.specs.declared.tree.Place.{Place};
-ghost use Rattle.tbtree.specs.declared.tree.TbTree.{TbTree};
 
 use crate::old_legs::take_old_legs;
 use crate::old_store::{OldRestored, read_old};
@@ -75,16 +72,6 @@ fn read_beside<S: PageStore, T: PageStore>(
         (old_first_fault (S.seen old.old).count (stored_payload (S.seen old.old) 0)) back.1) }
     ensures finished { IfOk result (λ r. IsTrue (S.seen old.old).is_faithful
         → old_first_fault (S.seen old.old).count (stored_payload (S.seen old.old) 0) ≡ None) }
-    ensures broken { IfErr result (λ back. IsTrue (S.seen old.old).is_faithful
-        → IsTrue (T.seen new).is_faithful → (IsStop back.1 → ⊥)
-        → (c : CatalogueView) (tree : TbTree) (places : List Place)
-        → IsKeptOld (stored_payload (S.seen old.old)) (S.seen old.old).count c tree places
-        → ⊥) }
-    ensures damaged { IfErr result (λ back. IsTrulyDamaged (S.seen old.old).is_faithful
-        (stored_payload (S.seen old.old)) (S.seen old.old).count back.1) }
-    ensures named { IfErr result (λ back. IsTrue (S.seen old.old).is_faithful
-        → IsTrue (T.seen new).is_faithful
-        → NamesOldStop (stored_payload (S.seen old.old)) (S.seen old.old).count back.1) }
     ensures stays { Stays (S.seen old.old) (S.seen old.new) }
     ensures stored { IfOk result (λ r. Stays (T.seen new) (T.seen r.1)) }
     ensures back { IfErr result (λ back. Stays (T.seen new) (T.seen back.0)) }
@@ -140,8 +127,6 @@ fn bring_legs<S: PageStore, T: PageStore>(
         → content index ≡ [] → Agree tracks.now tracks.now.rows tracks.now.legs
         → (legs : List LegView) → HoldChains (pages_of_old (S.seen old.old)) leaf tracks.now.rows
         tracks.now.legs places.now tracks.now.tracks legs → IsSavingStop back.1) }
-    ensures works { IfErr result (λ back. IsTrue (S.seen old.old).is_faithful → IsSound index
-        → content index ≡ [] → IsLegFault back.1) }
     ensures behind { IfErr result (λ back. IsBehindFirst back.1) }
     ensures stays { Stays (S.seen old.old) (S.seen old.new) }
     ensures caused { IfErr result (λ back. IsMigratingFault (S.seen old.old) (S.seen old.new)
@@ -197,32 +182,6 @@ pub fn migrate<S: PageStore, T: PageStore>(
         → IsTrue (T.seen new).is_faithful
         → (shape : ShapeView) (limits : LimitsView) (book : Book)
         → HoldsOldBook (S.seen old.old) shape limits book → IsSavingStop back.1) }
-
-    // Where the pages keep a catalogue, only memory, the two stores and a damaged page stop it: no
-    // page where the chains of all features are whole, and else one that the chains name. Where the
-    // pages keep no catalogue, a page that is said to be damaged is so, and is the one at which
-    // reading it stops; pages that are said to be malformed keep none, whatever the damaged ones have.
-    ensures kept { IfErr result (λ back. IsTrue (S.seen old.old).is_faithful
-        → IsTrue (T.seen new).is_faithful
-        → (c : CatalogueView) (tree : TbTree) (places : List Place)
-        → IsKeptOld (stored_payload (S.seen old.old)) (S.seen old.old).count c tree places
-        → IsLegFault back.1) }
-    ensures whole { IfErr result (λ back. IsTrue (S.seen old.old).is_faithful
-        → IsTrue (T.seen new).is_faithful
-        → (c : CatalogueView) (tree : TbTree) (places : List Place)
-        → IsKeptOld (stored_payload (S.seen old.old)) (S.seen old.old).count c tree places
-        → AreWhole (S.seen old.old) c tree places → IsSavingStop back.1) }
-    ensures damaged { IfErr result (λ back. IsTrue (S.seen old.old).is_faithful
-        → IsTrue (T.seen new).is_faithful
-        → ((c : CatalogueView) (tree : TbTree) (places : List Place)
-        → IsKeptOld (stored_payload (S.seen old.old)) (S.seen old.old).count c tree places → ⊥)
-        → IsTrulyDamaged (S.seen old.old).is_faithful
-        (stored_payload (S.seen old.old)) (S.seen old.old).count back.1) }
-    ensures named { IfErr result (λ back. IsTrue (S.seen old.old).is_faithful
-        → IsTrue (T.seen new).is_faithful
-        → ((c : CatalogueView) (tree : TbTree) (places : List Place)
-        → IsKeptOld (stored_payload (S.seen old.old)) (S.seen old.old).count c tree places → ⊥)
-        → NamesOldStop (stored_payload (S.seen old.old)) (S.seen old.old).count back.1) }
 
     // Page 0 of the new store says that it is not finished, and behind that what it says of a new one; and that of the
     // other comes first.

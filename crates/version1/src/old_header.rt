@@ -1,9 +1,9 @@
 //! Page 0 of a store of version 1.
-ghost use Rattle.std.specs.Prelude.{ℕ, Bool, Option, ◌≡◌, ◌≤◌, length, min, IfErr, IfOk, IfSome, None};
+ghost use Rattle.std.specs.Prelude.{ℕ, Option, ◌≡◌, length, min, IfErr, IfOk, IfSome, None};
 ghost use Rattle.legs.specs.Costs.{ShapeView};
 ghost use Rattle.pages.specs.Store.{Store};
 ghost use Rattle.pages.specs.declared.payload.Payload.{Payload};
-ghost use Rattle.register.specs.Lasting.{IsReadingFault, IsTrulyDamaged};
+ghost use Rattle.register.specs.Lasting.{IsReadingFault};
 ghost use Rattle.version1.specs.OldStore.{old_header_fault, IsOldShape};
 ghost use Rattle.version1.specs.OldReading.{IsOldHeaderFault, OldHeaderSays, SaysOldBody, SaysOldShape};
 ghost use Rattle.register.specs.Restoring.{result_of};
@@ -49,8 +49,6 @@ struct OldShape {
 fn test_old_header(payload: &Payload) -> Result<(), CatalogueFault>
     ensures value { result ≡ result_of (old_header_fault payload.now) }
     ensures caused { IfErr result (λ e. (old new : Store) → IsReadingFault old new e) }
-    ensures damaged { IfErr result (λ e. (faithful : Bool) (at : ℕ → Option Payload) (count : ℕ)
-        → IsTrulyDamaged faithful at count e) }
 {
     test_front(OLD_VERSION, front_of(payload))
 }
@@ -112,8 +110,6 @@ pub(crate) fn old_header_of(payload: &Payload) -> Result<OldFields, CatalogueFau
     ensures says { IfOk result (λ old. OldHeaderSays payload.now old) }
     ensures fault { IfErr result (IsOldHeaderFault payload.now) }
     ensures caused { IfErr result (λ e. (old new : Store) → IsReadingFault old new e) }
-    ensures damaged { IfErr result (λ e. (faithful : Bool) (at : ℕ → Option Payload) (count : ℕ)
-        → IsTrulyDamaged faithful at count e) }
 {
     test_old_header(payload)?;
     match old_fields_of(payload) {

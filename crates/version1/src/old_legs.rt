@@ -1,5 +1,5 @@
 //! The legs of a lent store of version 1.
-ghost use Rattle.std.specs.Prelude.{ℕ, ◌≡◌, ◌≢◌, ◌+◌, ◌-◌, ◌<◌, ◌^◌, List, length, Some, [], ◌⊎◌, None, IsErrOf, IfOk, IfErr, IsTrue, OnOk};
+ghost use Rattle.std.specs.Prelude.{ℕ, ◌≡◌, ◌≢◌, ◌+◌, ◌-◌, ◌<◌, List, Some, [], ◌⊎◌, None, IsErrOf, IfOk, IfErr, IsTrue, OnOk};
 ghost use Rattle.legs.specs.Asking.{IsLater};
 ghost use Rattle.legs.specs.Index.{HasRisen, MayRefuseLeg};
 ghost use Rattle.legs.specs.Legs.{LegView};
@@ -303,8 +303,6 @@ pub fn take_old_legs<S: PageStore, I: LegIndex>(
     ensures later { IsLater I.Listed index.old index.new }
 
     // Why it is refused.
-    ensures works { IfErr result (λ fault. IsTrue (S.seen old.old).is_faithful
-        → I.is_sound index.old → I.content index.old ≡ [] → fault ≢ IndexFault.Spent) }
     ensures store { IsErrOf result IndexFault.Store
         → Faulted (S.seen old.old) (S.seen old.new)
         ⊎ HasRisen (I.faults index.old) (I.faults index.new) }
@@ -344,10 +342,6 @@ fn bring<S: PageStore, I: LegIndex>(
         → HaveLegsOf (pages_by old_node_of (fresh (S.seen old.old) 1)) leaves.now list
         → HaveEachOf (pages_by old_node_of (fresh (S.seen old.old) 1)) leaves.now list
         → IsNumbered legs list → MayRefuseLeg fault) }
-    ensures works { IfErr result (λ fault. IsTrue (S.seen old.old).is_faithful
-        → I.is_sound index.old → I.content index.old ≡ [] → (list : List LegView)
-        → HaveLegsOf (pages_by old_node_of (fresh (S.seen old.old) 1)) leaves.now list
-        → IsNumbered legs list → fault ≢ IndexFault.Spent) }
     ensures stays { Stays (S.seen old.old) (S.seen old.new) }
     ensures marked { IsTrue (S.seen old.old).is_faithful → I.is_sound index.old
         → I.content index.old ≡ [] → I.is_marked index.old → (list : List LegView)

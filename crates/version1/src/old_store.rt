@@ -1,5 +1,5 @@
 //! The catalogue of a finished store of version 1, which is lent and read.
-ghost use Rattle.std.specs.Prelude.{ℕ, ◌≡◌, ◌≤◌, List, Some, None, Option, IsTrue, IfErr, IfOk};
+ghost use Rattle.std.specs.Prelude.{ℕ, ◌≡◌, ◌≤◌, List, None, Option, IsTrue, IfErr, IfOk};
 ghost use Rattle.legs.specs.Book.{Book};
 ghost use Rattle.legs.specs.Costs.{ShapeView};
 ghost use Rattle.legs.specs.Limits.{LimitsView};
@@ -7,16 +7,14 @@ ghost use Rattle.pages.specs.Store.{Stays};
 ghost use Rattle.pagecache.specs.Cache.{stored_payload};
 ghost use Rattle.chains.specs.Reads.{OnlyReads};
 ghost use Rattle.pages.specs.declared.payload.Payload.{Payload};
-ghost use Rattle.register.specs.ChainReader.{reader_of, stop_of, BreaksAt};
-ghost use Rattle.register.specs.Lasting.{ComesFirst, IsReadingFault, IsStop, IsTrulyDamaged};
-ghost use Rattle.version1.specs.Naming.{IfDamaged, NamesOldStop};
-ghost use Rattle.version1.specs.OldReading.{IsBringingFault, MayBeLent, SaysOldFields};
-ghost use Rattle.version1.specs.OldStore.{old_first_fault, AnswersOld, AnswersOldBook, HoldsOldBook, IsKeptOld, IsOldReadingFault};
+ghost use Rattle.register.specs.ChainReader.{IsBroken};
+ghost use Rattle.register.specs.Lasting.{ComesFirst, IsReadingFault, IsStop};
+ghost use Rattle.version1.specs.OldReading.{IsBringingFault, ShowsStored, SaysOldFields};
+ghost use Rattle.version1.specs.OldStore.{old_first_fault, AnswersOld, AnswersOldBook, HoldsOldBook, IsOldReadingFault};
 ghost use Rattle.register.specs.Restoring.{HoldsContents, IsRest};
 ghost use Rattle.register.specs.Saved.{CatalogueView};
 ghost use Rattle.register.specs.Text.{AreFew};
 ghost use Rattle.tbtree.specs.declared.tree.Place.{Place};
-ghost use Rattle.tbtree.specs.declared.tree.TbTree.{TbTree};
 ghost use Rattle.register.specs.declared.contents.Contents.{Contents};
 ghost use Rattle.version1.specs.declared.old_header.OldFields.{OldFields};
 
@@ -58,9 +56,6 @@ fn read_old_header<S: PageStore>(lent: &mut S) -> Result<OldFields, CatalogueFau
         (stored_payload (S.seen lent.old) 0) old → ⊥) }
     ensures stays { Stays (S.seen lent.old) (S.seen lent.new) }
     ensures caused { IfErr result (IsReadingFault (S.seen lent.old) (S.seen lent.new)) }
-    ensures damaged { IfErr result (IsTrulyDamaged (S.seen lent.old).is_faithful
-        (stored_payload (S.seen lent.old)) (S.seen lent.old).count) }
-    ensures zero { IfErr result (IfDamaged (λ page. page ≡ 0)) }
 {
     match read_sealed(lent, 0) {
         Ok(payload) => old_header_of(&payload),
@@ -78,15 +73,13 @@ fn read_old_contents<S: PageStore, T: PageStore>(
 ) -> Result<Option<Contents>, CatalogueFault>
     requires { cache.old.count ≡ 0 }
     ensures holds { IfOk result (λ contents. IsTrue cache.old.store.is_faithful
-        → (at : ℕ → Option Payload) → MayBeLent (S.seen lent.old) at
+        → (at : ℕ → Option Payload) → ShowsStored (S.seen lent.old) at
         → HoldsContents at (S.seen lent.old).count fields.now.first fields.now.length contents) }
     ensures broken { IfErr result (λ e. IsTrue cache.old.store.is_faithful
-        → (at : ℕ → Option Payload) → MayBeLent (S.seen lent.old) at → BreaksAt at e
+        → (at : ℕ → Option Payload) → ShowsStored (S.seen lent.old) at → IsBroken e
         → (contents : Option Contents) → AreFew fields.now.limits.legs contents
         → HoldsContents at (S.seen lent.old).count fields.now.first fields.now.length contents
         → ⊥) }
-    ensures stops { IfErr result (λ e. IsTrue (S.seen lent.old).is_faithful → IfDamaged (λ page.
-        stop_of (stored_payload (S.seen lent.old)) (reader_of fields.now) ≡ Some page) e) }
     ensures stays { Stays (S.seen lent.old) (S.seen lent.new) }
     ensures reads { OnlyReads cache.old cache.new }
     ensures caused { IfErr result (IsBringingFault (S.seen lent.old) (S.seen lent.new)
@@ -111,14 +104,12 @@ fn read_old_rest<S: PageStore, T: PageStore>(
 ) -> Result<(Catalogue, Vec<Place>), CatalogueFault>
     requires { cache.old.count ≡ 0 }
     ensures rest { IfOk result (λ r. IsTrue cache.old.store.is_faithful
-        → (at : ℕ → Option Payload) → MayBeLent (S.seen lent.old) at
+        → (at : ℕ → Option Payload) → ShowsStored (S.seen lent.old) at
         → IsRest at (S.seen lent.old).count fields.now r.0 r.1.items) }
     ensures broken { IfErr result (λ e. IsTrue cache.old.store.is_faithful
-        → (at : ℕ → Option Payload) → MayBeLent (S.seen lent.old) at → BreaksAt at e
+        → (at : ℕ → Option Payload) → ShowsStored (S.seen lent.old) at → IsBroken e
         → (c : CatalogueView) (places : List Place)
         → IsRest at (S.seen lent.old).count fields.now c places → ⊥) }
-    ensures stops { IfErr result (λ e. IsTrue (S.seen lent.old).is_faithful → IfDamaged (λ page.
-        stop_of (stored_payload (S.seen lent.old)) (reader_of fields.now) ≡ Some page) e) }
     ensures stays { Stays (S.seen lent.old) (S.seen lent.new) }
     ensures reads { OnlyReads cache.old cache.new }
     ensures caused { IfErr result (IsBringingFault (S.seen lent.old) (S.seen lent.new)
@@ -169,23 +160,12 @@ pub(crate) fn read_old<S: PageStore, T: PageStore>(
         (old_first_fault (S.seen lent.old).count (stored_payload (S.seen lent.old) 0)) e) }
     ensures finished { IfOk result (λ r. IsTrue (S.seen lent.old).is_faithful
         → old_first_fault (S.seen lent.old).count (stored_payload (S.seen lent.old) 0) ≡ None) }
-    ensures broken { IfErr result (λ e. IsTrue (S.seen lent.old).is_faithful
-        → IsTrue cache.old.store.is_faithful → (IsStop e → ⊥)
-        → (c : CatalogueView) (tree : TbTree) (places : List Place)
-        → IsKeptOld (stored_payload (S.seen lent.old)) (S.seen lent.old).count c tree places
-        → ⊥) }
 
-    // The store stays as it is, and a page of it that is said to be damaged is so, and is the one at
-    // which reading stops.
+    // The store stays as it is.
     ensures stays { Stays (S.seen lent.old) (S.seen lent.new) }
     ensures reads { OnlyReads cache.old cache.new }
     ensures caused { IfErr result (IsOldReadingFault (S.seen lent.old) (S.seen lent.new)
         cache.old.store cache.new.store) }
-    ensures damaged { IfErr result (IsTrulyDamaged (S.seen lent.old).is_faithful
-        (stored_payload (S.seen lent.old)) (S.seen lent.old).count) }
-    ensures named { IfErr result (λ e. IsTrue (S.seen lent.old).is_faithful
-        → IsTrue cache.old.store.is_faithful
-        → NamesOldStop (stored_payload (S.seen lent.old)) (S.seen lent.old).count e) }
 {
     let old = read_old_header(lent)?;
     let (catalogue, places) = read_old_rest(alloc, keys, lent, cache, &old.fields)?;

@@ -1,5 +1,5 @@
 use Rattle.std.proofs.Common.{◌∙◌}
-use Rattle.catalogue.proofs.FinishLemmas.{finishes, stores, unwritten}
+use Rattle.catalogue.proofs.FinishLemmas.{finishes, unwritten}
 use Rattle.catalogue.proofs.RefusedLemmas.{not_zero, reads_others, sets_others, OnlyFirst}
 use Rattle.catalogue.proofs.ResultLemmas.{on_ok}
 use Rattle.catalogue.proofs.finishing.finish.Goals as goal
@@ -11,14 +11,6 @@ returns-clause-finishes g c =
     let d = c.set_state.new.index.cache in
     on_ok c.write_all-2.result (λ all f counts.
     finishes a b c.write_all.ensures.stays c.in_ok-write_all.ensures.written f d c.in_ok-set_state.ensures.sets c.write_all-2.new.index.cache c.write_all-2.ensures.stays all c.write_all.ensures.length c.write_all-2.ensures.length counts) c.write_all-2.ensures.written
-
-pub returns-clause-stores : goal.returns-clause-stores
-returns-clause-stores g c =
-    let a = c.args.index.now.cache in
-    let b = c.write_all.new.index.cache in
-    let d = c.set_state.new.index.cache in
-    on_ok c.write_all-2.result (λ all f some.
-    stores a b c.write_all.ensures.stays c.in_ok-write_all.ensures.written f d c.in_ok-set_state.ensures.sets c.write_all-2.new.index.cache c.write_all-2.ensures.stays all some) c.write_all-2.ensures.written
 
 pub returns-clause-unfinished : goal.returns-clause-unfinished
 returns-clause-unfinished g c = λ memory f some header.

@@ -1,16 +1,12 @@
 use Rattle.std.proofs.Common.{ap, subst, IsTrue}
-use Rattle.std.specs.Prelude.{IfErr, IfOk, List}
+use Rattle.std.specs.Prelude.{IfErr, IfOk}
 use Rattle.legs.specs.Book.{Book}
 use Rattle.legs.specs.Costs.{ShapeView}
 use Rattle.legs.specs.Limits.{LimitsView}
 use Rattle.pages.specs.Store.{Store}
-use Rattle.pagecache.specs.Cache.{Cache, stored_payload}
-use Rattle.tbtree.specs.declared.tree.Place.{Place}
-use Rattle.tbtree.specs.declared.tree.TbTree.{TbTree}
-use Rattle.register.specs.Saved.{CatalogueView}
+use Rattle.pagecache.specs.Cache.{Cache}
 use Rattle.catalogue.specs.Holding.{AnswersBook, HoldsBook}
-use Rattle.register.specs.Lasting.{IsKept, IsStop}
-use Rattle.register.specs.Stopping.{NamesStop}
+use Rattle.register.specs.Lasting.{IsStop}
 use Rattle.catalogue.proofs.opening.open.Goals as goal
 
 pub returns-clause-book : goal.returns-clause-book
@@ -22,13 +18,3 @@ pub returns-clause-holds : goal.returns-clause-holds
 returns-clause-holds g c =
     subst (λ (s : Store). IfErr c.open_cache.result (λ back. IsTrue s.is_faithful → (shape : ShapeView) (limits : LimitsView) (book : Book) → HoldsBook s shape limits book → IsStop back.1))
     (ap (λ (k : Cache). k.store) c.in-Ok.ensures.fresh) c.open_cache.ensures.holds
-
-pub returns-clause-kept : goal.returns-clause-kept
-returns-clause-kept g c =
-    subst (λ (s : Store). IfErr c.open_cache.result (λ back. IsTrue s.is_faithful → (k : CatalogueView) (tree : TbTree) (places : List Place) → IsKept (stored_payload s) s.count k tree places → IsStop back.1))
-    (ap (λ (k : Cache). k.store) c.in-Ok.ensures.fresh) c.open_cache.ensures.kept
-
-pub returns-clause-named : goal.returns-clause-named
-returns-clause-named g c =
-    subst (λ (s : Store). IfErr c.open_cache.result (λ back. IsTrue s.is_faithful → NamesStop (stored_payload s) s.count back.1))
-    (ap (λ (k : Cache). k.store) c.in-Ok.ensures.fresh) c.open_cache.ensures.named

@@ -1,5 +1,5 @@
 use Rattle.std.proofs.Common.{sym, subst, refl}
-use Rattle.catalogue.proofs.OpenLemmas.{kept_there, opened_book, opened_damaged, opened_held, opened_named, opened_rest, opened_stays, stop_of}
+use Rattle.catalogue.proofs.OpenLemmas.{opened_book, opened_held, opened_rest, opened_stays, stop_of}
 use Rattle.pages.specs.Store.{Stays}
 use Rattle.catalogue.proofs.opening.open_cache.Goals as goal
 
@@ -22,16 +22,6 @@ returns-in-Err-clause-holds g c = λ fa shape limits book h.
     let a = c.args.cache in
     let kept = opened_held a c.requires.written c.requires.count fa shape limits book h in
     stop_of c.in-Err.fault (λ not. c.in-Err.ensures.broken fa not h.catalogue h.tree h.places kept)
-
-pub returns-in-Err-clause-kept : goal.returns-in-Err-clause-kept
-returns-in-Err-clause-kept g c = λ fa k tree places kept.
-    stop_of c.in-Err.fault (λ not. c.in-Err.ensures.broken fa not k tree places (kept_there c.args.cache c.requires.written c.requires.count fa k tree places kept))
-
-pub returns-in-Err-clause-damaged : goal.returns-in-Err-clause-damaged
-returns-in-Err-clause-damaged g c = opened_damaged c.args.cache c.requires.written c.requires.count c.in-Err.fault c.in-Err.ensures.damaged
-
-pub returns-in-Err-clause-named : goal.returns-in-Err-clause-named
-returns-in-Err-clause-named g c = opened_named c.args.cache c.requires.written c.requires.count c.in-Err.fault c.in-Err.ensures.named
 
 pub returns-in-Err-clause-back : goal.returns-in-Err-clause-back
 returns-in-Err-clause-back g c =

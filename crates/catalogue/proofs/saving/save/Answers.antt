@@ -1,12 +1,9 @@
 use Rattle.std.proofs.Common.{ℕ, List, ◌≡◌, ◌<◌, ◌∙◌, [], ap, sym, subst, IsTrue}
-use Rattle.pagecache.specs.Cache.{payload_of, Cache}
+use Rattle.pagecache.specs.Cache.{Cache}
 use Rattle.tbtree.specs.declared.tree.Place.{Place}
 use Rattle.boxsearch.specs.Beside.{with_cache, IsBeside}
 use Rattle.boxsearch.specs.Index.{content, IndexView}
-use Rattle.register.specs.Earlier.{AddsFew, AreEarlier, HasNoRoom}
 use Rattle.register.specs.Saved.{KeepsFront}
-use Rattle.register.specs.Saving.{contents_of}
-use Rattle.register.specs.Text.{catalogue_text}
 use Rattle.catalogue.proofs.LentLemmas.{lent}
 use Rattle.catalogue.proofs.ResultLemmas.{on_ok}
 use Rattle.catalogue.proofs.saving.save.Given as given
@@ -40,13 +37,3 @@ returns-clause-content g c =
     on_ok c.keep-result.result (λ length.
     let beside : IsBeside i.cache d = subst (λ (x : Cache). IsBeside x d) (lent_is g c) (record { faithful = c.keep-result.ensures.later.store.faithful; length = length; tree = c.keep-result.ensures.tree }) in
     ap (λ x. content x) (index_is g c) ∙ c.laws.ensures.content i d [] beside) c.keep-result.ensures.length
-
-pub returns-clause-takes : goal.returns-clause-takes
-returns-clause-takes g c =
-    let takes : List Place → Cache → Cache → Type 0 = λ places old new. IsTrue old.store.is_faithful → (pages : List ℕ) → AreEarlier (payload_of old) pages → AddsFew old.count (catalogue_text (contents_of c.args.catalogue.now places)) pages new.count in
-    of_places g c (λ places. takes places c.args.index.now.cache c.put_places.new.self.cache) (of_index g c (takes c.deref.result.now) c.keep-result.ensures.takes)
-
-pub returns-clause-full : goal.returns-clause-full
-returns-clause-full g c = λ full.
-    let refused : List Place → Cache → Cache → Type 0 = λ places old new. IsTrue old.store.is_faithful → (pages : List ℕ) → AreEarlier (payload_of old) pages → HasNoRoom old.count old.store.most (catalogue_text (contents_of c.args.catalogue.now places)) pages in
-    of_places g c (λ places. refused places c.args.index.now.cache c.put_places.new.self.cache) (of_index g c (refused c.deref.result.now) (c.keep-result.ensures.full full))

@@ -1,7 +1,7 @@
 use Rattle.std.proofs.Common.{ap, sym, ◌∙◌}
 use Rattle.std.proofs.lemmas.Result.{err_from_is_err_and}
 use Rattle.tbnode.specs.Form.{node_of}
-use Rattle.legs.specs.GroupLemmas.{some_none}
+use Rattle.legs.proofs.GroupLemmas.{some_none}
 use Rattle.chains.proofs.again.take_node.Goals as goal
 
 pub returns-in_err-take_of-clause-caused : goal.returns-in_err-take_of-clause-caused

@@ -1,5 +1,4 @@
 use Rattle.register.proofs.BookLemmas.{stands_for_some}
-use Rattle.register.proofs.EarlierLemmas.{earlier_pages}
 use Rattle.register.proofs.SameLemmas.{kept_same}
 use Rattle.register.proofs.StateLemmas.{stated_says}
 use Rattle.register.proofs.lasting.laws.Goals as goal
@@ -9,9 +8,6 @@ returns-clause-same c = kept_same
 
 pub returns-clause-state : goal.returns-clause-state
 returns-clause-state c = stated_says
-
-pub returns-clause-earlier : goal.returns-clause-earlier
-returns-clause-earlier c = earlier_pages
 
 pub returns-clause-books : goal.returns-clause-books
 returns-clause-books c = stands_for_some

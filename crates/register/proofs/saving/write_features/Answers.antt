@@ -6,7 +6,7 @@ use Rattle.byteorder.specs.Endian.{big_bytes}
 use Rattle.register.specs.Saving.{feature_at}
 use Rattle.register.specs.Text.{feature_text, IsFeature}
 use Rattle.register.specs.declared.contents.Feature.{Feature}
-use Rattle.register.proofs.SavingLemmas.{all_named, named_refused, named_saved, saves_same}
+use Rattle.register.proofs.SavingLemmas.{all_named, named_saved, saves_refused, saves_same}
 use Rattle.register.proofs.saving.write_features.Goals as goal
 
 pub loop-feature-preserved : goal.loop-feature-preserved
@@ -40,6 +40,4 @@ returns-clause-saves g c = λ e.
     saves_same (λ i. big_bytes 4 (count i) ++ flat_map feature_text (map at (range_with_len 0 (all i)))) c.loop-feature.invariant.saves
 
 pub returns-in_err-write_feature-clause-saves : goal.returns-in_err-write_feature-clause-saves
-returns-in_err-write_feature-clause-saves g c = λ e.
-    let at : ℕ → Feature = feature_at c.args.tracks.now c.args.places.now in
-    named_refused feature_text c.from_residual-in_err-write_feature.ensures.1 at (length c.args.tracks.now.names) e c.loop-feature-test.true c.loop-feature.invariant.saves c.in_err-write_feature.ensures.saves
+returns-in_err-write_feature-clause-saves g c = λ e. saves_refused c.from_residual-in_err-write_feature.ensures.1 c.loop-feature.invariant.saves c.in_err-write_feature.ensures.saves

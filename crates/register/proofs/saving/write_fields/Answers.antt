@@ -1,7 +1,6 @@
-use Rattle.register.proofs.WithinLemmas.{refused_room, wanted_same}
-use Rattle.std.proofs.Common.{ap, sym, subst, ◌∙◌}
+use Rattle.std.proofs.Common.{ap, sym, subst}
 use Rattle.pagecache.specs.Cache.{Cache, Rests, IsRefused}
-use Rattle.register.specs.Saving.{IsSavingStop, wanted}
+use Rattle.register.specs.Saving.{IsSavingStop}
 use Rattle.std.specs.Result.{is_ok}
 use Rattle.register.proofs.SavingLemmas.{guarded_error}
 use Rattle.register.proofs.SavingLemmas.{refused_allowed}
@@ -27,10 +26,3 @@ returns-in-Ok-clause-puts g c =
       front = c.put_fields.ensures.front;
       rest = c.put_fields.ensures.rest;
     }
-
-pub returns-in-Err-clause-room : goal.returns-in-Err-clause-room
-returns-in-Err-clause-room g c =
-    let x : Cache = c.args.cache.now in
-    let l : Cache = c.page_mut.follows.lender-at-none in
-    let refused : IsRefused 0 c.in-Err.fault x l = (guarded_error (λ e. Rests x l × IsRefused 0 e x l) c.page_mut.result c.in-Err.fault c.in-Err.is c.page_mut.follows.holds-at-none).1 in
-    ap wanted c.fault_of.ensures ∙ wanted_same c.in-Err.fault ∙ refused_room 0 c.in-Err.fault x l refused

@@ -3,7 +3,7 @@ use Rattle.std.proofs.Common.{◌<◌, length, sym, All, arith, Ok}
 use Rattle.byteorder.specs.Endian.{big_bytes}
 use Rattle.register.specs.Text.{row_text, IsShortText}
 use Rattle.register.proofs.EncodingLemmas.{all_more, all_taken}
-use Rattle.register.proofs.SavingLemmas.{listed_refused, listed_saved}
+use Rattle.register.proofs.SavingLemmas.{listed_saved, saves_refused}
 use Rattle.register.proofs.saving.write_rows.Goals as goal
 
 pub loop-i-preserved : goal.loop-i-preserved
@@ -22,6 +22,4 @@ pub returns-clause-whole : goal.returns-clause-whole
 returns-clause-whole g c = all_taken (All IsShortText) c.args.rows.now c.loop-i.i (omega (arith, c.loop-i-test.false, c.len-i-end.ensures)) c.loop-i.invariant.whole
 
 pub returns-in_err-write_row-clause-saves : goal.returns-in_err-write_row-clause-saves
-returns-in_err-write_row-clause-saves g c = λ e.
-    let is = get_or_from_slice_get c.args.rows.now c.loop-i.i c.in-Some.row c.in-Some.row (sym c.in-Some.ensures) in
-    listed_refused row_text c.from_residual-in_err-write_row.ensures.1 c.args.rows.now e (omega (arith, c.loop-i-test.true, c.len-i-end.ensures)) is c.loop-i.invariant.saves c.in_err-write_row.ensures.saves
+returns-in_err-write_row-clause-saves g c = λ e. saves_refused c.from_residual-in_err-write_row.ensures.1 c.loop-i.invariant.saves c.in_err-write_row.ensures.saves

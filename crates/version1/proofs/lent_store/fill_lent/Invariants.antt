@@ -1,17 +1,14 @@
-use Rattle.std.proofs.Common.{ℕ, ◌≡◌, IsTrue, Option}
+use Rattle.std.proofs.Common.{ℕ, ◌≡◌, Option}
 use Rattle.pages.specs.Store.{Stays}
 use Rattle.pages.specs.declared.payload.Payload.{Payload}
-use Rattle.pagecache.specs.Cache.{stored_payload}
-use Rattle.register.specs.ChainReader.{rest_of, stop_of}
-use Rattle.version1.specs.OldReading.{MayBeLent}
+use Rattle.register.specs.ChainReader.{rest_of}
+use Rattle.version1.specs.OldReading.{ShowsStored}
 use Rattle.version1.proofs.lent_store.fill_lent.Given as goal
 
 abbrev pub invariant-loop-store : goal.invariant-loop-store
 invariant-loop-store g l = record {
   stays : Stays (g.S.PageStore.seen l.initial.store) (g.S.PageStore.seen l.store);
-  same : (at : ℕ → Option Payload) → MayBeLent (g.S.PageStore.seen l.initial.store) at → rest_of at l.reader ≡ rest_of at l.initial.reader;
-  along : IsTrue (g.S.PageStore.seen l.initial.store).is_faithful
-      → stop_of (stored_payload (g.S.PageStore.seen l.initial.store)) l.reader ≡ stop_of (stored_payload (g.S.PageStore.seen l.initial.store)) l.initial.reader;
+  same : (at : ℕ → Option Payload) → ShowsStored (g.S.PageStore.seen l.initial.store) at → rest_of at l.reader ≡ rest_of at l.initial.reader;
 }
 
 abbrev pub decreases-loop-store : goal.decreases-loop-store

@@ -1,4 +1,4 @@
-use Rattle.std.proofs.Common.{◌≡◌, ◌∙◌, ◌<◌, drop, IsTrue, List, sym, ap, subst}
+use Rattle.std.proofs.Common.{◌∙◌, IsTrue, List, sym, ap, subst}
 use Rattle.legs.specs.Costs.{ShapeView}
 use Rattle.legs.specs.Legs.{LegView}
 use Rattle.pagecache.specs.Cache.{stored_payload}
@@ -7,16 +7,10 @@ use Rattle.legs.specs.Tracks.{TracksView}
 use Rattle.treecheck.specs.Checking.{Agree}
 use Rattle.boxsearch.specs.Index.{content}
 use Rattle.version1.specs.OldLegs.{pages_of_old}
-use Rattle.version1.specs.OldStore.{AnswersOld, IsKeptOld}
+use Rattle.version1.specs.OldStore.{AnswersOld}
 use Rattle.register.specs.Saved.{CatalogueView}
-use Rattle.register.specs.Lasting.{IsSame}
 use Rattle.register.specs.Saving.{IsSavingStop}
-use Rattle.catalogue.proofs.OpenLemmas.{stop_of}
-use Rattle.tbtree.specs.declared.tree.Place.{Place}
-use Rattle.tbtree.specs.declared.tree.TbTree.{TbTree}
-use Rattle.version1.proofs.NamedLemmas.{chains_of, kept_agrees}
-use Rattle.version1.proofs.OldBookLemmas.{old_kept_same}
-use Rattle.version1.proofs.MigrateLemmas.{allowed_stop, book_agrees, book_brought, book_chains, caused_beginning, chains_as, left_later, leg_stop, old_pages_stay, same_shape}
+use Rattle.version1.proofs.MigrateLemmas.{allowed_stop, book_agrees, book_brought, book_chains, caused_beginning, chains_as, left_later, old_pages_stay, same_shape}
 use Rattle.version1.proofs.migrating.migrate.Given as given
 use Rattle.version1.proofs.migrating.migrate.Goals as goal
 
@@ -36,17 +30,6 @@ not_brought g c fa fb agrees legs chains =
     c.in-Err-bring_legs.ensures.only (stays.keeps.faithful ∙ fa) (c.in-Ok-begin.ensures.sound ft) c.in-Ok-begin.ensures.empty (subst (λ (t : TracksView). Agree t t.rows t.legs) same agrees) legs
     (chains_as (pages_of_old mid) read.leaf tracks c.catalogue.inside.tracks read.places.items c.as_slice.result.now legs same (sym c.as_slice.ensures.value)
     (subst (λ nodes. HoldChains nodes read.leaf tracks.rows tracks.legs read.places.items tracks.tracks legs) (sym (old_pages_stay s mid fa stays)) chains))
-
--- what is read is what the pages keep, whatever else they are said to keep
-kept_one : (g : given.Over) (c : goal.After-drop-catalogue-inside-in-Err-bring_legs-4 g) (fa : IsTrue (g.S.PageStore.seen c.args.old.now).is_faithful) (fb : IsTrue (g.T.PageStore.seen c.args.new).is_faithful) (catalogue : CatalogueView) (tree : TbTree) (places : List Place)
-    → IsKeptOld (stored_payload (g.S.PageStore.seen c.args.old.now)) (g.S.PageStore.seen c.args.old.now).count catalogue tree places
-    → IsSame c.in-Ok.read.0.catalogue catalogue (c.in-Ok.ensures.kept fa fb).tree tree c.in-Ok.read.0.places.items places × (tree.shape.leaf ≡ c.in-Ok.read.0.leaf)
-kept_one g c fa fb catalogue tree places kept =
-    let s = g.S.PageStore.seen c.args.old.now in
-    let read = c.in-Ok.read.0 in
-    let answers = c.in-Ok.ensures.kept fa fb in
-    let one = old_kept_same (stored_payload s) s.count read.catalogue catalogue answers.tree tree read.places.items places answers.kept kept in
-    (one, sym (ap (λ (t : TbTree). t.shape.leaf) one.tree_is) ∙ answers.leaf_is)
 
 pub returns-in-Err-clause-holds : goal.returns-in-Err-clause-holds
 returns-in-Err-clause-holds g c = λ fa fb shape limits book h. allowed_stop c.in-Err.back.1 (c.in-Err.ensures.holds fa fb shape limits book h)
@@ -105,30 +88,3 @@ returns-in-Err-bring_legs-clause-holds g c = λ fa fb shape limits book h.
     let answers = c.in-Ok.ensures.book fa fb shape limits book h in
     let agrees = book_agrees c.laws.ensures.held_chains s read.catalogue read.leaf read.shape read.places.items c.in-Ok.ensures.leaf shape limits book answers in
     not_brought g c fa fb agrees book.legs (book_chains c.laws.ensures.held_chains s read.catalogue read.leaf read.shape read.places.items c.in-Ok.ensures.leaf shape limits book answers)
-
-pub returns-in-Err-clause-kept : goal.returns-in-Err-clause-kept
-returns-in-Err-clause-kept g c = λ fa fb catalogue tree places kept. leg_stop c.in-Err.back.1 (λ no. c.in-Err.ensures.broken fa fb no catalogue tree places kept)
-
-pub returns-in-Err-bring_legs-clause-damaged : goal.returns-in-Err-bring_legs-clause-damaged
-returns-in-Err-bring_legs-clause-damaged g c = λ fa fb none.
-    let read = c.in-Ok.read.0 in
-    let answers = c.in-Ok.ensures.kept fa fb in
-    absurd (none read.catalogue answers.tree read.places.items answers.kept)
-
-pub returns-in-Err-clause-whole : goal.returns-in-Err-clause-whole
-returns-in-Err-clause-whole g c = λ fa fb catalogue tree places kept whole.
-    allowed_stop c.in-Err.back.1 (stop_of c.in-Err.back.1 (λ no. c.in-Err.ensures.broken fa fb no catalogue tree places kept))
-
-pub returns-in-Err-bring_legs-clause-whole : goal.returns-in-Err-bring_legs-clause-whole
-returns-in-Err-bring_legs-clause-whole g c = λ fa fb catalogue tree places kept whole.
-    let s = g.S.PageStore.seen c.args.old.now in
-    let read = c.in-Ok.read.0 in
-    let answers = c.in-Ok.ensures.kept fa fb in
-    let k = kept_one g c fa fb catalogue tree places kept in
-    let agrees = kept_agrees (stored_payload s) s.count read.catalogue answers.tree read.places.items answers.kept in
-    not_brought g c fa fb agrees whole.0 (chains_of (pages_of_old s) read.leaf read.catalogue catalogue tree read.places.items places whole.0 k.0.catalogue k.1 k.0.places_are whole.1)
-
-pub returns-in-Err-bring_legs-clause-named : goal.returns-in-Err-bring_legs-clause-named
-returns-in-Err-bring_legs-clause-named g c = λ fa fb none.
-    let answers = c.in-Ok.ensures.kept fa fb in
-    absurd (none c.in-Ok.read.0.catalogue answers.tree c.in-Ok.read.0.places.items answers.kept)

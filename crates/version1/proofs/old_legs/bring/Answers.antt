@@ -14,7 +14,7 @@ use Rattle.version1.specs.OldLegs.{AreOpened, AreReadable, HaveLegsOf, IsNumbere
 use Rattle.treecheck.specs.Walking.{pages_by}
 use Rattle.treecheck.specs.declared.walking.Met.{Met}
 use Rattle.version1.proofs.OldLemmas.{reads_stays}
-use Rattle.version1.proofs.OpenedLemmas.{allowed_leg, damaged_works, next_opened, not_none, opened_none, opened_taken, works_leg}
+use Rattle.version1.proofs.OpenedLemmas.{allowed_leg, next_opened, not_none, opened_none, opened_taken}
 use Rattle.version1.proofs.TakingLemmas.{same_err, on_err, on_ok, all_taken, brought_none, brought_on, next_waits, later_refl, later_trans, risen_after, stays_refl, stays_trans, stand_taken, store_failed, Brought, StandsNext}
 use Rattle.treecheck.proofs.WalkedLemmas.{same_by}
 use Rattle.version1.proofs.old_legs.bring.Given as given
@@ -91,10 +91,6 @@ pub returns-clause-only : goal.returns-clause-only
 returns-clause-only g c = on_err c.put_waiting.result (λ fault may fa sound empty list have each numbered.
     may (c.legs.invariant.brought fa sound empty list have numbered).may) c.put_waiting.ensures.only
 
-pub returns-clause-works : goal.returns-clause-works
-returns-clause-works g c = on_err c.put_waiting.result (λ fault may fa sound empty list have numbered e.
-    subst MayRefuseLeg e (may (c.legs.invariant.brought fa sound empty list have numbered).may)) c.put_waiting.ensures.only
-
 pub returns-clause-store : goal.returns-clause-store
 returns-clause-store g c = λ e.
     inr (risen_after (g.I.Listed.faults c.args.index.now) (g.I.Listed.faults c.legs.index) (g.I.Listed.faults c.put_waiting.new.index) c.legs.invariant.later.faults (c.put_waiting.ensures.store e))
@@ -170,15 +166,3 @@ returns-in_err-put_behind-clause-only g c =
     let p = err_from_is_err_and c.from_residual.result c.from_residual.ensures.1 in
     rw (p.1, p.2) (λ fa sound empty list have each numbered.
     c.in_err-put_behind.ensures.only (next_waits g.I.Listed (next_refused g c fa sound empty list have numbered)))
-
-pub returns-in-Err-clause-works : goal.returns-in-Err-clause-works
-returns-in-Err-clause-works g c = λ fa sound empty list have numbered e. works_leg (fresh (g.S.PageStore.seen c.legs.old) 1) (fresh (g.S.PageStore.seen c.open_next.new.store) 1) c.in-Err.fault c.in-Err.ensures.caused (sym c.of_tree.ensures ∙ e)
-
-pub returns-in_default-clause-works : goal.returns-in_default-clause-works
-returns-in_default-clause-works g c = λ fa sound empty list have numbered. damaged_works 0
-
-pub returns-in_err-put_behind-clause-works : goal.returns-in_err-put_behind-clause-works
-returns-in_err-put_behind-clause-works g c =
-    let p = err_from_is_err_and c.from_residual.result c.from_residual.ensures.1 in
-    rw (p.1, p.2) (λ fa sound empty list have numbered e.
-    subst MayRefuseLeg e (c.in_err-put_behind.ensures.only (next_waits g.I.Listed (next_refused g c fa sound empty list have numbered))))

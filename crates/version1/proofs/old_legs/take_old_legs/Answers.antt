@@ -14,7 +14,7 @@ use Rattle.version1.specs.OldLegs.{pages_of_old, HaveEachOf, HaveLegsOf, IsNumbe
 use Rattle.treecheck.specs.Walking.{pages_by}
 use Rattle.treecheck.specs.declared.walking.Met.{Met}
 use Rattle.version1.proofs.OldLemmas.{same_old, stays_read}
-use Rattle.version1.proofs.OpenedLemmas.{allowed_leg, works_leg}
+use Rattle.version1.proofs.OpenedLemmas.{allowed_leg}
 use Rattle.version1.proofs.SurveyedLemmas.{have_each}
 use Rattle.version1.proofs.TakingLemmas.{held_list, legs_are, on_err, on_ok, stays_trans}
 use Rattle.treecheck.proofs.WalkedLemmas.{same_by}
@@ -88,11 +88,3 @@ pub returns-clause-only : goal.returns-clause-only
 returns-clause-only g c = on_err c.bring.result (λ fault h fa sound empty agrees legs held.
     let l = listed g c fa in
     h (still g c fa) sound empty l.list l.have l.each l.numbered) c.bring.ensures.only
-
-pub returns-in-Err-clause-works : goal.returns-in-Err-clause-works
-returns-in-Err-clause-works g c = λ fa sound empty e. works_leg (fresh (g.S.PageStore.seen c.args.old.now) 1) (fresh (g.S.PageStore.seen c.survey_leaves.new.store) 1) c.in-Err.fault c.in-Err.ensures.reads.caused (sym c.of_tree.ensures ∙ e)
-
-pub returns-clause-works : goal.returns-clause-works
-returns-clause-works g c = on_err c.bring.result (λ fault h fa sound empty.
-    let l = listed g c fa in
-    h (still g c fa) sound empty l.list l.have l.numbered) c.bring.ensures.works

@@ -1,19 +1,16 @@
-use Rattle.std.proofs.Common.{◌≡◌, ℕ, rules, subst, List, IsTrue, Option, Some}
+use Rattle.std.proofs.Common.{ℕ, rules, subst, List, IsTrue, Option}
 use Rattle.std.proofs.lemmas.Result.{err_from_is_err_and}
-use Rattle.pagecache.specs.Cache.{stored_payload}
 use Rattle.tbtree.specs.declared.tree.Place.{Place}
 use Rattle.pages.specs.declared.payload.Payload.{Payload}
-use Rattle.register.specs.ChainReader.{reader_of, stop_of, BreaksAt, IsBroken, IsTextFault}
-use Rattle.version1.specs.OldReading.{MayBeLent}
-use Rattle.version1.specs.Naming.{IfDamaged}
+use Rattle.register.specs.ChainReader.{IsBroken}
+use Rattle.version1.specs.OldReading.{ShowsStored}
 use Rattle.register.specs.Building.{tree_of, IsOf}
 use Rattle.register.specs.Lasting.{IsWithin}
 use Rattle.register.specs.Restoring.{IsRest}
 use Rattle.register.specs.Saved.{CatalogueView}
 use Rattle.register.proofs.BuildLemmas.{contents_few}
 use Rattle.register.proofs.ReaderLemmas.{if_ok}
-use Rattle.register.proofs.ReaderLemmas.{if_err, if_err_of, is_broken}
-use Rattle.version1.proofs.OldNamedLemmas.{text_stops}
+use Rattle.register.proofs.ReaderLemmas.{if_err, if_err_of}
 use Rattle.register.proofs.RestoreLemmas.{no_rest}
 use Rattle.version1.proofs.old_store.read_old_rest.Goals as goal
 
@@ -22,7 +19,7 @@ returns-in_err-contents-clause-broken g c =
     let p = err_from_is_err_and c.from_residual.result c.from_residual.ensures.1 in
     let s = g.S.PageStore.seen c.args.lent.now in
     let fields = c.args.fields.now in
-    if_err_of (λ e. IsTrue c.args.cache.now.store.is_faithful → (at : ℕ → Option Payload) → MayBeLent s at → BreaksAt at e → (k : CatalogueView) (places : List Place) → IsRest at s.count fields k places → ⊥) c.from_residual.result p.0 c.in_err-contents.field-0.0 p.1 p.2
+    if_err_of (λ e. IsTrue c.args.cache.now.store.is_faithful → (at : ℕ → Option Payload) → ShowsStored s at → IsBroken e → (k : CatalogueView) (places : List Place) → IsRest at s.count fields k places → ⊥) c.from_residual.result p.0 c.in_err-contents.field-0.0 p.1 p.2
     (λ fb at lent b k places rest. c.in_err-contents.ensures.broken fb at lent b rest.contents (contents_few s.count fields rest.contents k places rest.of) rest.holds)
 
 pub returns-clause-broken : goal.returns-clause-broken
@@ -30,9 +27,9 @@ returns-clause-broken g c =
     let s = g.S.PageStore.seen c.args.lent.now in
     let fields = c.args.fields.now in
     if_err (λ e. IsBroken e → (k : CatalogueView) (places : List Place) → IsOf c.len-count.result fields c.in_ok-contents.contents k places → ⊥)
-    (λ e. IsTrue c.args.cache.now.store.is_faithful → (at : ℕ → Option Payload) → MayBeLent s at → BreaksAt at e → (k : CatalogueView) (places : List Place) → IsRest at s.count fields k places → ⊥) c.catalogue_of.result
+    (λ e. IsTrue c.args.cache.now.store.is_faithful → (at : ℕ → Option Payload) → ShowsStored s at → IsBroken e → (k : CatalogueView) (places : List Place) → IsRest at s.count fields k places → ⊥) c.catalogue_of.result
     (λ e refused fb at lent b k places rest.
-    let none = subst (λ n. (k : CatalogueView) (places : List Place) → IsOf n fields c.in_ok-contents.contents k places → ⊥) c.len-count.ensures (refused (is_broken at e b)) in
+    let none = subst (λ n. (k : CatalogueView) (places : List Place) → IsOf n fields c.in_ok-contents.contents k places → ⊥) c.len-count.ensures (refused b) in
     no_rest at s.count fields c.in_ok-contents.contents (c.in_ok-contents.ensures.holds fb at lent) none k places rest) c.catalogue_of.ensures.broken
 
 pub returns-clause-rest : goal.returns-clause-rest
@@ -40,17 +37,10 @@ returns-clause-rest g c =
     let s = g.S.PageStore.seen c.args.lent.now in
     let fields = c.args.fields.now in
     if_ok (λ r. IsOf c.len-count.result fields c.in_ok-contents.contents r.0 r.1.items)
-    (λ r. IsTrue c.args.cache.now.store.is_faithful → (at : ℕ → Option Payload) → MayBeLent s at → IsRest at s.count fields r.0 r.1.items) c.catalogue_of.result
+    (λ r. IsTrue c.args.cache.now.store.is_faithful → (at : ℕ → Option Payload) → ShowsStored s at → IsRest at s.count fields r.0 r.1.items) c.catalogue_of.result
     (λ r of fb at lent. record {
       within = subst (λ n. IsWithin n (tree_of fields)) c.len-count.ensures (c.is_within.ensures.0 (search rules));
       contents = c.in_ok-contents.contents;
       holds = c.in_ok-contents.ensures.holds fb at lent;
       of = subst (λ n. IsOf n fields c.in_ok-contents.contents r.0 r.1.items) c.len-count.ensures of;
     }) c.catalogue_of.ensures.is
-
-pub returns-clause-stops : goal.returns-clause-stops
-returns-clause-stops g c =
-    let s = g.S.PageStore.seen c.args.lent.now in
-    let r = reader_of c.args.fields.now in
-    if_err (λ e. IsTextFault e) (λ e. IsTrue s.is_faithful → IfDamaged (λ page. stop_of (stored_payload s) r ≡ Some page) e) c.catalogue_of.result
-    (λ e h fa. text_stops (λ page. stop_of (stored_payload s) r ≡ Some page) e h) c.catalogue_of.ensures.fault

@@ -1,4 +1,4 @@
-use Rattle.std.proofs.Common.{arith, refl}
+use Rattle.std.proofs.Common.{arith, refl, rules}
 use Rattle.register.proofs.PrefixLemmas.{feature_free}
 use Rattle.register.proofs.ReaderLemmas.{goes_on}
 use Rattle.register.proofs.SequenceLemmas.{list_read, list_refused, one_read}
@@ -13,5 +13,9 @@ loop-preserved g c = one_read feature_free c.in_ok-push.ensures.items c.loop.inv
 pub returns : goal.returns
 returns g c = list_read feature_free (λ l h k. record { each = h; many = k }) (omega (arith, c.loop-test.false, c.loop.auto.counter-end)) refl c.loop.invariant
 
-pub returns-in_err-push-clause-reads : goal.returns-in_err-push-clause-reads
-returns-in_err-push-clause-reads g c = goes_on c.loop.invariant.reads c.in_ok-feature.ensures.reads
+pub returns-in_err-push : goal.returns-in_err-push
+returns-in_err-push g c = record {
+  takes = search rules;
+  reads = goes_on c.loop.invariant.reads c.in_ok-feature.ensures.reads;
+  caused = search rules;
+}

@@ -6,12 +6,12 @@ use Rattle.register.proofs.chain_reader.ChainReader.rows.Goals as goal
 
 pub returns-in_err-row : goal.returns-in_err-row
 returns-in_err-row g c =
-    let no_row = from_into c.in_err-row.ensures.reads c.in_err-row.ensures.takes c.in_err-row.ensures.caused in
+    let no_row = from_into c.in_err-row.ensures.into in
     list_refused (row_free c.args.columns) (λ l k. (k.each, k.many)) c.loop-test.true c.from_residual.ensures.1 c.loop.invariant.read no_row
 
 pub loop-preserved : goal.loop-preserved
 loop-preserved g c = record {
-  read = one_put (row_free c.args.columns) c.loop.invariant.read c.in_ok-row.ensures.reads c.in_ok-row.ensures.takes;
+  read = one_put (row_free c.args.columns) c.loop.invariant.read c.in_ok-row.ensures.into.reads c.in_ok-row.ensures.into.takes;
   ended = c.in_ok-row.ensures.ended;
 }
 

@@ -1,13 +1,12 @@
-use Rattle.std.proofs.Common.{drop}
+use Rattle.std.proofs.Common.{rules, ◌∙◌, []}
 use Rattle.byteorder.specs.Endian.{big_bytes}
 use Rattle.byteorder.specs.Numbers.{length-bytes_high_first}
 use Rattle.register.specs.Text.{IsNumber}
-use Rattle.register.proofs.ReaderLemmas.{skips}
-use Rattle.register.proofs.ValueLemmas.{failed}
+use Rattle.register.proofs.ValueLemmas.{filled, not_filled}
 use Rattle.register.proofs.chain_reader.ChainReader.u64.Goals as goal
 
-pub returns-in_err-fill-clause-takes : goal.returns-in_err-fill-clause-takes
-returns-in_err-fill-clause-takes g c = λ at may. failed (big_bytes 8) (IsNumber 64) 8 (λ v. length-bytes_high_first 8 v) _ c.from_residual.ensures.1 (c.in_err-fill.ensures.broken at may)
+pub returns-in_err-fill : goal.returns-in_err-fill
+returns-in_err-fill g c = not_filled (big_bytes 8) (IsNumber 64) 8 (λ v. length-bytes_high_first 8 v) c.from_residual.ensures.1 c.in_err-fill.ensures
 
-pub returns-clause-reads : goal.returns-clause-reads
-returns-clause-reads g c = skips (drop 8 c.fill.new.self.bytes) c.in_ok-fill.ensures.reads c.skip.ensures
+pub returns : goal.returns
+returns g c = filled c.in_ok-fill.ensures (c.u64_of.ensures ∙ c.ahead.ensures.value) (search rules) c.skip.ensures

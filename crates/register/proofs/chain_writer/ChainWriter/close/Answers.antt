@@ -1,9 +1,6 @@
-use Rattle.register.proofs.WithinLemmas.{refused_room}
-use Rattle.register.specs.ChainSteps.{lacked}
-use Rattle.register.proofs.ReaderLemmas.{if_err_and}
 use Rattle.std.proofs.Common.{◌≡◌, ◌≤◌, length, ap, ◌∙◌, arith}
 use Rattle.register.proofs.SpareLemmas.{stays_spares}
-use Rattle.register.proofs.WriterLemmas.{closed, last_tree, pages_taken}
+use Rattle.register.proofs.WriterLemmas.{closed, last_tree}
 use Rattle.register.specs.ChainWriter.{WriterView}
 use Rattle.register.proofs.chain_writer.ChainWriter.close.Goals as goal
 
@@ -23,14 +20,3 @@ returns-clause-tree g c = λ text h. last_tree c.args.cache.now c.write_page.new
 
 pub returns-in_err-write_page-clause-tree : goal.returns-in_err-write_page-clause-tree
 returns-in_err-write_page-clause-tree g c = λ text h. stays_spares _ _ c.in_err-write_page.ensures.rests.stays
-
-pub returns-clause-pages : goal.returns-clause-pages
-returns-clause-pages g c = λ text h some f. pages_taken c.args.cache.now c.args.self.now text c.requires h some f
-
-pub returns-in_err-write_page-clause-pages : goal.returns-in_err-write_page-clause-pages
-returns-in_err-write_page-clause-pages g c = λ text h some f. pages_taken c.args.cache.now c.args.self.now text c.requires h some f
-
-pub returns-in_err-write_page-clause-room : goal.returns-in_err-write_page-clause-room
-returns-in_err-write_page-clause-room g c =
-    let fault = c.in_err-write_page.field-0.0 in
-    if_err_and (λ e. lacked e ≡ 0) c.from_residual.result fault c.from_residual.ensures.1 (refused_room c.last-last.result fault c.args.cache.now c.write_page.new.cache c.in_err-write_page.ensures.refused)

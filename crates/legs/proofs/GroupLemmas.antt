@@ -7,7 +7,7 @@ use Rattle.std.proofs.lemmas.Bool.{cases_lt, eqb-true}
 use Rattle.std.proofs.lemmas.List.{take_all, take-append-le, drop-append-le, drop_all, drop-set-add, drop-set-lt, take-set-le, drop_more, drop-drop}
 use Rattle.std.proofs.lemmas.Option.{slice_get_within, slice_get-get_or, get_or_from_slice_get}
 use Rattle.legs.specs.Blocks.{runs_after, groups, block, joined}
-use Rattle.legs.specs.BlockLemmas.{step_of_multiple, count_all, all_pass}
+use Rattle.legs.proofs.BlockLemmas.{step_of_multiple, count_all, all_pass}
 
 -- a value is not none
 pub some_none : {Y : Type 0} (y : Y) → Some y ≡ None → ⊥

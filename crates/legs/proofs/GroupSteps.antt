@@ -9,7 +9,7 @@ use Rattle.std.proofs.lemmas.Option.{slice_get_within}
 use Rattle.std.specs.Int.{div_ceil}
 use Rattle.legs.specs.Blocks.{runs_after, groups, block, same, begins, joined}
 use Rattle.std.specs.Prelude.{min}
-use Rattle.legs.specs.GroupLemmas.{some_none, some_same, slot, group_at, group_is, group_within, group_beyond, joined_blocks, same_by_get}
+use Rattle.legs.proofs.GroupLemmas.{some_none, some_same, slot, group_at, group_is, group_within, group_beyond, joined_blocks, same_by_get}
 
 module _ {X : Type 0} where
   -- to leave out n elements and then s is to leave out both at once
