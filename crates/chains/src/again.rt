@@ -28,7 +28,7 @@ fn fits(leaf: &UntestedLeaf<'_>, link: &Link, spot: &Spot) -> bool
 }
 
 /// Whether the first leg of a leaf starts before the period, where there is one; none where it has no such leg.
-fn is_end(leaf: &UntestedLeaf<'_>, period: &Option<Period>) -> Option<bool>
+pub(crate) fn is_end(leaf: &UntestedLeaf<'_>, period: &Option<Period>) -> Option<bool>
     ensures { OfLeaf leaf.now (λ view. result ≡ Some (is_end period.now view.legs)) }
 {
     prove!(leaf.len() > 0);

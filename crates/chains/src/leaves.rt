@@ -134,7 +134,8 @@ fn take_node(
 }
 
 /// Takes what is wanted of the legs of the leaf that the link leads to, which is to have that spot, makes its span known,
-/// and gives the link to the leaf before it; none where nothing before is kept. So many leaves after it were passed.
+/// and gives the link to the leaf before it; none where nothing before is kept. So many leaves after it were passed. Other
+/// leaves that are asked for soon may come into memory with it.
 pub(crate) fn take<S: PageStore>(
     cache: &mut PageCache<S>,
     link: &Link,
@@ -143,6 +144,7 @@ pub(crate) fn take<S: PageStore>(
     found: &mut Vec<Leg>,
     spans: &mut Vec<LeafSpan>,
     passed: usize,
+    beside: &[u32],
 ) -> Result<Option<Link>, TreeFault>
     ensures taken { IsTrue cache.old.store.is_faithful
         → IfOk result (TakesPage (pages_of_cache cache.old) link.now spot.now want.now.period
@@ -159,7 +161,7 @@ pub(crate) fn take<S: PageStore>(
     if link.page == 0 {
         return Err(TreeFault::Malformed(0));
     }
-    let payload = match cache.page(link.page) {
+    let payload = match cache.page_ahead(link.page, beside) {
         Ok(payload) => payload,
         Err(fault) => return Err(TreeFault::of(fault, link.page)),
     };

@@ -2,6 +2,7 @@
 #![tactic(auto)]
 
 mod again;
+mod beside;
 mod kept;
 mod leaves;
 mod retrieval;

@@ -22,6 +22,7 @@ ghost use Rattle.chains.specs.Trajectory.{HasFeature};
 ghost use Rattle.chains.specs.declared.spans.LeafSpan.{LeafSpan};
 
 use crate::again::take_again;
+use crate::beside::beside;
 use crate::kept::Want;
 use crate::leaves::{Link, spot_of, take};
 use crate::spans::{LeafSpan, Passing, pass};
@@ -49,6 +50,17 @@ struct Cursor {
     link: Link,
     left: u64,
     passed: usize,
+}
+
+/// The leaves of other features that are asked for soon, where the one at a cursor is not in memory and there is room for
+/// the leaves of ten such features. A walk without a period is of one feature alone.
+fn others<S: PageStore>(cache: &PageCache<S>, place: &Place, at: &Cursor, want: &Want) -> [u32; 7] {
+    let leaves = at.left.saturating_add(at.passed as u64);
+    let room = (cache.capacity() / 10) as u64;
+    if want.period.is_none() || leaves >= room || cache.peek(at.link.page).is_some() {
+        return [u32::MAX; 7];
+    }
+    beside(cache, place.last, at.passed, &want.period)
 }
 
 /// Takes what is wanted of the leaf at a cursor, of the chain of a place in leaves of `most` legs, and gives the link to
@@ -91,7 +103,10 @@ fn step<S: PageStore>(
             if at.passed < spans.len() {
                 take_again(cache, &at.link, &spot, want, found)
             } else {
-                take(cache, &at.link, &spot, want, found, spans, at.passed)
+                let others = others(cache, place, at, want);
+                take(
+                    cache, &at.link, &spot, want, found, spans, at.passed, &others,
+                )
             }
         }
     }

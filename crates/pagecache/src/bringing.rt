@@ -12,6 +12,22 @@ use pages::{PageStore, unseal_with};
 /// From how many pages on eight are read at once. Fewer cost less one by one.
 const FEW: usize = 4;
 
+/// How many of the next pages are looked at for some to bring.
+const REACH: usize = 32;
+
+/// The numbers of the seven pages behind a page.
+pub fn behind(page: u32) -> [u32; 7] {
+    [
+        page.saturating_add(1),
+        page.saturating_add(2),
+        page.saturating_add(3),
+        page.saturating_add(4),
+        page.saturating_add(5),
+        page.saturating_add(6),
+        page.saturating_add(7),
+    ]
+}
+
 /// Eight pages of zero bytes.
 fn blanks() -> [[u8; 4096]; 8] {
     [[0; 4096]; 8]
@@ -203,6 +219,71 @@ impl<S: PageStore> Slots<S> {
             Ok(()) => Ok(()),
             Err(fault) => Err(fault),
         }
+    }
+
+    /// A page, and up to seven of the next ones that are there and not in memory. Behind them stands
+    /// a number that no page has.
+    fn absent_from(&self, number: u32, next: &[u32]) -> [u32; 8] {
+        let mut numbers = [u32::MAX; 8];
+        numbers[0] = number;
+        let mut found = 1;
+        for other in &next[..next.len().min(REACH)] {
+            if found < 8 && self.is_absent(*other) {
+                numbers[found] = *other;
+                found += 1;
+            }
+        }
+        numbers
+    }
+
+    /// Notes which page is likely to be asked for after a page, where there is memory for it.
+    pub(crate) fn note_next(&mut self, number: u32, next: u32)
+        ensures { seen_of S.seen self.new ≡ seen_of S.seen self.old }
+    {
+        let place = number as usize;
+        if number < self.count && place >= self.followers.len() {
+            let _ = self.followers.resize(self.count as usize, u32::MAX);
+        }
+        if let Some(noted) = self.followers.get_mut(place) {
+            *noted = next;
+        }
+    }
+
+    /// The page that is noted to come after a page; where none is, a number that no page has.
+    pub(crate) fn follower(&self, number: u32) -> u32 {
+        match self.followers.get(number as usize) {
+            Some(next) => *next,
+            None => u32::MAX,
+        }
+    }
+
+    /// Pages that are noted to come after a page that is not in memory, one after the other; none
+    /// after one that is. In place of one that is not noted stands a number that no page has.
+    pub(crate) fn noted_after(&self, number: u32) -> [u32; 7] {
+        let mut pages = [u32::MAX; 7];
+        if !self.is_absent(number) {
+            return pages;
+        }
+        let mut at = number;
+        for place in 0..7 {
+            at = self.follower(at);
+            pages[place] = at;
+        }
+        pages
+    }
+
+    /// Brings a page that is not in memory with the next ones that are not, where there is room for
+    /// sixteen. What it does not bring is left to its own ask.
+    pub(crate) fn look_ahead(&mut self, number: u32, next: &[u32])
+        requires { IsSound (seen_of S.seen self.old) }
+        ensures steps { Steps (seen_of S.seen self.old) (seen_of S.seen self.new) }
+        ensures length { SameLength (seen_of S.seen self.old) (seen_of S.seen self.new) }
+    {
+        if next.is_empty() || self.held.cap().get() < 16 || !self.is_absent(number) {
+            return;
+        }
+        let numbers = self.absent_from(number, next);
+        let _ = self.bring_eight(&numbers);
     }
 
     /// Brings those of some pages into memory that are there and not in memory, eight at a time,

@@ -65,7 +65,20 @@ impl<S: PageStore> PageCache<S> {
         // A number at or above the count is `NoPage`.
         ensures no_page { self.old.count ≤ number → result ≡ Err CacheFault.NoPage }
     {
-        self.slots.ready(number)?;
+        self.slots.ready(number, &[])?;
+        Ok(self.slots.first())
+    }
+
+    /// A page, to read, as `page` lends it. `next` are pages that are asked for soon: where the page
+    /// is not in memory, up to seven of them that are not there come with it.
+    pub fn page_ahead(&mut self, number: u32, next: &[u32]) -> Result<&Payload, CacheFault>
+        ensures* rests { sem 𝓛 (ShowsPage S.row S.PageStore self.entry number result) }
+        ensures value { IfOk result (λ page. IsTrue self.old.store.is_faithful
+            → payload_of self.old number ≡ Some page.now) }
+        ensures below { OnOk result (number < self.old.count) }
+        ensures no_page { self.old.count ≤ number → result ≡ Err CacheFault.NoPage }
+    {
+        self.slots.ready(number, next)?;
         Ok(self.slots.first())
     }
 
@@ -209,6 +222,34 @@ impl<S: PageStore> PageCache<S> {
         ensures cause { IfErr result (λ fault. IsStopped fault self.old self.new) }
     {
         self.slots.bring(numbers)
+    }
+
+    /// Notes that `next` is likely to be asked for after a page, for `noted_after`. No contract says
+    /// what was noted.
+    pub fn note_next(&mut self, number: u32, next: u32)
+        ensures { self.new ≡ self.old }
+    {
+        self.slots.note_next(number, next)
+    }
+
+    /// The page that was noted to come after a page; where none was, a number that no page has.
+    pub fn follower(&self, number: u32) -> u32 {
+        self.slots.follower(number)
+    }
+
+    /// Where a page is not in memory, those that were noted to come after it, one after the other.
+    pub fn noted_after(&self, number: u32) -> [u32; 7] {
+        self.slots.noted_after(number)
+    }
+
+    /// A page's payload, where it is in memory, without an ask. No contract says what it gives.
+    pub fn peek(&self, number: u32) -> Option<&Payload> {
+        self.slots.peek(number)
+    }
+
+    /// How many pages may be in memory.
+    pub fn capacity(&self) -> usize {
+        self.slots.held.cap().get()
     }
 
     /// Whether a page is in memory and not as it was last written.

@@ -10,6 +10,7 @@ mod fault;
 mod slots;
 mod writing;
 
+pub use bringing::behind;
 pub use cache::PageCache;
 pub use fault::CacheFault;
 pub use std::alloc::AllocError as Memory;

@@ -27,6 +27,8 @@ pub struct Slots<S> {
     pub(crate) held: LruCache<u32, Held>,
     pub(crate) count: u32,
     pub(crate) asked: u64,
+    /// The page that is likely to be asked for after each one.
+    pub(crate) followers: Vec<u32>,
     alloc: Global,
 }
 
@@ -38,6 +40,7 @@ impl<S: Drop> Drop for Slots<S> {
             held,
             count,
             asked,
+            followers,
             alloc,
         } = self;
     }
@@ -68,6 +71,7 @@ impl<S: PageStore> Slots<S> {
                 held,
                 count,
                 asked: 0,
+                followers: Vec::new(alloc),
                 alloc,
             }),
             Err(error) => Err((store, error)),
@@ -83,6 +87,7 @@ impl<S: PageStore> Slots<S> {
             held,
             count,
             asked,
+            followers,
             alloc,
         } = self;
         store
@@ -199,8 +204,9 @@ impl<S: PageStore> Slots<S> {
         }
     }
 
-    /// Counts one ask, and makes the page the one that was used last.
-    pub(crate) fn ready(&mut self, number: u32) -> Result<(), CacheFault>
+    /// Counts one ask, and makes the page the one that was used last. Some others that are asked for
+    /// next may come with it.
+    pub(crate) fn ready(&mut self, number: u32, next: &[u32]) -> Result<(), CacheFault>
         requires { IsSound (seen_of S.seen self.old) }
         ensures sound { IsSound (seen_of S.seen self.new) }
         ensures stays { KeepsPayloads (seen_of S.seen self.old) (seen_of S.seen self.new) }
@@ -217,6 +223,7 @@ impl<S: PageStore> Slots<S> {
         if number >= self.count {
             return Err(CacheFault::NoPage);
         }
+        self.look_ahead(number, next);
         self.load(number)
     }
 
@@ -239,13 +246,21 @@ impl<S: PageStore> Slots<S> {
         ensures below { OnOk result (number < self.old.count) }
         ensures no_page { self.old.count ≤ number → result ≡ Err CacheFault.NoPage }
     {
-        self.ready(number)?;
+        self.ready(number, &[])?;
         match self.held.get_mut(&number) {
             Some(held) => {
                 held.changed = true;
                 Ok(&mut *held.payload)
             }
             None => unreachable!(),
+        }
+    }
+
+    /// A page's payload, where it is in memory.
+    pub(crate) fn peek(&self, number: u32) -> Option<&Payload> {
+        match self.held.peek(&number) {
+            Some(held) => Some(&*held.payload),
+            None => None,
         }
     }
 

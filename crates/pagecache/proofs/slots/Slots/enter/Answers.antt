@@ -34,7 +34,7 @@ returns-in-Ok-put-clause-adds g c =
     let n = c.args.self.now.count in
     let absent : in_memory old n ≡ None = none_beyond old n (in_memory old n) c.requires.sound (omega arith) refl in
     let held = ap (λ (h : LruCache ℕ Held). h.entries) c.in-Ok-put.ensures.entries ∙ put_as c.args.self.now.held n _ absent in
-    let new = seen_of g.S.PageStore.seen (record { store = c.write.new.self; held = c.put.new.self; count = n + 1; asked = c.args.self.now.asked; alloc = c.args.self.now.alloc }) in
+    let new = seen_of g.S.PageStore.seen (record { store = c.write.new.self; held = c.put.new.self; count = n + 1; asked = c.args.self.now.asked; followers = c.args.self.now.followers; alloc = c.args.self.now.alloc }) in
     subst (λ (p : Payload). Adds p old new) c.in-Ok.ensures.ok
     (entered old new n _ _ c.requires.sound (g.met.S.PageStore.lawful c.args.self.now.store) refl refl c.in-Ok-write.ensures.written (taken old _ n _ c.requires.room held) refl (ap (λ (h : LruCache ℕ Held). h.cap) c.in-Ok-put.ensures.entries)).1
 
