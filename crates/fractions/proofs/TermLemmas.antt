@@ -1,7 +1,7 @@
 -- Common divisors, and terms divided by them.
-use Rattle.std.proofs.Common.{ℕ, suc, zero, ◌*◌, ◌<◌, ◌≡◌, arith, ap, sym, ◌∙◌, subst}
+use Rattle.std.proofs.Common.{ℕ, suc, zero, ◌*◌, ◌<◌, ◌≤◌, ◌≡◌, arith, ap, sym, ◌∙◌, subst}
 use Rattle.std.specs.Int.{IsGcd, ◌∣◌}
-use Rattle.std.proofs.Math.Nat.{one-dvd, mul-dvd-mul_right, dvd_of_mul-dvd-mul_right, eq-zero_of_zero-dvd, mul_assoc, mul_comm}
+use Rattle.std.proofs.Math.Nat.{one-dvd, mul-dvd-mul_right, dvd_of_mul-dvd-mul_right, eq-zero_of_zero-dvd, le-mul_of_pos_right, mul_assoc, mul_comm}
 
 pub divisor_positive : (g n : ℕ) → g ∣ n → 0 < n → 0 < g
 divisor_positive zero n d p = absurd (omega (arith, eq-zero_of_zero-dvd d))
@@ -24,3 +24,6 @@ none_left a b g n d z e f h = (
   where
     one : g ≡ 1 * g
     one = omega arith
+
+pub at_most : (b g d : ℕ) → 0 < g → b * g ≡ d → b ≤ d
+at_most b g d z e = let h : b ≤ b * g = le-mul_of_pos_right b z in omega (arith, h, e)

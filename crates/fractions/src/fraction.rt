@@ -1,5 +1,5 @@
 //! Fractions with a denominator above 0.
-ghost use Rattle.std.specs.Prelude.{◌≡◌, ◌<◌, ◌^◌, ℤ, pos, ◌+ℤ◌, ◌*ℤ◌, ◌<ℤ◌, unsigned_abs};
+ghost use Rattle.std.specs.Prelude.{◌≡◌, ◌<◌, ◌^◌, ℤ, pos, ◌+ℤ◌, ◌*ℤ◌, ◌<ℤ◌, unsigned_abs, IfSome};
 ghost use Rattle.std.specs.Ordering.{int_cmp};
 
 use crate::parts::compare_parts;
@@ -32,6 +32,30 @@ pub fn compare(a: Fraction, b: Fraction) -> Ordering
     }
 }
 
+/// c0 * den + c1 * num; `None` if a product or the sum has more than 127 bits.
+fn value_at(c0: i128, c1: i128, at: Fraction) -> Option<i128>
+    ensures { IfSome result (λ value. value ≡ c0 *ℤ at.den +ℤ c1 *ℤ at.num) }
+{
+    let start = c0.checked_mul(at.den)?;
+    let growth = c1.checked_mul(at.num)?;
+    start.checked_add(growth)
+}
+
+/// The sign of c0 + c1 * s at a fraction s, by the order of s and of the fraction at which that is 0.
+fn sign_by_root(c0: i128, c1: i128, at: Fraction) -> Ordering
+    requires small { unsigned_abs c0 < 2 ^ 127 }
+    requires small_slope { unsigned_abs c1 < 2 ^ 127 }
+    ensures { result ≡ int_cmp (c0 *ℤ at.den +ℤ c1 *ℤ at.num) (pos 0) }
+{
+    if c1 > 0 {
+        compare(at, Fraction { num: -c0, den: c1 })
+    } else if c1 < 0 {
+        compare(Fraction { num: c0, den: -c1 }, at)
+    } else {
+        c0.cmp(&0)
+    }
+}
+
 /// The sign of c0 + c1 * s at a fraction s: of c0 * den + c1 * num, against 0.
 pub fn sign_at(c0: i128, c1: i128, at: Fraction) -> Ordering
     // c0 is below 2^127 in size.
@@ -41,11 +65,8 @@ pub fn sign_at(c0: i128, c1: i128, at: Fraction) -> Ordering
     // The order of c0 * den + c1 * num and 0, as whole numbers without bound.
     ensures { result ≡ int_cmp (c0 *ℤ at.den +ℤ c1 *ℤ at.num) (pos 0) }
 {
-    if c1 > 0 {
-        compare(at, Fraction { num: -c0, den: c1 })
-    } else if c1 < 0 {
-        compare(Fraction { num: c0, den: -c1 }, at)
-    } else {
-        c0.cmp(&0)
+    match value_at(c0, c1, at) {
+        Some(value) => value.cmp(&0),
+        None => sign_by_root(c0, c1, at),
     }
 }

@@ -1,5 +1,5 @@
 //! Lowest terms.
-ghost use Rattle.std.specs.Prelude.{◌≡◌, ◌<◌, ◌*◌};
+ghost use Rattle.std.specs.Prelude.{◌≡◌, ◌<◌, ◌≤◌, ◌*◌};
 ghost use Rattle.std.specs.Int.{IsGcd};
 
 /// A numerator and a denominator.
@@ -29,6 +29,8 @@ pub fn lowest_terms(num: u128, den: u128) -> Terms
     ensures lowest { IsGcd result.num result.den 1 }
     // The new denominator is above 0.
     ensures positive { 0 < result.den }
+    // It is at most the old one.
+    ensures small { result.den ≤ den }
 {
     let divisor = common_divisor(num, den);
     Terms {

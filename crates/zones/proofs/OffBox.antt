@@ -99,7 +99,7 @@ crossed_left e p z a b = crossed_by e p ∙ by (is_ge (height e.from p)) (is_ge 
         ap (λ v. if v then is_lt (side e p) else is_gt (side e p)) (not_rising e f) ∙ not_gt (across e p) (along e p) c
 
 -- an edge that the point is off, and that is not crossed
-abbrev IsApart : Edge → Point → Type 0
+abbrev pub IsApart : Edge → Point → Type 0
 IsApart e p = (is_on_edge e p ≡ false) × (is_crossed e p ≡ false)
 
 none_last : (v w : Bool) → v && w && false ≡ false
@@ -119,7 +119,7 @@ apart_left e p z a b = (
   crossed_left e p z a b,
 )
 
-apart_by_heights : (e : Edge) (p : Point) (h : Ordering) → height e.from p ≡ h → height e.to p ≡ h → is_between_by h h ≡ false → IsApart e p
+pub apart_by_heights : (e : Edge) (p : Point) (h : Ordering) → height e.from p ≡ h → height e.to p ≡ h → is_between_by h h ≡ false → IsApart e p
 apart_by_heights e p h i j b = (
   on_edge_by e p
       ∙ (λ k. is_eq (side e p) && is_between_by (width e.from p) (width e.to p) && is_between_by (i k) (j k))

@@ -2,10 +2,10 @@
 ghost use Rattle.std.specs.Prelude.{◌≡◌, ◌<◌, ◌≤◌, ◌^◌, ℤ, ◌+ℤ◌, ◌-ℤ◌, ◌*ℤ◌, unsigned_abs, int_lt};
 ghost use Rattle.std.specs.Ordering.{int_cmp};
 ghost use Rattle.zones.specs.Places.{IsCoordinate, point_at};
-ghost use Rattle.zones.specs.Turns.{side_start, side_slope, is_steep};
+ghost use Rattle.zones.specs.Turns.{side_start, side_slope, sign, is_steep};
 ghost use Rattle.zones.specs.Edges.{across, along, either, is_between_by, is_on_edge, is_crossed};
 
-use crate::places::{Course, Position};
+use crate::places::{Course, Gate, Position};
 use fractions::{Fraction, sign_at};
 use std::cmp::Ordering;
 
@@ -85,6 +85,15 @@ pub(crate) fn slope_of(from: &Position, to: &Position, course: &Course) -> i128
         course.y1 - course.y0,
         to.x - from.x,
     )
+}
+
+/// How the course crosses a gate's line: `Less` to its left, `Greater` to its right, `Equal` if it runs along the line or
+/// stands still.
+pub fn heading(gate: &Gate, course: &Course) -> Ordering
+    ensures { result
+        ≡ sign (side_slope course.now (record { from = gate.now.from; to = gate.now.to })) }
+{
+    slope_of(&gate.from, &gate.to, course).cmp(&0)
 }
 
 /// The two products that are equal where the course is on the edge's line.

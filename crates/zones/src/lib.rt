@@ -12,6 +12,7 @@ mod tests;
 mod turns;
 
 pub use cuts::{Cut, Place};
+pub use edges::heading;
 pub use inside::is_inside;
-pub use places::{Course, Position, Ring};
+pub use places::{Course, Gate, Position, Ring};
 pub use staying::stays;

@@ -75,6 +75,13 @@ impl Ring {
     }
 }
 
+/// A line from one position to another, which has a left and a right.
+#[derive(Clone, Copy, PartialEq, Eq, Debug)]
+pub struct Gate {
+    pub from: Position,
+    pub to: Position,
+}
+
 /// A straight course from (`x0`, `y0`) to (`x1`, `y1`), at an even speed.
 #[derive(Clone, Copy, PartialEq, Eq, Debug)]
 pub struct Course {

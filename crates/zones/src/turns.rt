@@ -1,5 +1,6 @@
 //! Where a sign turns round along a course.
-ghost use Rattle.std.specs.Prelude.{◌≡◌, ◌≢◌, ◌<◌, ◌^◌, ℤ, pos, false, ◌*ℤ◌, ◌<ℤ◌, ◌≤ℤ◌, unsigned_abs};
+ghost use Rattle.std.specs.Prelude.{◌≡◌, ◌≢◌, ◌<◌, ◌^◌, ℤ, pos, false};
+ghost use Rattle.std.specs.Prelude.{◌*ℤ◌, ◌<ℤ◌, ◌≤ℤ◌, unsigned_abs};
 ghost use Rattle.zones.specs.Places.{point_at};
 ghost use Rattle.zones.specs.Zones.{edges, zone_edges};
 ghost use Rattle.zones.specs.Turns.{sign, at, is_opposite, side, height, width, Calm, AllCalm};
@@ -33,14 +34,15 @@ fn root(c0: i128, c1: i128) -> Place
     Place { num: c0, den: -c1 }
 }
 
-/// The place between two at which the sign of c0 + c1 * s turns round; the second where it does not.
+/// The place between two at which the sign of c0 + c1 * s turns round; the second if it does not.
 pub(crate) fn turn(c0: i128, c1: i128, from: Place, to: Place) -> Place
     requires small { unsigned_abs c0 < 2 ^ 103 }
     requires small_slope { unsigned_abs c1 < 2 ^ 103 }
     requires order { (from.num *ℤ to.den) <ℤ (to.num *ℤ from.den) }
     ensures after { (from.num *ℤ result.den) <ℤ (result.num *ℤ from.den) }
     ensures up_to { (result.num *ℤ to.den) ≤ℤ (to.num *ℤ result.den) }
-    ensures calm { is_opposite (sign (at c0 c1 from.num from.den)) (sign (at c0 c1 result.num result.den)) ≡ false }
+    ensures calm { is_opposite (sign (at c0 c1 from.num from.den))
+        (sign (at c0 c1 result.num result.den)) ≡ false }
 {
     if !is_opposite(sign_on(c0, c1, from), sign_on(c0, c1, to)) {
         return to;
@@ -53,7 +55,10 @@ fn turn_of_line(from: &Position, to: &Position, course: &Course, first: Place, l
     requires order { (first.num *ℤ last.den) <ℤ (last.num *ℤ first.den) }
     ensures after { (first.num *ℤ result.den) <ℤ (result.num *ℤ first.den) }
     ensures up_to { (result.num *ℤ last.den) ≤ℤ (last.num *ℤ result.den) }
-    ensures calm { is_opposite (side (record { from = from.now; to = to.now }) (point_at course.now first.num first.den)) (side (record { from = from.now; to = to.now }) (point_at course.now result.num result.den)) ≡ false }
+    ensures calm { is_opposite
+        (side (record { from = from.now; to = to.now }) (point_at course.now first.num first.den))
+        (side (record { from = from.now; to = to.now }) (point_at course.now result.num result.den))
+        ≡ false }
 {
     turn(
         start_of(from, to, course),
@@ -68,7 +73,9 @@ fn turn_upwards(corner: &Position, course: &Course, first: Place, last: Place) -
     requires order { (first.num *ℤ last.den) <ℤ (last.num *ℤ first.den) }
     ensures after { (first.num *ℤ result.den) <ℤ (result.num *ℤ first.den) }
     ensures up_to { (result.num *ℤ last.den) ≤ℤ (last.num *ℤ result.den) }
-    ensures calm { is_opposite (height corner.now (point_at course.now first.num first.den)) (height corner.now (point_at course.now result.num result.den)) ≡ false }
+    ensures calm { is_opposite
+        (height corner.now (point_at course.now first.num first.den))
+        (height corner.now (point_at course.now result.num result.den)) ≡ false }
 {
     turn(
         (course.y0 - corner.y) as i128,
@@ -83,7 +90,9 @@ fn turn_sideways(corner: &Position, course: &Course, first: Place, last: Place) 
     requires order { (first.num *ℤ last.den) <ℤ (last.num *ℤ first.den) }
     ensures after { (first.num *ℤ result.den) <ℤ (result.num *ℤ first.den) }
     ensures up_to { (result.num *ℤ last.den) ≤ℤ (last.num *ℤ result.den) }
-    ensures calm { is_opposite (width corner.now (point_at course.now first.num first.den)) (width corner.now (point_at course.now result.num result.den)) ≡ false }
+    ensures calm { is_opposite
+        (width corner.now (point_at course.now first.num first.den))
+        (width corner.now (point_at course.now result.num result.den)) ≡ false }
 {
     turn(
         (course.x0 - corner.x) as i128,
@@ -93,12 +102,15 @@ fn turn_sideways(corner: &Position, course: &Course, first: Place, last: Place) 
     )
 }
 
-/// The first place between two, or the second, up to which no sign turns round that an edge is told by.
+/// The first place between two, or the second, up to which no sign turns round that tells of an
+/// edge.
 fn turn_of_edge(from: &Position, to: &Position, course: &Course, first: Place, last: Place) -> Place
     requires order { (first.num *ℤ last.den) <ℤ (last.num *ℤ first.den) }
     ensures after { (first.num *ℤ result.den) <ℤ (result.num *ℤ first.den) }
     ensures up_to { (result.num *ℤ last.den) ≤ℤ (last.num *ℤ result.den) }
-    ensures calm { Calm (record { from = from.now; to = to.now }) (point_at course.now first.num first.den) (point_at course.now result.num result.den) }
+    ensures calm { Calm (record { from = from.now; to = to.now })
+        (point_at course.now first.num first.den)
+        (point_at course.now result.num result.den) }
 {
     let on_line = turn_of_line(from, to, course, first, last);
     let at_from = turn_upwards(from, course, first, on_line);
@@ -115,7 +127,9 @@ fn turn_round(ring: &Ring, course: &Course, first: Place, last: Place) -> Place
     requires order { (first.num *ℤ last.den) <ℤ (last.num *ℤ first.den) }
     ensures after { (first.num *ℤ result.den) <ℤ (result.num *ℤ first.den) }
     ensures up_to { (result.num *ℤ last.den) ≤ℤ (last.num *ℤ result.den) }
-    ensures calm { AllCalm (edges ring.now) (point_at course.now first.num first.den) (point_at course.now result.num result.den) }
+    ensures calm { AllCalm (edges ring.now)
+        (point_at course.now first.num first.den)
+        (point_at course.now result.num result.den) }
 {
     let corners = ring.corners();
     if corners.is_empty() {
@@ -130,12 +144,15 @@ fn turn_round(ring: &Ring, course: &Course, first: Place, last: Place) -> Place
     turn
 }
 
-/// The same of all edges of a zone: between the two places the course is in the zone at all moments or at none.
+/// The same of all edges of a zone: between the two places the course is in the zone at all
+/// moments or at none.
 pub(crate) fn next_turn(rings: &[Ring], course: &Course, first: Place, last: Place) -> Place
     requires order { (first.num *ℤ last.den) <ℤ (last.num *ℤ first.den) }
     ensures after { (first.num *ℤ result.den) <ℤ (result.num *ℤ first.den) }
     ensures up_to { (result.num *ℤ last.den) ≤ℤ (last.num *ℤ result.den) }
-    ensures calm { AllCalm (zone_edges rings.now) (point_at course.now first.num first.den) (point_at course.now result.num result.den) }
+    ensures calm { AllCalm (zone_edges rings.now)
+        (point_at course.now first.num first.den)
+        (point_at course.now result.num result.den) }
 {
     let mut turn = last;
     for ring in rings {

@@ -1,6 +1,6 @@
 use Rattle.std.proofs.Common.{◌*◌, ◌/◌, ◌≡◌}
 use Rattle.std.proofs.Math.Nat.{div-mul_cancel}
-use Rattle.fractions.proofs.TermLemmas.{divisor_positive, same_terms, quotient_positive, none_left}
+use Rattle.fractions.proofs.TermLemmas.{divisor_positive, same_terms, quotient_positive, none_left, at_most}
 use Rattle.fractions.proofs.terms.lowest_terms.Goals as goal
 
 pub nonzero_div-result : goal.nonzero_div-result
@@ -20,4 +20,5 @@ returns c =
       same = same_terms (c.args.num / g) (c.args.den / g) g c.args.num c.args.den num den;
       lowest = none_left (c.args.num / g) (c.args.den / g) g c.args.num c.args.den z num den h;
       positive = quotient_positive (c.args.den / g) g c.args.den den c.requires.positive;
+      small = at_most (c.args.den / g) g c.args.den z den;
     }
