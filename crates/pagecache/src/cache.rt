@@ -72,10 +72,15 @@ impl<S: PageStore> PageCache<S> {
     /// A page, to read, as `page` lends it. `next` are pages that are asked for soon: where the page
     /// is not in memory, up to seven of them that are not there come with it.
     pub fn page_ahead(&mut self, number: u32, next: &[u32]) -> Result<&Payload, CacheFault>
+        // No payload changes and one ask is counted, on an error too. An error says what is wrong
+        // with that page or the store.
         ensures* rests { sem 𝓛 (ShowsPage S.row S.PageStore self.entry number result) }
+        // Over a faithful store it is the payload of that page.
         ensures value { IfOk result (λ page. IsTrue self.old.store.is_faithful
             → payload_of self.old number ≡ Some page.now) }
+        // It succeeds only for a page that is there.
         ensures below { OnOk result (number < self.old.count) }
+        // A number at or above the count is `NoPage`.
         ensures no_page { self.old.count ≤ number → result ≡ Err CacheFault.NoPage }
     {
         self.slots.ready(number, next)?;
