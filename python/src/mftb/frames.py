@@ -2,8 +2,10 @@
 
 from __future__ import annotations
 
+import gc
 import io
-from collections.abc import Iterable, Sequence
+from collections.abc import Iterable, Iterator, Sequence
+from contextlib import contextmanager
 from dataclasses import fields
 from functools import partial
 from typing import TYPE_CHECKING, Any
@@ -193,7 +195,7 @@ def geoframe(printed: Printed, form: Form, crs: str | None) -> geopandas.GeoData
         geometry = geopandas.points_from_xy(*(found[f"{axis}_in"] for axis in axes))
     else:
         both = [found[[f"{axis}{end}" for axis in axes]].to_numpy() for end in ends]
-        geometry = lines(numpy.stack(both, axis=1))
+        geometry = geopandas.array.GeometryArray(lines(numpy.stack(both, axis=1)))
     return geopandas.GeoDataFrame(found, geometry=geometry, crs=known(crs))
 
 
@@ -205,7 +207,24 @@ def lines(places: numpy.ndarray) -> Any:
         return shapely.linestrings(places)
     from shapely.geometry import LineString
 
-    return [LineString(pair) for pair in places]
+    # One by one, since numpy asks each line of a list for its coordinates.
+    found = numpy.empty(len(places), dtype=object)
+    with uncollected():
+        for place, pair in enumerate(places.tolist()):
+            found[place] = LineString(pair)
+    return found
+
+
+@contextmanager
+def uncollected() -> Iterator[None]:
+    """Keeps the collector of garbage from going through many new things, none of which is any."""
+    was_on = gc.isenabled()
+    gc.disable()
+    try:
+        yield
+    finally:
+        if was_on:
+            gc.enable()
 
 
 def known(crs: str | None) -> Any:
