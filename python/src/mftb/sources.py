@@ -48,8 +48,7 @@ class RowReader:
 
     def items(self, rows: list[Any], wide: int) -> list[Item]:
         """What is read of rows, which ought to have `wide` fields; a row that could not be cut is why."""
-        are_whole = not any(row.__class__ is BadLine for row in rows)
-        found = self.many(rows) if are_whole and set(map(len, rows)) == {wide} else None
+        found = self.many(rows) if are_wide(rows, wide) else None
         return [self.item(row, wide) for row in rows] if found is None else found
 
     def item(self, row: Any, wide: int) -> Item:
@@ -62,6 +61,15 @@ class RowReader:
             return self.one(row)
         except (BadLine, LeftOut) as why:
             return why
+
+
+def are_wide(rows: list[Any], wide: int) -> bool:
+    """Whether all rows were cut, and have so many fields."""
+    try:
+        return set(map(len, rows)) == {wide}
+    except TypeError:
+        # What says why a row could not be cut has no length.
+        return False
 
 
 @contextmanager
@@ -192,7 +200,7 @@ def rows(text: Iterator[str], line: int, how: Rows, work: Work) -> Iterator[Any]
 def cut(text: Iterator[str], line: int, delimiter: str, most: int) -> Iterator[Lines | Cut]:
     """The lines of a table behind a line, at most so many at once but where a row goes on over lines."""
     while lines := list(islice(text, most)):
-        if any('"' in it for it in lines) or max(map(len, lines)) >= LONGEST:
+        if '"' in "".join(lines) or max(map(len, lines)) >= LONGEST:
             numbers, found, count = quoted(lines, text, line, delimiter)
             yield Cut(numbers, found)
         else:

@@ -10,7 +10,7 @@ from collections.abc import Callable, Iterator, Sequence
 from dataclasses import dataclass
 from functools import lru_cache
 from itertools import compress, repeat
-from operator import itemgetter
+from operator import and_, itemgetter
 
 from mftb import sources, texts
 from mftb.feeds import arguments, conversion
@@ -117,11 +117,12 @@ class Reports:
             places, values = map(self.place_of, usual), self.values.of_all(usual)
         except (ValueError, texts.BadLine):
             return None
-        found = zip(features, moments, places, values, repeat(0))
-        if len(usual) == len(rows):
-            return list(found)
-        item, wide = sources.RowReader(self.one).item, len(self.header)
-        return [next(found) if is_usual else item(row, wide) for is_usual, row in zip(are_usual, rows)]
+        found: list[Item] = list(zip(features, moments, places, values, repeat(0)))
+        if len(usual) < len(rows):
+            item, wide = sources.RowReader(self.one).item, len(self.header)
+            for place in (place for place, is_usual in enumerate(are_usual) if not is_usual):
+                found.insert(place, item(rows[place], wide))
+        return found
 
     def are_usual(self, rows: list[list[str]]) -> list[bool]:
         """Of each report whether it is one of a ship, with a position in its usual form."""
@@ -130,7 +131,7 @@ class Reports:
             return list(found)
         kinds = list(map(itemgetter(self.kind), rows))
         ships = {kind for kind in set(kinds) if not is_no_ship(kind)}
-        return [is_place and kind in ships for is_place, kind in zip(found, kinds)]
+        return list(map(and_, found, map(ships.__contains__, kinds)))
 
 
 class Features(dict):

@@ -8,6 +8,7 @@ from collections.abc import Callable, Mapping, Sequence
 from dataclasses import dataclass
 from decimal import Decimal
 from functools import partial
+from itertools import compress
 from typing import Any, NamedTuple, TypeAlias
 
 from mftb.texts import BadLine, LeftOut, feature_name, instant
@@ -153,9 +154,9 @@ class Batch:
 
 def judge(lines: Sequence[int], items: list[Item]) -> Batch:
     """What the items of lines hold."""
-    faults = [(line, item) for line, item in zip(lines, items) if isinstance(item, Exception)]
-    kept = [item for item in items if isinstance(item, tuple)] if faults else items
-    numbers = [line for line, item in zip(lines, items) if isinstance(item, tuple)] if faults else lines
+    are_kept = [isinstance(item, tuple) for item in items]
+    kept, numbers = list(compress(items, are_kept)), list(compress(lines, are_kept))
+    faults = [(lines[place], items[place]) for place, is_kept in enumerate(are_kept) if not is_kept]
     bounds = Bounds()
     if kept:
         bounds.cover(kept)
