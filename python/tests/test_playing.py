@@ -25,7 +25,7 @@ LEGS = [
     Row(3, "box", "a", MINUTE[4], MINUTE[5], (("13", "2"), ("14", "2")), ("3", "8", "y", "")),
     Row(4, "features", "a"),
 ]
-TRACKS = {"a": [LEGS[0]]}
+TRACKS = playing.Tracks({"a": [LEGS[0]]})
 NINE = 1717405200
 
 
@@ -125,6 +125,11 @@ class Packages(Case):
         self.assertEqual((found["end"] - found["begin"]).dt.total_seconds().tolist()[:2], [60, 60.1])
         self.assertEqual((found.crs.to_epsg(), found.geometry[3].wkt), (4326, "LINESTRING (11 1, 12 2)"))
 
+    def legs(self):
+        base = sqlite3.connect(self.folder / "out.gpkg")
+        self.addCleanup(base.close)
+        return base.execute("SELECT question, speed FROM legs").fetchall()
+
     @unittest.skipUnless(has_info(), "tools/unproved has made no build yet")
     def test_the_command(self):
         head = f"@stboundedby,{CRS84},2D,,,2024-06-03T09:00:00Z,,sec\n@columns,mfidref,trajectory,speed,xsd:double\n"
@@ -133,12 +138,14 @@ class Packages(Case):
             "script", "load day.csv\ntrajectory a\nfeatures ever 0 0 1 1 2024-06-03T09:00:00Z 2024-06-03T09:00:30Z\n"
         )
         table = [ROOT / "tools" / "table", "--program", BUILT, "store"]
-        subprocess.run([*table, "script", "day.csv", "--format", "gpkg", "-o", "out.gpkg"], cwd=self.folder, check=True)
-        base = sqlite3.connect(self.folder / "out.gpkg")
-        self.addCleanup(base.close)
-        found = base.execute("SELECT question, begin, speed FROM legs").fetchall()
-        self.assertEqual([it[0] for it in found], [2, 2, 3, 3])
-        self.assertEqual(found[1][1:], ("2024-06-03T09:01:00.000Z", 2.0))
+        words = ["script", "day.csv", "--format", "gpkg", "-o", "out.gpkg"]
+        subprocess.run([*table, *words], cwd=self.folder, check=True)
+        # A feature has its legs in the period of its question.
+        self.assertEqual(self.legs(), [(2, 1.5), (2, 2.0), (3, 1.5)])
+        ever = "features ever 0 0 1 1 2024-06-03T09:00:00Z 2024-06-03T09:00:30Z"
+        words = ["--ask", ever, "--whole", "--format", "gpkg", "-o", "out.gpkg"]
+        subprocess.run([*table, *words], cwd=self.folder, check=True)
+        self.assertEqual(self.legs(), [(1, 1.5), (1, 2.0)])
         trips = subprocess.run(
             [*table, "--ask", "trajectory a", "--format", "trips"], cwd=self.folder, check=True, capture_output=True
         )

@@ -185,38 +185,29 @@ class Promises(Case):
     def test_all_is_there(self):
         self.assertEqual(self.said(), [])
 
-    def test_a_clause_that_is_not_there(self):
-        said = self.page("`low::first`: `value`", "`low::first`: `value`, `valve`")
-        self.assertEqual(said, ["docs/proof/PROMISES.md:3: low::first has no clause valve"])
-
-    def test_a_function_that_is_not_there_and_where_one_is(self):
-        said = self.page("`low::first`: `value`;", "`low::second`: `value`; `low::first`: `value`;")
-        self.assertEqual(said, ["docs/proof/PROMISES.md:3: there is no low::second; there is low::Thing::second"])
-
-    def test_a_test_that_is_not_there(self):
-        said = self.page("`low::tests`: `it_is_so`", "`low::tests`: `it_is_not_so`")
-        self.assertEqual(said, ["docs/proof/PROMISES.md:4: low::tests has no it_is_not_so"])
+    def test_what_the_page_names_and_is_not_there(self):
+        own, lib = "`crates/low/src/tests.rt`", "`crates/low/src/lib.rt`"
+        for old, new, told in [
+            ("`low::first`: `value`", "`low::first`: `value`, `valve`", "3: low::first has no clause valve"),
+            (
+                "`low::first`: `value`;",
+                "`low::second`: `value`; `low::first`: `value`;",
+                "3: there is no low::second; there is low::Thing::second",
+            ),
+            ("`low::tests`: `it_is_so`", "`low::tests`: `it_is_not_so`", "4: low::tests has no it_is_not_so"),
+            (f"{own}: `it_is_so`", f"{lib}: `first`", "17: crates/low/src/lib.rt has no test first"),
+            (own, "`crates/low/src/tosts.rt`", "17: there is no file crates/low/src/tosts.rt"),
+            ("`tools/all`", "`tools/none`", "18: there is no file tools/none"),
+            ("## What is only tested", "## What is tested", "0: has no table of what is only tested"),
+            ("`wrong-body`", "`wronger-body`", "5: low has no must-fail edit wronger-body"),
+        ]:
+            with self.subTest(told):
+                self.assertEqual(self.page(old, new), [f"docs/proof/PROMISES.md:{told}"])
 
     def test_what_is_only_tested_names_a_test(self):
         told = "docs/proof/PROMISES.md:17: 'It is so' is said to be tested, and names no test"
         for named in ("", "by hand", "`crates/low/src/tests.rt`", "`low::first`: `value`"):
             self.assertEqual(self.page("`crates/low/src/tests.rt`: `it_is_so`", named), [told])
-
-    def test_what_is_only_tested_names_a_test_that_is_there(self):
-        said = self.page("`crates/low/src/tests.rt`: `it_is_so`", "`crates/low/src/lib.rt`: `first`")
-        self.assertEqual(said, ["docs/proof/PROMISES.md:17: crates/low/src/lib.rt has no test first"])
-        said = self.page("`crates/low/src/tests.rt`", "`crates/low/src/tosts.rt`")
-        self.assertEqual(said, ["docs/proof/PROMISES.md:17: there is no file crates/low/src/tosts.rt"])
-        said = self.page("`tools/all`", "`tools/none`")
-        self.assertEqual(said, ["docs/proof/PROMISES.md:18: there is no file tools/none"])
-
-    def test_a_page_without_that_table(self):
-        said = self.page("## What is only tested", "## What is tested")
-        self.assertEqual(said, ["docs/proof/PROMISES.md:0: has no table of what is only tested"])
-
-    def test_an_edit_that_is_not_there(self):
-        said = self.page("`wrong-body`", "`wronger-body`")
-        self.assertEqual(said, ["docs/proof/PROMISES.md:5: low has no must-fail edit wronger-body"])
 
     def test_a_crate_without_a_page(self):
         (self.folder / "crates" / "high" / "src").mkdir(parents=True)
