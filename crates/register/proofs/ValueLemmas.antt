@@ -78,6 +78,17 @@ text_fault Unfinished h f b = absurd b
 text_fault Version h f b = absurd b
 text_fault Malformed h f b = f refl
 
+-- nor is a text where its length is not
+pub no_length : {a b : Cache} {s t : ReaderView} {e : CatalogueFault} → ReadsValue a b s t (big_bytes 8) (IsNumber 64) (Err e) → ReadsValue a b s t short_text IsShortText (Err e)
+no_length p = record {
+  takes = λ at shows. record {
+    taken = tt;
+    lacks = λ k v w is found. (p.takes at shows).lacks k (length v) (v ++ w) is.short (found ∙ ap Some (append_assoc (big_bytes 8 (length v)) v w));
+  };
+  reads = p.reads;
+  caused = p.caused;
+}
+
 -- a text behind its length: the length was read, and pages until as many bytes stand ready
 module _ {a b : Cache} {s t : ReaderView} {n : ℕ} (len : ReadsValue a b s t (big_bytes 8) (IsNumber 64) (Ok n)) where
   split : (at : ℕ → Option Payload) → Shows a at → (v w : List ℕ) → IsShortText v → rest_of at s ≡ Some (short_text v ++ w) → (n ≡ length v) × (rest_of at t ≡ Some (v ++ w))

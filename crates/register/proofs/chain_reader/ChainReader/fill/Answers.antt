@@ -1,4 +1,4 @@
-use Rattle.std.proofs.Common.{◌∙◌, ap, sym, arith, length, rules}
+use Rattle.std.proofs.Common.{◌∙◌, ap, sym, arith, length}
 use Rattle.std.proofs.lemmas.List.{length-drop}
 use Rattle.register.specs.ChainReader.{ReadsAhead}
 use Rattle.register.proofs.ReaderLemmas.{ended, goes_on, later_fault, on_err_and, some_none, still_shows}
@@ -41,7 +41,10 @@ returns-in_err-load g c =
 pub returns : goal.returns
 returns g c = record {
   same = c.loop-self.invariant.same;
-  ready = search rules;
+  ready =
+      let bytes = ap (λ v. length v.bytes) c.self.view_is in
+      let ready = length-drop c.self.inside.taken c.self.inside.bytes.items in
+      omega (arith, bytes, ready, c.loop-self-test.false, c.len.ensures);
   broken = tt;
   reads = c.loop-self.invariant.reads;
   caused = tt;

@@ -1,6 +1,9 @@
 use Rattle.register.proofs.ReaderLemmas.{refused}
-use Rattle.register.proofs.ValueLemmas.{no_text, text_cut, text_taken}
+use Rattle.register.proofs.ValueLemmas.{no_length, no_text, text_cut, text_taken}
 use Rattle.register.proofs.chain_reader.ChainReader.text.Goals as goal
+
+pub returns-in_err-len : goal.returns-in_err-len
+returns-in_err-len g c = refused c.from_residual.ensures.1 (no_length c.in_err-len.ensures)
 
 pub returns-in_err-fill : goal.returns-in_err-fill
 returns-in_err-fill g c = refused c.from_residual-in_err-fill.ensures.1 (text_cut c.in_ok-len.ensures c.in_err-fill.ensures)

@@ -1,7 +1,10 @@
 use Rattle.std.proofs.Common.{refl}
 use Rattle.register.proofs.ReaderLemmas.{into_read, into_refused}
-use Rattle.register.proofs.ValueLemmas.{no_text, text_cut, text_taken}
+use Rattle.register.proofs.ValueLemmas.{no_length, no_text, text_cut, text_taken}
 use Rattle.register.proofs.chain_reader.ChainReader.value.Goals as goal
+
+pub returns-in_err-len : goal.returns-in_err-len
+returns-in_err-len g c = into_refused c.from_residual.ensures.1 (no_length c.in_err-len.ensures)
 
 pub returns-in_err-fill : goal.returns-in_err-fill
 returns-in_err-fill g c = into_refused c.from_residual-in_err-fill.ensures.1 (text_cut c.in_ok-len.ensures c.in_err-fill.ensures)
