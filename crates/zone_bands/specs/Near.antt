@@ -16,17 +16,19 @@ abbrev pub AgreeIn : Band → List (List Corner) → List (List Corner) → Type
 AgreeIn band one other = (p : Point) → IsInBand band p → in_zone one p ≡ in_zone other p
 
 -- Helpers of private functions.
--- the corner is above the band, and below it
+-- the corner is above the band
 abbrev pub is_above : Band → Corner → Bool
 is_above band c = int_lt band.high c.y
 
+-- the corner is below the band
 abbrev pub is_below : Band → Corner → Bool
 is_below band c = int_lt c.y band.low
 
--- all three corners are
+-- all three corners are above the band
 unfoldable pub are_above : Band → Corner → Corner → Corner → Bool
 are_above band a b c = is_above band a && is_above band b && is_above band c
 
+-- all three corners are below the band
 unfoldable pub are_below : Band → Corner → Corner → Corner → Bool
 are_below band a b c = is_below band a && is_below band b && is_below band c
 
