@@ -49,8 +49,8 @@ fn next_level<S: PageStore>(
     ensures most { cache.new.asked ≤ cache.old.asked + length pages.now }
 {
     let mut below = Vec::new(alloc);
-    for page in pages {
-        push_children(cache, *page, level, query, &mut below)?;
+    for i in 0..pages.len() {
+        push_children(cache, pages[i], &pages[i + 1..], level, query, &mut below)?;
     }
     Ok(below)
 }
@@ -78,8 +78,8 @@ fn legs_in<S: PageStore>(
     ensures most { cache.new.asked ≤ cache.old.asked + length pages.now }
 {
     let mut found = Vec::new(alloc);
-    for page in pages {
-        push_legs(cache, *page, query, &mut found)?;
+    for i in 0..pages.len() {
+        push_legs(cache, pages[i], &pages[i + 1..], query, &mut found)?;
     }
     Ok(found)
 }

@@ -102,10 +102,12 @@ fn push_leaf(
     Ok(())
 }
 
-/// Adds the children of an inner page of that level whose boxes meet.
+/// Adds the children of an inner page of that level whose boxes meet. The pages that are read next may
+/// come into memory with it.
 pub(crate) fn push_children<S: PageStore>(
     cache: &mut PageCache<S>,
     page: u32,
+    next: &[u32],
     level: u32,
     query: &Box3,
     found: &mut Vec<u32>,
@@ -127,17 +129,19 @@ pub(crate) fn push_children<S: PageStore>(
     if page == 0 {
         return Err(TreeFault::Malformed(page));
     }
-    let payload = match cache.page(page) {
+    let payload = match cache.page_ahead(page, next) {
         Ok(payload) => payload,
         Err(fault) => return Err(TreeFault::of(fault, page)),
     };
     push_inner(payload, page, level, query, found)
 }
 
-/// Adds the legs of a leaf whose boxes meet.
+/// Adds the legs of a leaf whose boxes meet. The leaves that are read next may come into memory with
+/// it.
 pub(crate) fn push_legs<S: PageStore>(
     cache: &mut PageCache<S>,
     page: u32,
+    next: &[u32],
     query: &Box3,
     found: &mut Vec<Leg>,
 ) -> Result<(), TreeFault>
@@ -158,7 +162,7 @@ pub(crate) fn push_legs<S: PageStore>(
     if page == 0 {
         return Err(TreeFault::Malformed(page));
     }
-    let payload = match cache.page(page) {
+    let payload = match cache.page_ahead(page, next) {
         Ok(payload) => payload,
         Err(fault) => return Err(TreeFault::of(fault, page)),
     };

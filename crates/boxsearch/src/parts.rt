@@ -17,6 +17,17 @@ use std::alloc::Global;
 use std::mem;
 use tbtree::{Place, TbTree};
 
+/// Notes that the last leaves of features are likely to be asked for in turn.
+fn note_lasts<S: PageStore>(cache: &mut PageCache<S>, places: &[Place])
+    ensures { cache.new ≡ cache.old }
+{
+    let mut last = u32::MAX;
+    for place in places {
+        cache.note_next(last, place.last);
+        last = place.last;
+    }
+}
+
 impl<S: PageStore> TreeIndex<S> {
     ghost use Rattle.std.specs.Prelude.{◌≡◌, []};
     ghost use Rattle.std.specs.Borrow.{sem};
@@ -40,6 +51,8 @@ impl<S: PageStore> TreeIndex<S> {
               known = [];
             } }
     {
+        let mut cache = cache;
+        note_lasts(&mut cache, places.as_slice());
         TreeIndex {
             alloc,
             cache,
@@ -92,6 +105,7 @@ impl<S: PageStore> TreeIndex<S> {
         ensures { self.new ≡ record self.old { places = places.items; known = [] } }
     {
         self.known = Vec::new(self.alloc);
+        note_lasts(&mut self.cache, places.as_slice());
         self.places = places;
     }
 

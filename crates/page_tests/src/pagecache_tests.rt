@@ -404,3 +404,109 @@ fn a_small_cache_is_brought_nothing(rt: HostRuntime) -> Result<(), Fail> {
     assert!(rt; cache.held() == 0);
     Ok(())
 }
+
+/// The byte of a page, which is asked for with those that are asked for next.
+fn byte_ahead<S: PageStore>(
+    cache: &mut PageCache<S>,
+    number: u32,
+    next: &[u32],
+) -> Result<u8, CacheFault> {
+    Ok(cache.page_ahead(number, next)?.bytes[PLACE])
+}
+
+/// The numbers of 24 pages.
+const PAGES: [u32; 24] = [
+    0, 1, 2, 3, 4, 5, 6, 7, 8, 9, 10, 11, 12, 13, 14, 15, 16, 17, 18, 19, 20, 21, 22, 23,
+];
+
+/// What a page answers, of which page 3 is damaged.
+fn wanted(number: u32) -> Result<u8, CacheFault> {
+    if number == 3 {
+        Err(CacheFault::Damaged(3))
+    } else {
+        Ok(number.to_le_bytes()[0])
+    }
+}
+
+/// Whether 24 pages that are asked for in turn answer as they do one by one, or that the store failed; and how many are
+/// in memory at last, if each does.
+fn asked_in_turn<S: PageStore>(cache: &mut PageCache<S>) -> Option<usize> {
+    for i in 0..PAGES.len() {
+        let given = byte_ahead(cache, PAGES[i], &PAGES[i + 1..]);
+        if given != wanted(PAGES[i]) && given != Err(CacheFault::Store) {
+            return None;
+        }
+    }
+    if cache.asked() == 24 {
+        Some(cache.held())
+    } else {
+        None
+    }
+}
+
+// With fewer than sixteen pages nothing comes along. The damaged page is in memory at no time.
+#[test]
+fn pages_that_come_along_answer_as_one_by_one(rt: HostRuntime) -> Result<(), Fail> {
+    for (capacity, held) in [(1, 1), (2, 2), (8, 8), (15, 15), (16, 16), (64, 23)] {
+        let mut cache = over_damaged(rt.alloc(), capacity)?;
+        assert!(rt; asked_in_turn(&mut cache) == Some(held), "{capacity}");
+    }
+    Ok(())
+}
+
+#[test]
+fn a_page_comes_with_seven_of_the_next(rt: HostRuntime) -> Result<(), Fail> {
+    let mut cache = over_damaged(rt.alloc(), 16)?;
+    assert!(rt; byte_ahead(&mut cache, 4, &PAGES[5..]) == Ok(4));
+    assert!(rt; cache.held() == 8 && cache.asked() == 1);
+    assert!(rt; byte_ahead(&mut cache, 11, &PAGES[..]) == Ok(11));
+    assert!(rt; cache.held() == 8 && cache.asked() == 2);
+    Ok(())
+}
+
+#[test]
+fn pages_are_noted_to_come_after_others(rt: HostRuntime) -> Result<(), Fail> {
+    let mut cache = over_damaged(rt.alloc(), 64)?;
+    for number in 0..24u32 {
+        cache.note_next(number, number.saturating_add(2));
+    }
+    let next = cache.noted_after(0);
+    assert!(rt; next == [2, 4, 6, 8, 10, 12, 14]);
+    assert!(rt; byte_ahead(&mut cache, 0, &next) == Ok(0));
+    assert!(rt; cache.held() == 8 && cache.asked() == 1);
+    assert!(rt; cache.noted_after(0) == [u32::MAX; 7]);
+    assert!(rt;
+        cache.noted_after(22)
+            == [
+                24,
+                u32::MAX,
+                u32::MAX,
+                u32::MAX,
+                u32::MAX,
+                u32::MAX,
+                u32::MAX
+            ]
+    );
+    assert!(rt; cache.follower(99) == u32::MAX && cache.peek(1).is_none());
+    Ok(())
+}
+
+/// Whether 24 pages answer so over a store that fails a call, once or from then on.
+fn over_failing(alloc: Global, capacity: usize, calls: u64, once: bool) -> Result<bool, Memory>
+    requires { 0 < capacity }
+{
+    let store = over_damaged(alloc, 1)?.into_store();
+    let mut cache = cache_over(alloc, Fuse::new(store, calls, once), capacity)?;
+    Ok(asked_in_turn(&mut cache).is_some())
+}
+
+#[test]
+fn pages_that_come_along_over_a_store_that_fails(rt: HostRuntime) -> Result<(), Fail> {
+    for capacity in [1, 2, 8, 16, 64] {
+        for calls in 0..40 {
+            assert!(rt; over_failing(rt.alloc(), capacity, calls, true)?);
+            assert!(rt; over_failing(rt.alloc(), capacity, calls, false)?);
+        }
+    }
+    Ok(())
+}

@@ -28,15 +28,24 @@ use crate::walking::{Cached, Survey, walk_all};
 use boxsearch::{TreeIndex, answer};
 use header::has_state;
 use legs::{IndexFault, LegIndex, Tracks};
-use pagecache::PageCache;
-use pages::PageStore;
+use pagecache::{PageCache, behind};
+use pages::{PageStore, Payload};
 use std::alloc::Global;
 use tbtree::{Place, TbTree, TreeFault};
 
 /// The most features that any limit allows.
 const MOST_FEATURES: u64 = 2_147_483_648;
 
-/// Reads a page, for its seal.
+/// The page that a page names as the leaf after it; where it is no leaf, a number that no page has.
+fn next_of(payload: &Payload) -> u32 {
+    match tbnode::untested(payload) {
+        Some(leaf) => leaf.head().next,
+        None => u32::MAX,
+    }
+}
+
+/// Reads a page, for its seal, and notes which leaf comes after it. Those behind it may come into
+/// memory with it.
 fn read_page<S: PageStore>(cache: &mut PageCache<S>, page: u32) -> Result<(), TreeFault>
     requires { page < cache.old.count }
     ensures held { IsTrue cache.old.store.is_faithful
@@ -47,16 +56,32 @@ fn read_page<S: PageStore>(cache: &mut PageCache<S>, page: u32) -> Result<(), Tr
         → IfErr result (NamesEach (λ n. (n ≡ page) × (payload_of cache.old n ≡ None)) (λ _. ⊥)) }
     ensures reads { Reads cache.old cache.new result }
 {
-    match cache.page(page) {
-        Ok(_) => Ok(()),
+    match cache.page_ahead(page, &behind(page)) {
+        Ok(payload) => {
+            let next = next_of(payload);
+            cache.note_next(page, next);
+            Ok(())
+        }
         Err(fault) => Err(TreeFault::of(fault, page)),
     }
 }
 
-/// Reads each page once, for its seal. A page that the store has beyond those of the cache is
+/// Notes that the first leaf of each feature is read after the last one of the feature before it.
+fn note_places<S: PageStore>(cache: &mut PageCache<S>, places: &[Place])
+    ensures { cache.new ≡ cache.old }
+{
+    let mut last = u32::MAX;
+    for place in places {
+        cache.note_next(last, place.first);
+        last = place.last;
+    }
+}
+
+/// Reads each page once, for its seal, and notes the order in which the leaves of the places are to
+/// come. A page that the store has beyond those of the cache is
 /// malformed, and so is page 0 where there is none.
 #[tactic(auto, using(chains::proofs::ReadLemmas::reading))]
-fn read_pages<S: PageStore>(cache: &mut PageCache<S>) -> Result<(), TreeFault>
+fn read_pages<S: PageStore>(cache: &mut PageCache<S>, places: &[Place]) -> Result<(), TreeFault>
     ensures held { IsTrue cache.old.store.is_faithful
         → OnOk result (AreHeld (pages_of_cache cache.old)) }
     ensures some { OnOk result (0 < cache.old.count) }
@@ -73,6 +98,7 @@ fn read_pages<S: PageStore>(cache: &mut PageCache<S>) -> Result<(), TreeFault>
     if count == 0 || cache.store().len() != count {
         return Err(TreeFault::Malformed(count));
     }
+    note_places(cache, places);
     Ok(())
 }
 
@@ -175,7 +201,7 @@ pub fn check_pages<S: PageStore>(
 {
     tbtree::laws();
     let most = u64::from(tree.shape.leaf());
-    read_pages(cache)?;
+    read_pages(cache, places)?;
     check_state(cache, begun)?;
     let mut survey = walk_all::<Cached<S>>(alloc, cache, most, rows, places, tracks)?;
     if !is_whole(places, legs, &mut survey) {

@@ -135,10 +135,12 @@ fn take_inner(
     Ok(())
 }
 
-/// Adds the pages that a page names, where it is an inner page that stands above some leaves.
+/// Adds the pages that a page names, where it is an inner page that stands above some leaves. The
+/// pages that are read next may come into memory with it.
 fn take_page<S: PageStore>(
     cache: &mut PageCache<S>,
     page: u32,
+    next: &[u32],
     level: u32,
     width: usize,
     leaves: &[Met],
@@ -158,7 +160,7 @@ fn take_page<S: PageStore>(
     if page == 0 {
         return Err(TreeFault::Malformed(page));
     }
-    let payload = match cache.page(page) {
+    let payload = match cache.page_ahead(page, next) {
         Ok(payload) => payload,
         Err(fault) => return Err(TreeFault::of(fault, page)),
     };
@@ -192,7 +194,8 @@ fn level_below<S: PageStore>(
     let mut below = Vec::new(alloc);
     for i in 0..pages.len() {
         let under = block(leaves, span, i);
-        take_page(cache, pages[i], level, width, under, &mut below)?;
+        let next = &pages[i + 1..];
+        take_page(cache, pages[i], next, level, width, under, &mut below)?;
     }
     Ok(below)
 }

@@ -257,7 +257,8 @@ impl<S: PageStore> LeafReader for Cached<S> {
         if walk.page == 0 {
             return Err(TreeFault::Malformed(walk.previous));
         }
-        let payload = match cache.page(walk.page) {
+        let next = cache.noted_after(walk.page);
+        let payload = match cache.page_ahead(walk.page, &next) {
             Ok(payload) => payload,
             Err(fault) => return Err(TreeFault::of(fault, walk.previous)),
         };

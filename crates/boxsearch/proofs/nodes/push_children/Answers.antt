@@ -4,7 +4,7 @@ use Rattle.boxsearch.proofs.SameLemmas.{children_there, pushed_there}
 use Rattle.boxsearch.proofs.nodes.push_children.Goals as goal
 
 pub returns-clause-reads : goal.returns-clause-reads
-returns-clause-reads g c = record { only = search rules; caused = c.push_inner.ensures.caused c.args.cache.now c.page.follows.lender-at-none }
+returns-clause-reads g c = record { only = search rules; caused = c.push_inner.ensures.caused c.args.cache.now c.page_ahead.follows.lender-at-none }
 
 pub returns-in-Err-clause-reads : goal.returns-in-Err-clause-reads
 returns-in-Err-clause-reads g c = record { only = search rules; caused = search rules }

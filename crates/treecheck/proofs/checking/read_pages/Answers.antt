@@ -1,8 +1,9 @@
 use Rattle.std.proofs.lemmas.Result.{err_from_is_err_and}
-use Rattle.std.proofs.Common.{◌<◌, ◌≡◌, ◌≤◌, ◌∙◌, ap, arith, option_map, sym, ⊎_elim}
+use Rattle.std.proofs.Common.{◌<◌, ◌≡◌, ◌≤◌, ◌∙◌, ap, arith, option_map, sym, subst, ⊎_elim}
 use Rattle.std.proofs.lemmas.Bool.{cases_lt}
 use Rattle.tbnode.specs.Form.{node_of}
 use Rattle.tbtree.specs.Nodes.{pages_of_cache}
+use Rattle.chains.specs.Reads.{OnlyReads}
 use Rattle.chains.proofs.ReadLemmas.{reads_refused, reads_trans}
 use Rattle.treecheck.proofs.checking.read_pages.Goals as goal
 
@@ -25,3 +26,7 @@ loop-page-preserved g c =
           c.in_ok-read_page.ensures.held (was.reads.store.faithful ∙ fa) (ap (λ n. (pages_of_cache now).at n) (sym same) ∙ ap (option_map node_of) (was.reads.payloads fa p) ∙ none))
           (cases_lt p page);
     }
+
+pub returns-clause-reads : goal.returns-clause-reads
+returns-clause-reads g c =
+    record { only = subst (λ now. OnlyReads c.args.cache.now now) (sym c.note_places.ensures) c.loop-page.invariant.reads; caused = tt }
