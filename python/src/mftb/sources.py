@@ -60,7 +60,9 @@ class RowReader:
         try:
             return self.one(row)
         except (BadLine, LeftOut) as why:
-            return why
+            # What raised it would keep the rows beside this one.
+            why.__context__ = None
+            return why.with_traceback(None)
 
 
 def are_wide(rows: list[Any], wide: int) -> bool:

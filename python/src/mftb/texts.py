@@ -156,14 +156,14 @@ def read_instant(text: str) -> int:
 
 
 class Known(dict):
-    """What was made of texts or numbers that were met: of the last 100,000 or so."""
+    """What was made of texts or numbers that were met: of the last 20,000 or so."""
 
     def __init__(self, make: Callable[[Any], str]) -> None:
         super().__init__()
         self.make = make
 
     def __missing__(self, given: Any) -> str:
-        if len(self) >= 100_000:
+        if len(self) >= 20_000:
             self.clear()
         self[given] = made = self.make(given)
         return made

@@ -422,8 +422,8 @@ def run(tool: str, options: Namespace, reader: Reader, unit: str = "line") -> in
 
 def convert(tool: str, options: Namespace, reader: Reader) -> None:
     """Reads the files, writes the legs, and says what was made; gives what was seen."""
-    # Batches are many objects and no cycles: each goes with its last use.
-    gc.disable()
+    # Batches are many objects and few cycles.
+    gc.set_threshold(100_000, 50, 100)
     options.kept = Columns(options)
     feed = Feed(tool, reader, options, begins_of(tool, reader, options))
     feed.survey()
