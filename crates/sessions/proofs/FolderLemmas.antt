@@ -88,7 +88,7 @@ module _ (files : List (List ℕ × List ℕ)) (sent sent' : Option (List ℕ)) 
   output_first db k (Ok x) (Err f) (inr h) is = let w = h.ran_is in absurd (cc w)
   output_first db k (Err f) closed left is = cc is
 
-  abbrev pub sends_said : (db : DbView) (ran closed : Result (Unit {0}) RunFault) (answered : Result (Unit {0}) Fault) → answered ≡ said ran closed → Ends db files sent sent' lines ran closed s → SendsLines db.limits db.book files sent sent' lines answered
+  pub sends_said : (db : DbView) (ran closed : Result (Unit {0}) RunFault) (answered : Result (Unit {0}) Fault) → answered ≡ said ran closed → Ends db files sent sent' lines ran closed s → SendsLines db.limits db.book files sent sent' lines answered
   sends_said db ran closed answered is e = record {
     done = e.done;
     text = e.text;
@@ -110,11 +110,11 @@ module _ (files : List (List ℕ × List ℕ)) (sent sent' : Option (List ℕ)) 
     by_left (inr h) = let w = h.closed_is in absurd (cc w)
 
   pub dropped_end : (db : DbView) (ran closed : Result (Unit {0}) RunFault) (answered kept : Result (Unit {0}) Fault) (fault : Fault) → kept ≡ said (Ok tt) closed → kept ≡ Err fault → Ends db files sent sent' lines ran closed s → IsDropped files sent sent' lines answered fault
-  dropped_end db ran (Ok y) answered kept fault is no e = absurd (cc (is, no))
-  dropped_end db ran (Err f) answered kept fault is no e = by_left e.left where
+  dropped_end db ran (Ok y) answered kept fault is fails e = absurd (cc (is, fails))
+  dropped_end db ran (Err f) answered kept fault is fails e = by_left e.left where
     by_left : ClosesAfter db files lines e.done (Err f) s ⊎ FailsToLoad db files lines e.done ran (Err f) s → IsDropped files sent sent' lines answered fault
-    by_left (inl h) = inr (inr (f, cc (is, no), h.0.0))
-    by_left (inr h) = let w = h.closed_is in inr (inl (cc (is, no, w), (e.done, h.at)))
+    by_left (inl h) = inr (inr (f, cc (is, fails), h.0.0))
+    by_left (inr h) = let w = h.closed_is in inr (inl (cc (is, fails, w), e.done, h.at))
 
   pub refused_end : (db : DbView) (ran closed : Result (Unit {0}) RunFault) (fault : Fault) → said ran closed ≡ Err fault → Ends db files sent sent' lines ran closed s → IsRefusedBeside sent sent' fault
   refused_end db (Ok x) (Ok y) fault is e = absurd (cc is)
@@ -136,6 +136,7 @@ module _ {S O : Type 0} (seen : S → Store) (shown : O → OutputView) (files :
       (sends_said files (shown out).contents (shown out').contents lines store db h.0 h.1 answered h.2 e))
 
   pub over_beside : (was is : Option History) (o : Result DbView (S × CatalogueFault)) → kept ≡ Ok tt → NameIsKept store was is → IfOk o HasPages → IfOk o IsIdle → IfOk o (λ db. db.failed ≡ false) → IfOk o (HasBook shape limits book) → RunsOver seen shown o files out out' lines answered kept store → RunsBeside shape limits book files (shown out).contents (shown out').contents lines answered was is
+  unfolding sends_said
   over_beside was is (Err back) ok name pages idle lives has h = let w = h.1 in absurd (cc (w, ok))
   over_beside was is (Ok db) ok name pages idle lives has h =
       let e = h.4.ends has.sound pages idle lives in
@@ -152,8 +153,8 @@ module _ {S O : Type 0} (seen : S → Store) (shown : O → OutputView) (files :
       (subst (λ t. RunsBeside t db.limits db.book files (shown out).contents (shown out').contents lines answered was is) has.shape_is own))
 
   pub over_dropped : (fault : Fault) (o : Result DbView (S × CatalogueFault)) → kept ≡ Err fault → IfOk o HasPages → IfOk o IsIdle → IfOk o (λ db. db.failed ≡ false) → IfOk o (HasBook shape limits book) → RunsOver seen shown o files out out' lines answered kept store → IsDropped files (shown out).contents (shown out').contents lines answered fault
-  over_dropped fault (Err back) no pages idle lives has h = inl (ap (λ (s : OutputView). s.contents) h.3, h.0 ∙ sym h.1 ∙ no)
-  over_dropped fault (Ok db) no pages idle lives has h = dropped_end files (shown out).contents (shown out').contents lines store db h.0 h.1 answered kept fault h.3 no (h.4.ends has.sound pages idle lives)
+  over_dropped fault (Err back) fails pages idle lives has h = inl (ap (λ (s : OutputView). s.contents) h.3, h.0 ∙ sym h.1 ∙ fails)
+  over_dropped fault (Ok db) fails pages idle lives has h = dropped_end files (shown out).contents (shown out').contents lines store db h.0 h.1 answered kept fault h.3 fails (h.4.ends has.sound pages idle lives)
 
   pub over_refused : (fault : Fault) (o : Result DbView (S × CatalogueFault)) → answered ≡ Err fault → IfOk o HasPages → IfOk o IsIdle → IfOk o (λ db. db.failed ≡ false) → IfOk o (HasBook shape limits book) → RunsOver seen shown o files out out' lines answered kept store → IsRefusedBeside (shown out).contents (shown out').contents fault
   over_refused fault (Err back) is pages idle lives has h = inl (ap (λ (s : OutputView). s.contents) h.3)

@@ -150,12 +150,12 @@ returns-in-Err-closed-clause-dropped g c =
     let opened = c.database-database.result in
     let made = c.database-database.ensures in
     let before = g.F.Folder.refusals c.args.folder.now in
-    let after = g.F.Folder.refusals c.discard.new.folder in
-    let why = g.F.Folder.last_fault c.discard.new.folder in
+    let after = g.F.Folder.refusals c.discard-in-Err-closed.new.self in
+    let why = g.F.Folder.last_fault c.discard-in-Err-closed.new.self in
     let D : Fault → History → Type 0 = λ fault past. (shape : ShapeView) (limits : LimitsView) (book : Book) → BeginsWith how.is_new how.limits (store_in past) shape limits book → IsRefusedByFolder before after why fault ⊎ IsDropped files sent sent' lines ended.ran fault in
-    each_err (λ fault. IfSome was (D fault)) ended.kept (λ fault no. some_only was (D fault)
+    each_err (λ fault. IfSome was (D fault)) ended.kept (λ fault fails. some_only was (D fault)
     (λ past e shape limits book h. inr (begun seen was first c.in-Ok.ensures.copies how.is_new how.limits how.cache_pages opened made.opens made.kept made.pages made.idle past e shape limits book h
-    (λ pages idle has. over_dropped seen shown files c.args.out.now c.answer-store.new.out lines last ended.ran ended.kept shape limits book fault opened no pages idle made.lives has c.answer-store.ensures.over))))
+    (λ pages idle has. over_dropped seen shown files c.args.out.now c.answer-store.new.out lines last ended.ran ended.kept shape limits book fault opened fails pages idle made.lives has c.answer-store.ensures.over))))
 
 pub returns-in-Err-clause-sent : goal.returns-in-Err-clause-sent
 returns-in-Err-clause-sent g c =
@@ -174,7 +174,7 @@ returns-in-Err-clause-dropped g c =
     let sent = (g.O.Output.seen c.args.out.now).contents in
     let lines = lines_of c.args.script.now in
     let before = g.F.Folder.refusals c.args.folder.now in
-    let after = g.F.Folder.refusals c.discard.new.folder in
-    let why = g.F.Folder.last_fault c.discard.new.folder in
+    let after = g.F.Folder.refusals c.discard.new.self in
+    let why = g.F.Folder.last_fault c.discard.new.self in
     some_only (g.F.Folder.held c.args.folder.now) (λ past. (shape : ShapeView) (limits : LimitsView) (book : Book) → BeginsWith c.args.how.now.is_new c.args.how.now.limits (store_in past) shape limits book → IsRefusedByFolder before after why c.in-Err.fault ⊎ IsDropped c.args.files.now sent sent lines (Err c.in-Err.fault) c.in-Err.fault)
     (λ past e shape limits book h. inl (c.in-Err.ensures.named, subst (λ n. HasRisen before n) (sym c.discard.ensures.refuses_none) c.in-Err.ensures.cause, c.discard.ensures.last_fault ∙ c.in-Err.ensures.last_fault))

@@ -34,7 +34,7 @@ returns-then-len-eq0-clause-opens g c =
     let left : IfErr r (λ back. IsLeft new_shape most s (seen back.0)) =
     subst (λ (k : ShapeView). IfErr r (λ back. IsLeft k most s (seen back.0))) same_shape e.left in
     record {
-      opens = neither (OpenCall seen s c.args.how.now.cache_pages r) c.args.how.now.is_new s.count c.if-is_new.true none;
+      opens = neither (OpenCall seen s c.args.how.now.cache_pages r) c.args.how.now.is_new s.count c.if-how.true none;
       makes = λ n z. made_or_not seen most c.args.how.now.cache_pages r s (created r new_shape most (IsTrue s.is_faithful) shape e.sound e.book limits) e.book limits (more_known (λ (db : DbView). words.plan db.index ≡ Some new_shape) (λ db. shape_of db ≡ new_shape) r (λ db h. the_same (shape_of db) new_shape h) shape) e.pages e.begun e.lives e.capacity writes e.synced e.only e.caused e.kept left;
     }
 
