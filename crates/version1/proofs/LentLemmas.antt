@@ -41,7 +41,7 @@ pub unread_none : (at : ℕ → Option Payload) (n : ℕ) (a b : StoreView) (e :
 unread_none at n a b Memory lawful h shows k = absurd k
 unread_none at n a b Store lawful h shows k = absurd k
 unread_none at n a b StoreFull lawful h shows k = absurd k
-unread_none at n a b (Damaged m) lawful h shows k = shows.same n ∙ h.1 shows.faithful
+unread_none at n a b (Damaged m) lawful h shows k = shows.same n ∙ h.2 shows.faithful
 unread_none at n a b Unfinished lawful h shows k = absurd k
 unread_none at n a b Version lawful h shows k = absurd k
 unread_none at n a b Malformed lawful h shows k = shows.same n ∙ stored_none a n lawful h shows.faithful

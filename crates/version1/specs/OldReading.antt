@@ -34,7 +34,7 @@ IsUnread n old new Memory = ⊥
 IsUnread n old new Store = Faulted old new
 IsUnread n old new StoreFull = ⊥
 IsUnread n old new (Damaged page) =
-    (page ≡ n) × (IsTrue old.is_faithful → stored_payload old n ≡ None)
+    (page ≡ n) × (n < old.count) × (IsTrue old.is_faithful → stored_payload old n ≡ None)
 IsUnread n old new Unfinished = ⊥
 IsUnread n old new Version = ⊥
 IsUnread n old new Malformed = old.count ≤ n

@@ -1,4 +1,4 @@
-use Rattle.std.proofs.Common.{◌∙◌, refl, sym}
+use Rattle.std.proofs.Common.{◌<◌, ◌∙◌, refl, sym, arith}
 use Rattle.pages.specs.Unsealed.{unsealed}
 use Rattle.pages.specs.declared.payload.PageFault.TheVariants as page
 use Rattle.version1.proofs.LentLemmas.{stored_read, ok_some, ok_none}
@@ -10,8 +10,10 @@ returns-in-Ok-unseal-clause-payload g c = λ fa.
     ∙ ok_some (unsealed c.args.number c.read.new.page) (page.Damaged c.args.number) c.in-Ok-unseal.payload (sym c.unseal.ensures.value ∙ c.in-Ok-unseal.is)
 
 pub returns-in-Err-unseal-clause-fault : goal.returns-in-Err-unseal-clause-fault
-returns-in-Err-unseal-clause-fault g c = (
-  refl,
-  λ fa. stored_read (g.S.PageStore.seen c.args.store.now) c.args.number c.read.new.page (c.in-Ok.ensures.read fa)
-      ∙ ok_none (unsealed c.args.number c.read.new.page) (page.Damaged c.args.number) _ (sym c.unseal.ensures.value ∙ c.in-Err-unseal.is),
-)
+returns-in-Err-unseal-clause-fault g c =
+    let below : c.args.number < (g.S.PageStore.seen c.args.store.now).count = omega (arith, c.if-number-len.false, c.len.ensures) in (
+      refl,
+      below,
+      λ fa. stored_read (g.S.PageStore.seen c.args.store.now) c.args.number c.read.new.page (c.in-Ok.ensures.read fa)
+          ∙ ok_none (unsealed c.args.number c.read.new.page) (page.Damaged c.args.number) _ (sym c.unseal.ensures.value ∙ c.in-Err-unseal.is),
+    )
