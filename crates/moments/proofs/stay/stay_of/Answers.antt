@@ -1,4 +1,4 @@
-use Rattle.std.proofs.Common.{refl, subst, ◌<ℤ◌}
+use Rattle.std.proofs.Common.{subst, ◌<ℤ◌}
 use Rattle.mfcsv.specs.declared.Position.{Position}
 use Rattle.legs.specs.Legs.{LegView}
 use Rattle.clipping.specs.Clip.{Clips}
@@ -46,12 +46,14 @@ returns c =
     let leaves = c.moment_at-leaves.result in
     let clip = c.in_ok-cut.ensures.0 in
     record {
-      same = refl;
+      same = c.leg.view_is;
       first = first_is leg rect period cut rises clip enters.num enters.den enters.positive c.moment_at-enters.ensures.at;
       last = last_is leg rect period cut rises clip leaves.num leaves.den leaves.positive c.moment_at-leaves.ensures.at;
       between = between_is leg rect period cut rises clip enters.num leaves.num enters.den leaves.den enters.positive leaves.positive c.moment_at-enters.ensures.at c.moment_at-leaves.ensures.at;
       entry = position_is leg cut.lo enters c.position_at.result rises c.moment_at-enters.ensures.at c.position_at.ensures.x c.position_at.ensures.y c.position_at.ensures.z;
       exit = position_is leg cut.hi leaves c.position_at-2.result rises c.moment_at-leaves.ensures.at c.position_at-2.ensures.x c.position_at-2.ensures.y c.position_at-2.ensures.z;
-      begun = subst (λ p. IsEndBy enters leg.t0 p c.end_by.result) c.start.ensures.value c.end_by.ensures;
-      ended = subst (λ p. IsEndBy leaves leg.t1 p c.end_by-2.result) c.end.ensures.value c.end_by-2.ensures;
+      begun = subst (λ p. IsEndBy enters leg.t0 p c.end_by.result) c.start.ensures.value
+      (subst (λ (l : LegView). IsEndBy enters l.t0 c.start.result c.end_by.result) c.leg.view_is c.end_by.ensures);
+      ended = subst (λ p. IsEndBy leaves leg.t1 p c.end_by-2.result) c.end.ensures.value
+      (subst (λ (l : LegView). IsEndBy leaves l.t1 c.end.result c.end_by-2.result) c.leg.view_is c.end_by-2.ensures);
     }
