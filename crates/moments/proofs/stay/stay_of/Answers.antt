@@ -53,7 +53,7 @@ returns c =
       entry = position_is leg cut.lo enters c.position_at.result rises c.moment_at-enters.ensures.at c.position_at.ensures.x c.position_at.ensures.y c.position_at.ensures.z;
       exit = position_is leg cut.hi leaves c.position_at-2.result rises c.moment_at-leaves.ensures.at c.position_at-2.ensures.x c.position_at-2.ensures.y c.position_at-2.ensures.z;
       begun = subst (λ p. IsEndBy enters leg.t0 p c.end_by.result) c.start.ensures.value
-      (subst (λ (l : LegView). IsEndBy enters l.t0 c.start.result c.end_by.result) c.leg.view_is c.end_by.ensures);
+          (subst (λ (l : LegView). IsEndBy enters l.t0 c.start.result c.end_by.result) c.leg.view_is c.end_by.ensures);
       ended = subst (λ p. IsEndBy leaves leg.t1 p c.end_by-2.result) c.end.ensures.value
-      (subst (λ (l : LegView). IsEndBy leaves l.t1 c.end.result c.end_by-2.result) c.leg.view_is c.end_by-2.ensures);
+          (subst (λ (l : LegView). IsEndBy leaves l.t1 c.end.result c.end_by-2.result) c.leg.view_is c.end_by-2.ensures);
     }
