@@ -4,5 +4,8 @@
 mod task;
 mod words;
 
-pub use task::{Bounds, Check, Info, Migrate, Moments, Part, Parts, RowKind, Run, Task, Telling};
+pub use task::{
+    Bounds, Check, Info, Migrate, Moments, Part, Parts, RowKind, Run, Task, Telling, ZoneKind,
+    Zones,
+};
 pub use words::read_words;

@@ -126,6 +126,36 @@ pub struct Moments<'a> {
     pub telling: Telling,
 }
 
+/// What is printed of zones.
+#[derive(Clone, Copy)]
+pub enum ZoneKind<'a> {
+    /// A record a visit.
+    Visits,
+    /// A record a stay of a leg.
+    Legs,
+    /// A record a feature: how long it stays.
+    Dwell,
+    /// A record a feature of which the predicate of this name holds.
+    Features(&'a str),
+}
+
+/// What `mftb zones` is asked to do.
+#[derive(Clone, Copy)]
+pub struct Zones<'a> {
+    /// The name of the file that keeps the database.
+    pub store: &'a str,
+    /// How many pages its cache holds at most, at least 1.
+    pub cache_pages: u32,
+    /// The name of the zone file.
+    pub zones: &'a str,
+    /// T1 and T2.
+    pub times: [&'a str; 2],
+    /// What is printed.
+    pub rows: ZoneKind<'a>,
+    /// When it is said why nothing is printed.
+    pub telling: Telling,
+}
+
 /// What `mftb info` is asked to do.
 #[derive(Clone, Copy)]
 pub struct Info<'a> {
@@ -150,6 +180,8 @@ pub enum Task<'a> {
     Parts(Parts<'a>),
     /// To say when legs are inside a rectangle.
     Moments(Moments<'a>),
+    /// To say who is in which zone.
+    Zones(Zones<'a>),
     /// To say what a store holds.
     Info(Info<'a>),
 }

@@ -1,6 +1,7 @@
 //! The words of the command line.
 use crate::task::{
-    Bounds, Check, Info, Migrate, Moments, Part, Parts, RowKind, Run, Task, Telling,
+    Bounds, Check, Info, Migrate, Moments, Part, Parts, RowKind, Run, Task, Telling, ZoneKind,
+    Zones,
 };
 use clap::builder::ValueParser;
 use clap::error::ErrorKind;
@@ -29,6 +30,8 @@ enum Form<'a> {
     Number(&'a str),
     /// `--NAME N`, a number of 1 at least, and that where it is not there.
     CountOr(&'a str),
+    /// `--NAME VALUE`, a text.
+    Text(&'a str),
 }
 
 /// A word of a command: its name, what it is, and what is said of it.
@@ -100,6 +103,15 @@ fn count_or<'a>(alloc: Global, word: Word<'a>, default: &'a str) -> Arg<'a> {
     number(alloc, word, "N", 1).default_value(default)
 }
 
+/// A word `--NAME VALUE`, a text.
+fn text<'a>(alloc: Global, word: Word<'a>, value: &'a str) -> Arg<'a> {
+    Arg::new(alloc, word.name)
+        .long(word.name)
+        .value_name(value)
+        .help(word.help)
+        .action(ArgAction::Set)
+}
+
 /// What `clap` is told of a word.
 fn arg_of<'a>(alloc: Global, word: Word<'a>) -> Arg<'a> {
     match word.form {
@@ -111,6 +123,7 @@ fn arg_of<'a>(alloc: Global, word: Word<'a>) -> Arg<'a> {
         Form::FlagOrLetter(letter) => letter_flag(alloc, word, letter),
         Form::Number(value) => number(alloc, word, value, 0),
         Form::CountOr(default) => count_or(alloc, word, default),
+        Form::Text(value) => text(alloc, word, value),
     }
 }
 
@@ -323,6 +336,45 @@ fn moments_command<'a>(alloc: Global, takes_negative: bool) -> Result<Command<'a
     command(alloc, "moments", about, &words)
 }
 
+/// The words of `mftb zones`.
+fn zones_command<'a>(alloc: Global) -> Result<Command<'a>, AllocError> {
+    let words = [
+        Word::new(Form::Required, "STORE", "The file that keeps the database"),
+        Word::new(
+            Form::Required,
+            "ZONES",
+            "The zone file: CSV with the columns name and wkt",
+        ),
+        Word::new(
+            Form::Required,
+            "T1",
+            "The first moment, as 2012-01-17T12:33:41Z",
+        ),
+        Word::new(Form::Required, "T2", "The last moment"),
+        Word::new(
+            Form::Flag,
+            "visits",
+            "Print a record a visit, as without another of these flags",
+        ),
+        Word::new(Form::Flag, "legs", "Print a record a stay of a leg"),
+        Word::new(
+            Form::Flag,
+            "dwell",
+            "Print a record a feature: how long it stays in all",
+        ),
+        Word::new(
+            Form::Text("PRED"),
+            "features",
+            "Print the features of which ever, always, enters, leaves, crosses or bypasses holds",
+        ),
+        cache_pages(),
+        explain(),
+        quiet(),
+    ];
+    let about = "Prints who is in which zone of a file from when to when, as exact moments";
+    command(alloc, "zones", about, &words)
+}
+
 /// The words of `mftb info`.
 fn info_command<'a>(alloc: Global) -> Result<Command<'a>, AllocError> {
     let words = [
@@ -354,6 +406,7 @@ fn mftb<'a>(alloc: Global, takes_negative: bool) -> Result<Command<'a>, AllocErr
         .subcommand(part_command(alloc)?)?
         .subcommand(parts_command(alloc)?)?
         .subcommand(moments_command(alloc, takes_negative)?)?
+        .subcommand(zones_command(alloc)?)?
         .subcommand(info_command(alloc)?)
 }
 
@@ -444,6 +497,31 @@ fn moments_of<'a>(matches: &ArgMatches<'a>) -> Moments<'a> {
     }
 }
 
+/// What is printed of zones.
+fn zone_rows_of<'a>(matches: &ArgMatches<'a>) -> ZoneKind<'a> {
+    if let Some(predicate) = matches.get_str("features") {
+        ZoneKind::Features(predicate)
+    } else if flag_of(matches, "legs") {
+        ZoneKind::Legs
+    } else if flag_of(matches, "dwell") {
+        ZoneKind::Dwell
+    } else {
+        ZoneKind::Visits
+    }
+}
+
+/// What `mftb zones` is asked to do.
+fn zones_of<'a>(matches: &ArgMatches<'a>) -> Zones<'a> {
+    Zones {
+        store: word_of(matches, "STORE"),
+        cache_pages: number_of(matches, "cache-pages", CACHE_PAGES),
+        zones: word_of(matches, "ZONES"),
+        times: [word_of(matches, "T1"), word_of(matches, "T2")],
+        rows: zone_rows_of(matches),
+        telling: telling_of(matches),
+    }
+}
+
 /// What `mftb check` is asked to do.
 fn check_of<'a>(matches: &ArgMatches<'a>) -> Check<'a> {
     Check {
@@ -505,6 +583,26 @@ fn clash_of(matches: &ArgMatches) -> Option<&'static str> {
     if is_said(matches, "dwell") && is_said(matches, "visits") {
         return Some("the argument '--dwell' cannot be used with '--visits'");
     }
+    zone_clash_of(matches)
+}
+
+/// The same of the flags of `mftb zones`.
+fn zone_clash_of(matches: &ArgMatches) -> Option<&'static str> {
+    let has_features = matches.get_str("features").is_some();
+    if is_said(matches, "legs") && is_said(matches, "visits") {
+        return Some("the argument '--legs' cannot be used with '--visits'");
+    }
+    if is_said(matches, "legs") && is_said(matches, "dwell") {
+        return Some("the argument '--legs' cannot be used with '--dwell'");
+    }
+    let has_other = is_said(matches, "legs")
+        || is_said(matches, "dwell")
+        || is_said(matches, "visits");
+    if has_features && has_other {
+        return Some(
+            "the argument '--features' cannot be used with '--visits', '--legs' or '--dwell'",
+        );
+    }
     None
 }
 
@@ -543,6 +641,7 @@ fn task_of<'a>(alloc: Global, name: &str, matches: &ArgMatches<'a>) -> Result<Ta
         "part" => Task::Part(part_of(matches)),
         "parts" => Task::Parts(parts_of(matches)),
         "moments" => Task::Moments(moments_of(matches)),
+        "zones" => Task::Zones(zones_of(matches)),
         "info" => Task::Info(info_of(matches)),
         _ => Task::Run(run_of(alloc, matches)?),
     })

@@ -19,7 +19,7 @@ use timebase::{Ms, Period};
 use trajdb::{Db, RunFault};
 
 /// How a database's stays are written.
-fn frame_of<S: PageStore>(database: &Db<S>) -> Frame {
+pub(crate) fn frame_of<S: PageStore>(database: &Db<S>) -> Frame {
     match database.head() {
         Some(head) => Frame {
             base: head.base,

@@ -8,6 +8,7 @@ use crate::outcome::Outcome;
 use crate::passages::print_moments;
 use crate::run::run;
 use crate::telling::Before;
+use crate::zones::print_zones;
 use arguments::{Task, read_words};
 use clap::Error;
 use clap::error::ErrorKind;
@@ -39,6 +40,10 @@ fn perform<
         Task::Part(task) => print_part(rt, task, &mut out),
         Task::Parts(task) => write_parts(rt, task),
         Task::Moments(task) => print_moments(rt, task, &mut out, is_terminal),
+        Task::Zones(task) => {
+            let ended = print_zones(rt, task, &mut out);
+            return (out, ended);
+        }
         Task::Info(task) => print_info(rt, task, &mut out),
     };
     (out, done(ended))
@@ -67,6 +72,7 @@ fn answer_words<W: Write, V: Write>(error: &Error, out: &mut W, faults: &mut V) 
 fn status_of(ended: &Result<Outcome, Fault<'_>>, is_strict: bool) -> u8 {
     match ended {
         Ok(Outcome::Refused) if is_strict => 3,
+        Ok(Outcome::ZonesRefused) => 2,
         Ok(_) => 0,
         Err(fault) => fault.status(),
     }
@@ -92,7 +98,7 @@ fn answer_task<
 /// out.
 ///
 /// Of a task it is 0, or 3 where a line or a file was refused and `--strict` is among the words, or
-/// 2 for bounds or a part that are wrong, or 1 for any other fault.
+/// 2 for bounds, a part or a zone file that are wrong, or 1 for any other fault.
 ///
 /// `words` has the program's name first. Answers and help go to `out`, faults to `faults`.
 /// What a long run is doing, and in words what went wrong, is said on standard error, which may be a

@@ -5,7 +5,12 @@ mod info_json;
 mod info_text;
 mod moments_text;
 mod pushed;
+mod zones_text;
 
 pub use info_json::push_json;
 pub use info_text::{StoreReport, push_lines};
 pub use moments_text::{Frame, push_dwells, push_stays, push_visits};
+pub use zones_text::{
+    ZoneLabel, ZoneRows, push_zone_dwells, push_zone_features, push_zone_fields, push_zone_stays,
+    push_zone_visits,
+};

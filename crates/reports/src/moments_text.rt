@@ -39,7 +39,7 @@ fn push_number(text: &mut Vec<u8>, number: u64) -> Result<(), AllocError>
 }
 
 /// Appends a number that may be below 0.
-fn push_signed(text: &mut Vec<u8>, number: i128) -> Result<(), AllocError>
+pub(crate) fn push_signed(text: &mut Vec<u8>, number: i128) -> Result<(), AllocError>
     ensures { OnOk result (text.new.items ≡ text.old.items ++ signed_decimal number) }
 {
     let mut buffer = Buffer::new();
@@ -57,7 +57,7 @@ fn push_three_digits(text: &mut Vec<u8>, number: u64) -> Result<(), AllocError>
 }
 
 /// Appends a comma and a word.
-fn push_word(text: &mut Vec<u8>, word: &str) -> Result<(), AllocError>
+pub(crate) fn push_word(text: &mut Vec<u8>, word: &str) -> Result<(), AllocError>
     ensures { OnOk result (text.new.items ≡ text.old.items ++ next_field word.now) }
 {
     text.push(b',')?;
@@ -65,7 +65,7 @@ fn push_word(text: &mut Vec<u8>, word: &str) -> Result<(), AllocError>
 }
 
 /// Appends a comma and a number.
-fn push_count(text: &mut Vec<u8>, number: u64) -> Result<(), AllocError>
+pub(crate) fn push_count(text: &mut Vec<u8>, number: u64) -> Result<(), AllocError>
     ensures { OnOk result (text.new.items ≡ text.old.items ++ next_field (decimal number)) }
 {
     text.push(b',')?;
@@ -82,7 +82,7 @@ fn drop_last(text: &mut Vec<u8>)
 
 /// Appends a name, quoted where it needs it.
 #[tactic(auto, using(crate::proofs::TextLemmas::last_of_features))]
-fn push_quoted(alloc: Global, text: &mut Vec<u8>, name: &str) -> Result<(), RunFault>
+pub(crate) fn push_quoted(alloc: Global, text: &mut Vec<u8>, name: &str) -> Result<(), RunFault>
     ensures fault { IfErr result (λ fault. fault ≡ RunFault.Memory) }
     ensures text { OnOk result (text.new.items ≡ text.old.items ++ quoted_text name.now) }
 {
@@ -92,7 +92,7 @@ fn push_quoted(alloc: Global, text: &mut Vec<u8>, name: &str) -> Result<(), RunF
 }
 
 /// Appends the name of a feature.
-fn push_name<S: PageStore>(
+pub(crate) fn push_name<S: PageStore>(
     alloc: Global,
     text: &mut Vec<u8>,
     database: &Db<S>,
@@ -134,7 +134,7 @@ fn push_millis(text: &mut Vec<u8>, at: Ms) -> Result<(), AllocError>
 }
 
 /// Appends a comma and an instant to the microsecond.
-fn push_micros(text: &mut Vec<u8>, micros: i64) -> Result<(), RunFault>
+pub(crate) fn push_micros(text: &mut Vec<u8>, micros: i64) -> Result<(), RunFault>
     ensures fault { IfErr result (IsPrintFault (IsMoment (int_div_euclid micros (pos 1000)))) }
     ensures text { OnOk result (text.new.items
         ≡ text.old.items ++ next_field (micros_text micros)) }
@@ -176,7 +176,7 @@ fn push_next_coord(text: &mut Vec<u8>, coord: Coord) -> Result<(), AllocError>
 
 /// Appends a comma and each coordinate of a position.
 #[tactic(auto, unfolding(crate::specs::StayTexts::position_text))]
-fn push_position(
+pub(crate) fn push_position(
     text: &mut Vec<u8>,
     dimension: Dimension,
     position: Position,
@@ -193,7 +193,7 @@ fn push_position(
 }
 
 /// The names of the fields of two positions.
-fn position_fields(dimension: Dimension) -> &'static str
+pub(crate) fn position_fields(dimension: Dimension) -> &'static str
     ensures { result.now ≡ position_fields dimension }
 {
     match dimension {
@@ -333,7 +333,7 @@ pub fn push_visits<S: PageStore>(
 
 /// Appends a comma and microseconds as seconds.
 #[tactic(auto, unfolding(crate::specs::StayTexts::seconds_text))]
-fn push_seconds(text: &mut Vec<u8>, micros: u64) -> Result<(), RunFault>
+pub(crate) fn push_seconds(text: &mut Vec<u8>, micros: u64) -> Result<(), RunFault>
     ensures fault { IfErr result (λ fault. fault ≡ RunFault.Memory) }
     ensures text { OnOk result (text.new.items
         ≡ text.old.items ++ next_field (seconds_text micros)) }

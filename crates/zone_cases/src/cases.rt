@@ -12,7 +12,7 @@ pub struct Case {
     pub rings: Vec<Ring>,
 }
 
-fn position(numbers: &mut Numbers) -> Option<Position> {
+pub fn position(numbers: &mut Numbers) -> Option<Position> {
     let x = numbers.take()?;
     let y = numbers.take()?;
     Position::new(x, y)
@@ -38,7 +38,7 @@ fn ring(alloc: Global, numbers: &mut Numbers) -> Result<Option<Ring>, AllocError
     Ok(Some(Ring::new(corners)))
 }
 
-fn rings(alloc: Global, numbers: &mut Numbers) -> Result<Option<Vec<Ring>>, AllocError> {
+pub fn rings(alloc: Global, numbers: &mut Numbers) -> Result<Option<Vec<Ring>>, AllocError> {
     let mut rings = Vec::new(alloc);
     for _ in 0..1000 {
         if numbers.is_done() {

@@ -3,16 +3,24 @@
 //! A case is a line of whole numbers: x0 y0 x1 y1 of a course; two fractions of it, from and to, each as numerator and
 //! denominator; and for each ring how many corners it has, and x and y of each. A line is answered by its stays, each
 //! as FROM:TO in lowest terms; by `-` where there is none; or by `no case`.
+//!
+//! Behind the word `leg` a line has t0 and t1 of a leg and the start and end of a period, in milliseconds, then x0 y0
+//! x1 y1 of the leg and the rings. Behind `gate` it has two positions in the place of the rings. Each stay is answered
+//! as FROM:TO X,Y:X,Y BY:BY SIDE:SIDE, moments as WHOLE+REST/DEN.
 #![tactic(auto)]
 
 mod cases;
+mod leg_cases;
 mod numbers;
 
 use cases::{Case, read_case};
 use fractions::lowest_terms;
-use std::alloc::Global;
+use leg_cases::{LegCase, read_gate_case, read_leg_case};
+use mfcsv::Position;
+use std::alloc::{AllocError, Global};
 use std::io::{self, BufRead, BufReader};
 use zones::{Cut, Place, stays};
+use zoning::{Moment, Side, Stay};
 
 /// Prints a place in lowest terms.
 fn print_place(rt: &impl Print, place: &Place) -> io::Result<()> {
@@ -43,14 +51,87 @@ fn print_case(rt: &impl Print, alloc: Global, case: &Case) -> io::Result<()> {
     print_cuts(rt, &cuts)
 }
 
+/// Prints a moment.
+fn print_moment(rt: &impl Print, moment: &Moment) -> io::Result<()> {
+    let whole = moment.whole.millis();
+    if moment.rest == 0 {
+        return print!(rt; "{whole}");
+    }
+    print!(rt; "{whole}+{}/{}", moment.rest, moment.den)
+}
+
+/// Prints x and y.
+fn print_position(rt: &impl Print, position: &Position) -> io::Result<()> {
+    print!(rt; "{},{}", position.x.units(), position.y.units())
+}
+
+/// A side as a word.
+fn side_text(side: Option<Side>) -> &'static str {
+    match side {
+        Some(side) => side.as_str(),
+        None => "none",
+    }
+}
+
+/// Prints a stay of a leg.
+fn print_stay(rt: &impl Print, stay: &Stay) -> io::Result<()> {
+    print_moment(rt, &stay.enters)?;
+    print!(rt; ":")?;
+    print_moment(rt, &stay.leaves)?;
+    print!(rt; " ")?;
+    print_position(rt, &stay.entry)?;
+    print!(rt; ":")?;
+    print_position(rt, &stay.exit)?;
+    let (begins, ends) = (stay.enters_by.as_str(), stay.leaves_by.as_str());
+    let (from, to) = (side_text(stay.from), side_text(stay.to));
+    print!(rt; " {begins}:{ends} {from}:{to} ")
+}
+
+/// Prints the stays of one case of a leg.
+fn print_leg_case(rt: &impl Print, alloc: Global, case: &LegCase) -> io::Result<()> {
+    let stays = case.site.stays_of(alloc, &case.leg, &case.period)?;
+    if stays.is_empty() {
+        print!(rt; "-")?;
+    }
+    for stay in &stays {
+        print_stay(rt, stay)?;
+    }
+    println!(rt; "")
+}
+
+/// Prints the answer to a line.
+fn print_line(rt: &impl Print, alloc: Global, line: &str) -> io::Result<()> {
+    let (leg, gate) = (line.strip_prefix("leg "), line.strip_prefix("gate "));
+    if leg.is_some() || gate.is_some() {
+        return match leg_case_of(alloc, leg, gate)? {
+            Some(case) => print_leg_case(rt, alloc, &case),
+            None => println!(rt; "no case"),
+        };
+    }
+    match read_case(alloc, line)? {
+        Some(case) => print_case(rt, alloc, &case),
+        None => println!(rt; "no case"),
+    }
+}
+
+/// The case of a line behind the word `leg`, or behind `gate`.
+fn leg_case_of(
+    alloc: Global,
+    leg: Option<&str>,
+    gate: Option<&str>,
+) -> Result<Option<LegCase>, AllocError> {
+    match (leg, gate) {
+        (Some(line), _) => read_leg_case(alloc, line),
+        (_, Some(line)) => read_gate_case(alloc, line),
+        _ => Ok(None),
+    }
+}
+
 fn main(rt: HostRuntime) -> io::Result<()> {
     let alloc = rt.alloc();
     for line in BufReader::new(alloc, rt.reader())?.lines(alloc) {
         let line = line?;
-        match read_case(alloc, line.as_str())? {
-            Some(case) => print_case(&rt, alloc, &case)?,
-            None => println!(rt; "no case")?,
-        }
+        print_line(&rt, alloc, line.as_str())?;
     }
     Ok(())
 }

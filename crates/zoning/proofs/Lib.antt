@@ -1,0 +1,5 @@
+pub mod Orders
+pub mod Terms
+pub mod PartLemmas
+pub mod HeldLemmas
+pub mod LiveLemmas

@@ -1,0 +1,22 @@
+//! Legs in zones: when and where a leg is in a polygon or on a gate in a period, exactly, and what features do there.
+#![tactic(auto)]
+
+mod asked;
+mod dwells;
+mod ends;
+mod holding;
+mod moment;
+mod part;
+mod sides;
+mod site;
+mod stay;
+mod visits;
+
+pub use dwells::{Dwell, dwells_of};
+pub use ends::End;
+pub use holding::{Tallies, Tally, features_ever, features_of};
+pub use moment::Moment;
+pub use sides::Side;
+pub use site::Site;
+pub use stay::{Stay, stays_of};
+pub use visits::{Visit, visits_of};

@@ -1,0 +1,90 @@
+//! Moments and positions at a part of a leg.
+ghost use Rattle.std.specs.Prelude.{◌≡◌, pos, ◌+ℤ◌, unsigned_abs};
+ghost use Rattle.fixedpoint.specs.Number.{IsInRange};
+ghost use Rattle.timebase.specs.Instant.{IsMoment};
+ghost use Rattle.clipping.specs.Inside.{duration};
+ghost use Rattle.zoning.specs.Parts.{IsAt, IsPart};
+
+use crate::moment::Moment;
+use fixedpoint::Coord;
+use fractions::{Fraction, lowest_terms, share_of};
+use legs::Leg;
+use mfcsv::Position;
+use timebase::Ms;
+
+/// How many milliseconds a leg takes.
+fn duration_of(leg: &Leg) -> u64
+    ensures { pos result ≡ duration leg.now }
+{
+    (leg.t1.millis() - leg.t0.millis()).unsigned_abs()
+}
+
+/// The moment so many milliseconds after one.
+fn later(start: Ms, by: u64) -> Ms
+    requires { IsMoment (start +ℤ pos by) }
+    ensures { result ≡ start +ℤ pos by }
+{
+    match Ms::new(start.millis() + by as i64) {
+        Some(moment) => moment,
+        None => unreachable!(),
+    }
+}
+
+/// The denominator of a part.
+fn den_of(part: Fraction) -> u128
+    ensures { result ≡ unsigned_abs part.den }
+{
+    part.den.unsigned_abs()
+}
+
+/// The moment at a part of a leg's duration.
+pub(crate) fn moment_at(leg: &Leg, part: Fraction) -> Moment
+    requires { IsPart part.num part.den }
+    ensures { IsAt leg.now part.num part.den result }
+{
+    let share = share_of(part, duration_of(leg));
+    let terms = lowest_terms(share.rest, den_of(part));
+    Moment {
+        whole: later(leg.t0, share.whole),
+        rest: terms.num,
+        den: terms.den,
+    }
+}
+
+/// What goes evenly from `a` to `b`, at a part of the way, rounded down to the unit.
+fn units_at(a: i64, b: i64, part: Fraction) -> i64
+    requires part { IsPart part.num part.den }
+    requires a_in { IsInRange a }
+    requires b_in { IsInRange b }
+    ensures { IsInRange result }
+{
+    if a <= b {
+        a + share_of(part, (b - a).unsigned_abs()).whole as i64
+    } else {
+        let left = Fraction {
+            num: part.den - part.num,
+            den: part.den,
+        };
+        b + share_of(left, (a - b).unsigned_abs()).whole as i64
+    }
+}
+
+fn coord_at(a: Coord, b: Coord, part: Fraction) -> Coord
+    requires { IsPart part.num part.den }
+{
+    match Coord::new(units_at(a.units(), b.units(), part)) {
+        Some(coord) => coord,
+        None => unreachable!(),
+    }
+}
+
+/// Where a leg is at a part of its duration, each coordinate rounded down to the unit.
+pub(crate) fn position_at(leg: &Leg, part: Fraction) -> Position
+    requires { IsPart part.num part.den }
+{
+    Position {
+        x: coord_at(leg.x0, leg.x1, part),
+        y: coord_at(leg.y0, leg.y1, part),
+        z: coord_at(leg.z0, leg.z1, part),
+    }
+}
