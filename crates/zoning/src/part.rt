@@ -1,5 +1,5 @@
 //! Moments and positions at a part of a leg.
-ghost use Rattle.std.specs.Prelude.{◌≡◌, pos, ◌+ℤ◌, unsigned_abs};
+ghost use Rattle.std.specs.Prelude.{◌≡◌, pos, ◌+ℤ◌, ◌≤ℤ◌, unsigned_abs};
 ghost use Rattle.fixedpoint.specs.Number.{IsInRange};
 ghost use Rattle.timebase.specs.Instant.{IsMoment};
 ghost use Rattle.clipping.specs.Inside.{duration};
@@ -51,6 +51,28 @@ pub(crate) fn moment_at(leg: &Leg, part: Fraction) -> Moment
     }
 }
 
+/// What goes evenly from `low` up to `high`, at a part of the way, rounded down to the unit.
+fn up_from(low: i64, high: i64, part: Fraction) -> i64
+    requires part { IsPart part.num part.den }
+    requires low_in { IsInRange low }
+    requires high_in { IsInRange high }
+    requires up { low ≤ℤ high }
+    ensures { IsInRange result }
+{
+    low + share_of(part, (high - low).unsigned_abs()).whole as i64
+}
+
+/// What is left of a part.
+fn left_of(part: Fraction) -> Fraction
+    requires { IsPart part.num part.den }
+    ensures { IsPart result.num result.den }
+{
+    Fraction {
+        num: part.den - part.num,
+        den: part.den,
+    }
+}
+
 /// What goes evenly from `a` to `b`, at a part of the way, rounded down to the unit.
 fn units_at(a: i64, b: i64, part: Fraction) -> i64
     requires part { IsPart part.num part.den }
@@ -59,13 +81,9 @@ fn units_at(a: i64, b: i64, part: Fraction) -> i64
     ensures { IsInRange result }
 {
     if a <= b {
-        a + share_of(part, (b - a).unsigned_abs()).whole as i64
+        up_from(a, b, part)
     } else {
-        let left = Fraction {
-            num: part.den - part.num,
-            den: part.den,
-        };
-        b + share_of(left, (a - b).unsigned_abs()).whole as i64
+        up_from(b, a, left_of(part))
     }
 }
 
