@@ -1,5 +1,5 @@
 -- The first and the last moment of a leg in a period are moments of the leg.
-use Rattle.std.proofs.Common.{true, ◌≡◌, ℤ, ◌≤ℤ◌, ◌<ℤ◌, arith}
+use Rattle.std.proofs.Common.{true, ◌≡◌, ℤ, ◌≤ℤ◌, arith}
 use Rattle.std.specs.Prelude.{int_le}
 use Rattle.std.proofs.lemmas.Int.{clamps, ints}
 use Rattle.timebase.specs.Period.{PeriodView}

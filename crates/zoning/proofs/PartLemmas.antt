@@ -1,11 +1,10 @@
 -- The places of cuts are parts.
-use Rattle.std.proofs.Common.{ℕ, ◌<◌, ◌^◌, List, [], ◌∷◌, ℤ, pos, ◌*ℤ◌, ◌≤ℤ◌, ◌<ℤ◌, ◌≡◌, unsigned_abs, arith}
+use Rattle.std.proofs.Common.{List, [], ◌∷◌, ℤ, pos, ◌*ℤ◌, ◌≤ℤ◌, ◌<ℤ◌, ◌≡◌, arith}
 use Rattle.std.proofs.lemmas.Int.{ints}
 use Rattle.clipping.proofs.Fractions.{cancel, scale}
 use Rattle.zones.specs.Cuts.{AllBetween}
 use Rattle.zones.specs.declared.cuts.Cut.{Cut}
 use Rattle.zones.specs.declared.cuts.Place.{Place}
-use Rattle.zoning.specs.Parts.{IsPart}
 use Rattle.zoning.specs.Stays.{AllInside, IsInside}
 
 -- f / a ≤ n / b, and 0 ≤ f

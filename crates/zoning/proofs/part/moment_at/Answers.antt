@@ -1,4 +1,4 @@
-use Rattle.std.proofs.Common.{◌≡◌, ◌∙◌, ◌*◌, ℤ, pos, ◌+ℤ◌, ◌*ℤ◌, arith, ap, unsigned_abs}
+use Rattle.std.proofs.Common.{◌∙◌, ◌*◌, ℤ, pos, ◌+ℤ◌, ◌*ℤ◌, arith, ap, unsigned_abs}
 use Rattle.std.proofs.lemmas.Int.{ints}
 use Rattle.legs.specs.Legs.{LegView}
 use Rattle.clipping.specs.Inside.{duration}
