@@ -42,6 +42,7 @@ pub record IsInside (cut : Cut) : Type 0 where
   pub lo : IsPart cut.lo.num cut.lo.den
   pub hi : IsPart cut.hi.num cut.hi.den
 
+-- both places of each cut are parts
 abbrev pub AllInside : List Cut → Type 0
 AllInside [] = Unit {0}
 AllInside (cut ∷ cuts) = IsInside cut × AllInside cuts

@@ -37,6 +37,7 @@ impl Moment {
 
     /// The moment in microseconds since 1970-01-01T00:00:00Z, rounded down.
     pub fn micros_down(&self) -> i64
+        // The result is small, so that the difference of two fits.
         ensures { unsigned_abs result < 2 ^ 58 }
     {
         self.whole.millis() * 1000 + thousandths(self.rest, self.den) as i64
@@ -44,6 +45,7 @@ impl Moment {
 
     /// The moment in microseconds since 1970-01-01T00:00:00Z, rounded up.
     pub fn micros_up(&self) -> i64
+        // The result is small, so that the difference of two fits.
         ensures { unsigned_abs result < 2 ^ 58 }
     {
         let down = thousandths(self.rest, self.den);

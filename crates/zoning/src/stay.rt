@@ -126,6 +126,7 @@ pub fn stays_of(
     leg: &Leg,
     period: &Period,
 ) -> Result<Vec<Stay>, AllocError>
+    // At each moment of the leg in the period, the leg is in the zone exactly if one of the stays holds the moment.
     ensures { IfOk result (λ stays. AreStays rings.now leg.now period.now stays.items) }
 {
     match asked_of(leg, period) {
