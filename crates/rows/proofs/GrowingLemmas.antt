@@ -1,6 +1,6 @@
 -- How rows grow value by value.
 use Rattle.std.proofs.Common.{ℕ, List, [], ◌∷◌, ◌++◌, ◌≡◌, ◌≤◌, ◌+◌, ◌-◌, length, map, take, drop, replicate, All, IsUtf8, subst, sym, ap, ◌∙◌, arith}
-use Rattle.std.proofs.lemmas.List.{length-append, length-drop, length-take-le, drop-append-le, drop_all, take_all, take-take, take-append-le, map_push}
+use Rattle.std.proofs.lemmas.List.{length-append, length-drop, drop-append-le, drop_all, take_all, take-append-le, map_push}
 use Rattle.std.proofs.lemmas.List.Elements.{All-append, All-cons, All-nil, All-push}
 use Rattle.rows.specs.Rows.{row_of, rows_of, grown, with_value, IsIn, AreIn, AreGrown}
 use Rattle.rows.specs.declared.row.Place.{Place}
@@ -31,31 +31,12 @@ place-in values places place are count =
 pub row-is : (values : List (List ℕ)) (place : Place) → place.count ≡ length values - place.first → row_of values place ≡ drop place.first values ++ replicate place.blanks []
 row-is values place count = ap (λ xs. xs ++ replicate place.blanks []) (take_all place.count (drop place.first values) (omega (arith, length-drop place.first values, count)))
 
--- the values that were begun are let go of
-none-left : (values : List (List ℕ)) (first : ℕ) → first ≤ length values → drop first (take first values) ≡ []
-none-left values first begins = drop_all first (take first values) (omega (arith, length-take-le first values begins))
-
-pub let-go-in : (values : List (List ℕ)) (places : List Place) (first : ℕ) → AreIn (take first values) places → first ≤ length values → AreGrown (take first values) places first
-let-go-in values places first rows begins =
-    record {
-      rows = subst (λ vs. AreIn vs places) (sym (take-take first first values (omega arith))) rows;
-      begins = omega (arith, length-take-le first values begins);
-      texts = subst (All IsUtf8) (sym (none-left values first begins)) (All-nil IsUtf8);
-    }
-
-pub let-go : (values : List (List ℕ)) (places : List Place) (first : ℕ) → first ≤ length values → grown (take first values) places first ≡ record { rows = rows_of (take first values) places; row = [] }
-let-go values places first begins =
-    ap (λ vs. record { rows = rows_of vs places; row = drop first (take first values) }) (take-take first first values (omega arith))
-    ∙ ap (λ xs. record { rows = rows_of (take first values) places; row = xs }) (none-left values first begins)
-
 -- a row more, equal to one at a place before
-pub known-in : (values : List (List ℕ)) (places : List Place) (known : Place) (first : ℕ) → AreGrown values places first → IsIn (take first values) known → AreGrown (take first values) (places ++ known ∷ []) first
-known-in values places known first are inside = let-go-in values (places ++ known ∷ []) first (All-push (IsIn (take first values)) places known are.rows inside) are.begins
+pub known-in : (values : List (List ℕ)) (places : List Place) (known : Place) (first : ℕ) → AreGrown values places first → IsIn (take first values) known → AreGrown values (places ++ known ∷ []) first
+known-in values places known first are inside = record { rows = All-push (IsIn (take first values)) places known are.rows inside; begins = are.begins; texts = are.texts }
 
-pub known-row : (values : List (List ℕ)) (places : List Place) (known : Place) (first : ℕ) → AreGrown values places first → grown (take first values) (places ++ known ∷ []) first ≡ record { rows = rows_of (take first values) places ++ row_of (take first values) known ∷ []; row = [] }
-known-row values places known first are =
-    let-go values (places ++ known ∷ []) first are.begins
-    ∙ ap (λ rs. record { rows = rs; row = [] }) (map_push (row_of (take first values)) places known)
+pub known-row : (values : List (List ℕ)) (places : List Place) (known : Place) → rows_of values (places ++ known ∷ []) ≡ rows_of values places ++ row_of values known ∷ []
+known-row values places known = map_push (row_of values) places known
 
 -- a row more, at a place of its own
 pub new-in : (values : List (List ℕ)) (places : List Place) (place : Place) (first : ℕ) → AreGrown values places first → IsIn values place → AreGrown values (places ++ place ∷ []) (length values)

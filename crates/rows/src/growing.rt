@@ -159,7 +159,7 @@ impl GrowingRows {
         let hash = hash_of(&self.values, first);
         if let Some(known) = find(&self.values, &self.places, place, hash) {
             self.places.push(known, hash)?;
-            self.values.truncate(first);
+            self.let_go();
             return Ok(());
         }
         self.places.push(place, hash)?;
@@ -167,8 +167,15 @@ impl GrowingRows {
         Ok(())
     }
 
-    /// Lets go of the values of the row that is begun. The rows are as before, also where memory runs
-    /// out.
+    /// Lets go of the values of the row that is begun.
+    fn let_go(&mut self)
+        ensures { self.new ≡ record self.old { row = [] } }
+    {
+        self.values.truncate(self.first);
+    }
+
+    /// Lets go of the values of the row that is begun, also of one that was left half written. Where
+    /// memory runs out all is as before.
     pub(crate) fn begin_row(&mut self) -> Result<(), AllocError>
         ensures begun { OnOk result (self.new ≡ record self.old { row = [] }) }
         ensures stays { OnErr result (self.new ≡ self.old) }

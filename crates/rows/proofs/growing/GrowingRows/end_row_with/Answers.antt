@@ -18,9 +18,9 @@ returns-in-Some-clause-ended c =
     let first = c.self.inside.first in
     let place : Place = record { first = first; count = c.in-Ok.count; blanks = c.args.blanks } in
     let count : place.count ≡ length values - place.first = omega (arith, c.in-Ok.ensures, c.len-end.ensures) in
-    ap (λ vs. grown vs c.push.new.self first) c.truncate.ensures.fields
-    ∙ ap (λ (ps : List Place). grown (take first values) ps first) c.in_ok-push.ensures.pushed
-    ∙ known-row values places c.in-Some.known first c.self.invariant.0
+    c.let_go.ensures
+    ∙ ap (λ (ps : List Place). record { rows = rows_of (take first values) ps; row = [] }) c.in_ok-push.ensures.pushed
+    ∙ ap (λ rs. record { rows = rs; row = [] }) (known-row (take first values) places c.in-Some.known)
     ∙ ap (λ r. record { rows = rows_of (take first values) places ++ r ∷ []; row = [] }) (c.in-Some.ensures.1 ∙ row-is values place count)
     ∙ ap (λ g. record { rows = g.rows ++ (g.row ++ replicate c.args.blanks []) ∷ []; row = [] }) c.self.view_is
 
