@@ -4,8 +4,5 @@
 mod task;
 mod words;
 
-pub use task::{
-    Check, Corners, Gaps, Info, InfoForm, Migrate, Moments, Part, Parts, RowKind, Run, StoreMode,
-    Task, Telling, Where, WriteMode,
-};
+pub use task::{Bounds, Check, Info, Migrate, Moments, Part, Parts, RowKind, Run, Task, Telling};
 pub use words::read_words;

@@ -4,7 +4,6 @@
 mod asking;
 mod dwells;
 mod ends;
-mod gaps;
 mod listing;
 mod moment;
 mod stay;
@@ -13,7 +12,6 @@ mod visits;
 pub use asking::stays;
 pub use dwells::{Dwell, dwells_of};
 pub use ends::End;
-pub use gaps::{Gap, gaps_of};
 pub use listing::stays_of;
 pub use moment::Moment;
 pub use stay::{Stay, stay_of};

@@ -2,7 +2,6 @@
 ghost use Rattle.std.specs.Prelude.{◌≤◌, IfErr, IfOk, vec_len};
 ghost use Rattle.sessions.specs.Reading.{IsUnreadFile};
 
-use crate::cause::Cause;
 use crate::fault::Fault;
 use std::fs::{File, OpenFile};
 use std::io::Read;
@@ -26,19 +25,19 @@ pub fn read_named<'a, R: rt::Files + AllocGlobal>(
 {
     let fault = |error: io::Error| match error.kind() {
         io::ErrorKind::OutOfMemory => Fault::Run(RunFault::Memory),
-        kind => Fault::CannotRead(name, Cause::from(kind)),
+        _ => Fault::CannotRead(name),
     };
     let file = File::open(rt, name).map_err(fault)?;
     // A long file of the disk is not read first.
     if file.metadata().map_err(fault)?.len() > most {
-        return Err(Fault::CannotRead(name, Cause::TooLong));
+        return Err(Fault::CannotRead(name));
     }
     let mut bytes = Vec::new(rt.alloc());
     file.take(most.saturating_add(1))
         .read_to_end(&mut bytes)
         .map_err(fault)?;
     if bytes.len() as u64 > most {
-        return Err(Fault::CannotRead(name, Cause::TooLong));
+        return Err(Fault::CannotRead(name));
     }
     Ok(bytes)
 }
