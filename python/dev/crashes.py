@@ -169,10 +169,13 @@ class Failures(Case):
         was = self.made()
         status, answer, _ = self.run_("third.txt", "third.csv", store="other")
         self.assertEqual(status, 0)
+        self.assertEqual(self.run_("third.txt", "third.csv")[0], 0)
+        new = (self.folder / "store").read_bytes()
         for room in range(len(answer)):
             with self.subTest(room=room):
+                (self.folder / "store").write_bytes(was)
                 self.assertEqual(self.cut(room), (1, b"mftb: output\n"))
-                self.assert_kept(was)
+                self.assert_kept(new)
 
     def cut(self, room):
         """A load whose output takes so many bytes, being a file at its greatest length."""
@@ -196,8 +199,11 @@ class Failures(Case):
 
     def test_closed_pipe(self):
         was = self.made()
+        self.assertEqual(self.run_("second.txt", "second.csv")[0], 0)
+        new = (self.folder / "store").read_bytes()
+        (self.folder / "store").write_bytes(was)
         self.assertEqual(self.closed(), (1, b"mftb: output\n"))
-        self.assert_kept(was)
+        self.assert_kept(new)
 
     def closed(self):
         """A load whose output nobody reads."""
@@ -643,9 +649,9 @@ class Large(Case):
         Together.work(self, 3, asked.legs, 1000)
 
     def test_closed_output(self):
-        was = (self.folder / "store").read_bytes()
         self.assertEqual(Failures.closed(self), (1, b"mftb: output\n"))
-        self.assert_kept(was)
+        self.assertEqual(self.count(), self.new)
+        self.assertEqual(self.beside(), [])
 
 
 class InPlace(Case):

@@ -127,7 +127,7 @@ FILES = [
     ),
 ]
 
-NEXT = "; load it into a new store, or into the parts of a fleet"
+NEXT = "; load it into a new store with more {}, or into the parts of a fleet"
 KNOWN = "there are ever, always, enters, leaves, crosses and bypasses"
 
 # Of each code of a line: the line, its code, and what is said of it.
@@ -268,8 +268,8 @@ class Explained(Case):
     def test_a_full_store(self):
         self.put("S1.csv", (ROOT / "examples" / "standard" / "S1.csv").read_bytes())
         for limits, code, words in (
-            ((4, 2), "F19", f"with its legs the store would have more than 4{NEXT}"),
-            ((5, 2), "F20", f"with it the store would have more than 2 features{NEXT}"),
+            ((4, 2), "F19", f"with its legs the store would have more than 4{NEXT.format('--most-legs')}"),
+            ((5, 2), "F20", f"with it the store would have more than 2 features{NEXT.format('--most-features')}"),
         ):
             self.ask("count\n", options=("-q",), store=code)
             self.limit(code, *limits)

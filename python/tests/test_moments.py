@@ -103,8 +103,10 @@ class Wanted:
     def by_leg(self):
         yield self.fields("enters_by", "leaves_by")
         for leg, enters, leaves in self.stays:
-            ends = end_of(enters, leg.t0, self.period[0]), end_of(leaves, leg.t1, self.period[1])
-            yield [*self.row(leg, enters, leg, leaves), *ends]
+            yield [*self.row(leg, enters, leg, leaves), *self.ends(leg, enters, leg, leaves)]
+
+    def ends(self, first, enters, last, leaves):
+        return end_of(enters, first.t0, self.period[0]), end_of(leaves, last.t1, self.period[1])
 
     def visits(self):
         """The stays of each feature that go on at once, in the order of their first ones."""
@@ -119,10 +121,10 @@ class Wanted:
         return made
 
     def by_visit(self):
-        yield self.fields("legs")
+        yield self.fields("enters_by", "leaves_by", "legs")
         for run in self.visits():
-            row = self.row(run[0][0], run[0][1], run[-1][0], run[-1][2])
-            yield [*row, str(len(run))]
+            ends = run[0][0], run[0][1], run[-1][0], run[-1][2]
+            yield [*self.row(*ends), *self.ends(*ends), str(len(run))]
 
     def dwells(self):
         """Of each feature how many visits it pays, and its milliseconds in all."""
@@ -201,6 +203,50 @@ class Moments(Asked):
                     seconds = sorted(chance.sample(range(-10, 200), 2))
                     found += len(self.check(text, [x[0], y[0], x[1], y[1]], seconds).stays)
                 self.assertGreater(found, 20)
+
+    def test_rectangles_of_a_file(self):
+        """Each answers as alone, behind its name, in the order of the file."""
+        self.load(HARBOUR.read_text())
+        rects = {"mouth": MOUTH[:4], 'the "east", far': ["400", "-500", "500", "500"], "all": ["-500", "-500", "500", "500"]}
+        lines = ["Y2,x1,note,y1,X2,Name"]
+        for name, (x1, y1, x2, y2) in rects.items():
+            quoted = '"' + name.replace('"', '""') + '"'
+            lines.append(f" {y2} ,{x1},no note,{y1},\t{x2},{quoted}")
+        self.write("rects.csv", "\ufeff" + "\r\n".join(lines))
+        for flags in [], ["--visits"], ["--dwell"]:
+            names, *found = self.records(*MOUTH[4:], "--rects", "rects.csv", *flags)
+            wanted = []
+            for name, corners in rects.items():
+                alone, *rows = self.records(*corners, *MOUTH[4:], *flags)
+                wanted += [[name, *row] for row in rows]
+            self.assertEqual(names, ["rectangle", *alone])
+            self.assertEqual(found, wanted)
+            self.assertGreater(len({row[0] for row in found}), 1)
+
+    def test_a_file_of_rectangles_that_is_refused(self):
+        self.load(HARBOUR.read_text())
+        head = "name,x1,y1,x2,y2\n"
+        cases = [
+            ("", 1, "there are no columns name, x1, y1, x2 and y2"),
+            ("name,x1,y1,x2\na,0,0,1\n", 1, "there are no columns name, x1, y1, x2 and y2"),
+            (head + "a,0,0,1,1\n\n ,0,0,1,1\n", 3, "the name is empty, or has more than 255 bytes"),
+            (head + "n" * 256 + ",0,0,1,1\n", 2, "the name is empty, or has more than 255 bytes"),
+            (head + "a,0,0,1,1\nb,0,0,1,1\n a ,0,0,1,1\n", 4, "the name stands a second time"),
+            (head + "a,0,0,1,1\nb,0,0,1,1e3\n", 3, "a coordinate is no number, or out of range"),
+            (head + "a,0,0,1\n", 2, "a coordinate is no number, or out of range"),
+            (head + "a,2,0,1,1\n", 2, "X1 is above X2, or Y1 above Y2"),
+        ]
+        for text, record, why in cases:
+            self.write("rects.csv", text)
+            out, error = self.asked("moments", "--rects", "rects.csv", "store", *MOUTH[4:], status=2)
+            self.assertEqual((out, error), ("", f"mftb: record {record} of the rectangles: {why}\n"))
+        (self.folder / "rects.csv").write_bytes(head.encode() + b"\xff,0,0,1,1\n")
+        out, error = self.asked("moments", "--rects", "rects.csv", "store", *MOUTH[4:], status=2)
+        self.assertEqual((out, error), ("", "mftb: record 2 of the rectangles: a field is not UTF-8\n"))
+        out, error = self.asked("moments", "--rects", "none.csv", "store", *MOUTH[4:], status=1)
+        self.assertEqual((out, error), ("", "mftb: cannot read none.csv\n"))
+        # A rectangle beside the file is one word too many.
+        self.asked("moments", "--rects", "rects.csv", "store", *MOUTH, status=2)
 
     def test_nothing_is_written(self):
         self.load(HARBOUR.read_text())

@@ -129,20 +129,34 @@ class Program(Case):
         status, out, _ = self.answer("run", "two.mftb", "again.txt", "S1.csv")
         self.assertEqual((status, out), (0, "refused F18 at 3\n"))
 
-    def test_a_store_stays_where_the_output_fails(self):
-        self.write_example()
-        self.write("cut.mftb", "")
-        self.cut("run", "cut.mftb", "script.txt", "S1.csv")
-        self.assertEqual(self.bytes_of("cut.mftb"), b"")
-        self.assertFalse(self.path("cut.mftb.mftb-copy").exists())
-        self.assertFalse(self.path("cut.mftb.mftb-lock").exists())
-
-    def test_what_was_loaded_in_place_is_kept_where_the_output_fails(self):
+    def test_what_was_loaded_is_kept_where_the_output_fails(self):
         self.write_example()
         self.write("count.txt", "count\n")
-        self.write("kept.mftb", "")
-        self.cut("run", "--in-place", "kept.mftb", "script.txt", "S1.csv")
-        self.assertEqual(self.answer("run", "kept.mftb", "count.txt"), (0, "ok 1\n5,3\n", ""))
+        for name, words in (("copied.mftb", []), ("placed.mftb", ["--in-place"])):
+            self.write(name, "")
+            self.cut("run", *words, name, "script.txt", "S1.csv")
+            self.assertEqual(self.answer("run", name, "count.txt"), (0, "ok 1\n5,3\n", ""))
+            self.assertEqual(self.answer("check", name), (0, "ok 1\n6,5,3\n", ""))
+            self.assertFalse(self.path(f"{name}.mftb-copy").exists())
+            self.assertFalse(self.path(f"{name}.mftb-lock").exists())
+
+    def test_what_was_loaded_is_kept_where_a_question_fails(self):
+        """The leaf of `b` is page 2, of which a byte is altered; `d` has one leg of its own."""
+        self.write_example()
+        self.write("sound.mftb", "")
+        self.assertEqual(self.answer("run", "sound.mftb", "script.txt", "S1.csv")[0], 0)
+        altered = bytearray(self.bytes_of("sound.mftb"))
+        altered[9000] = 77
+        head = STANDARD.splitlines(keepends=True)[:2]
+        self.write("S2.csv", "".join(head) + "d,10,20,0 0 1 1,walking,1\n")
+        self.write("more.txt", "load S2.csv\ntrajectory b\nload S2.csv\n")
+        self.write("count.txt", "count\n")
+        for words in ([], ["--in-place"]):
+            self.path("altered.mftb").write_bytes(altered)
+            stopped = self.answer("run", *words, "altered.mftb", "more.txt", "S2.csv")
+            self.assertEqual(stopped, (1, "ok 1\n1,1,1\n", "mftb: page 2 damaged\n"))
+            self.assertEqual(self.answer("run", "altered.mftb", "count.txt"), (0, "ok 1\n6,4\n", ""))
+            self.assertFalse(self.path("altered.mftb.mftb-copy").exists())
 
     def test_a_closing_that_fails_too_has_a_line_of_its_own(self):
         self.write_example()
@@ -270,6 +284,49 @@ class Program(Case):
             status, said, _ = self.answer(command, "--help")
             self.assertEqual(status, 0)
             self.assertRegex(" ".join(said.split()), r"--cache-pages <N> [^\[]*\[default: 256\]")
+
+    def test_a_store_takes_as_many_legs_and_features_as_it_is_told(self):
+        """The example has 5 legs, of which record 6 has 2, and 3 features, of which that record is the third."""
+        self.write("S1.csv", STANDARD)
+        self.write("load.txt", "load S1.csv\n")
+        for words, answer in (
+            (["--most-legs", "4"], "refused F19 at 6\n"),
+            (["--most-features", "2"], "refused F20 at 6\n"),
+            (["--most-legs", "5", "--most-features", "3"], "ok 1\n4,5,3\n"),
+            (["--most-legs", "2147483648", "--most-features", "2147483648"], "ok 1\n4,5,3\n"),
+        ):
+            self.write("sized.mftb", "")
+            said = self.answer("run", "-q", *words, "sized.mftb", "load.txt", "S1.csv")
+            self.assertEqual(said, (0, answer, ""))
+
+        # The limits stand in page 0, behind 24 bytes.
+        limits = self.bytes_of("sized.mftb")[24:40]
+        self.assertEqual(limits, (1 << 31).to_bytes(8, "big") * 2)
+
+    def test_limits_are_from_1_to_2_to_the_31(self):
+        self.write("count.txt", "count\n")
+        for name in ("--most-legs", "--most-features"):
+            for number in ("0", "2147483649", "-1", "many"):
+                status, out, faults = self.answer("run", f"{name}={number}", "sized.mftb", "count.txt")
+                self.assertEqual((status, out), (2, ""))
+                self.assertIn(name, faults)
+        self.assertFalse(self.path("sized.mftb").exists())
+
+    def test_a_store_that_is_there_keeps_its_limits(self):
+        self.write_example()
+        self.write("count.txt", "count\n")
+        five = ["--most-legs", "5"]
+        self.write("sized.mftb", "")
+        self.assertEqual(self.answer("run", *five, "sized.mftb", "script.txt", "S1.csv"), (0, ANSWERS, ""))
+        made = self.bytes_of("sized.mftb")
+        counted = (0, "ok 1\n5,3\n", "")
+        for words in ([], five, ["--most-features", "1048576"]):
+            self.assertEqual(self.answer("run", *words, "sized.mftb", "count.txt"), counted)
+        line = "mftb: other limits: the store takes 5 legs and 1048576 features\n"
+        for words in (["--most-legs", "6"], ["--most-features", "4"]):
+            self.fails(line, "run", *words, "sized.mftb", "count.txt", status=2)
+            self.fails(line, "run", *words, "sized.mftb", "script.txt", "S1.csv", status=2)
+        self.assertEqual(self.bytes_of("sized.mftb"), made)
 
     def test_a_part_of_a_file_is_printed(self):
         self.write("whole.csv", STANDARD)

@@ -4,5 +4,8 @@
 mod task;
 mod words;
 
-pub use task::{Bounds, Check, Info, Migrate, Moments, Part, Parts, RowKind, Run, Task, Telling};
+pub use task::{
+    Check, Corners, Gaps, Info, InfoForm, Migrate, Moments, Part, Parts, RowKind, Run, StoreMode,
+    Task, Telling, Where, WriteMode,
+};
 pub use words::read_words;

@@ -22,6 +22,33 @@ impl Telling {
     }
 }
 
+/// Whether a store that is absent is made.
+#[derive(Clone, Copy, PartialEq, Eq, Debug)]
+pub enum StoreMode {
+    /// It is made.
+    Made,
+    /// It is refused.
+    Existing,
+}
+
+/// Where a run writes.
+#[derive(Clone, Copy, PartialEq, Eq, Debug)]
+pub enum WriteMode {
+    /// Into a copy beside the store.
+    OnCopy,
+    /// Into the store as it lies there.
+    InPlace,
+}
+
+/// How a store is printed.
+#[derive(Clone, Copy, PartialEq, Eq, Debug)]
+pub enum InfoForm {
+    /// In lines for people.
+    Lines,
+    /// As one object of JSON.
+    Json,
+}
+
 /// What `mftb run` is asked to do.
 #[derive(Drop)]
 pub struct Run<'a> {
@@ -29,20 +56,24 @@ pub struct Run<'a> {
     pub store: &'a str,
     /// How many pages its cache holds at most, at least 1.
     pub cache_pages: u32,
+    /// How many legs it is to hold at most, from 1 to 2^31, where that is said.
+    pub most_legs: Option<u32>,
+    /// How many features.
+    pub most_features: Option<u32>,
     /// The name of the script.
     pub script: &'a str,
     /// The names of the files that it may load.
     pub files: Vec<&'a str>,
-    /// Whether the store is written as it lies there.
-    pub in_place: bool,
+    /// Whether a store that is absent is made.
+    pub store_mode: StoreMode,
+    /// Where it writes.
+    pub write_mode: WriteMode,
     /// Whether it is said what the run is doing.
     pub progress: bool,
     /// When it is said why a line or a file was refused.
     pub telling: Telling,
     /// Whether a line or a file that is refused changes the status.
     pub is_strict: bool,
-    /// Whether a store that is absent is refused.
-    pub is_existing: bool,
 }
 
 /// What `mftb check` is asked to do.
@@ -91,15 +122,6 @@ pub struct Parts<'a> {
     pub folder: &'a str,
 }
 
-/// A rectangle and a period, as they were written.
-#[derive(Clone, Copy)]
-pub struct Bounds<'a> {
-    /// X1, Y1, X2 and Y2.
-    pub corners: [&'a str; 4],
-    /// T1 and T2.
-    pub times: [&'a str; 2],
-}
-
 /// What is printed of stays.
 #[derive(Clone, Copy)]
 pub enum RowKind {
@@ -111,6 +133,24 @@ pub enum RowKind {
     Dwell,
 }
 
+/// A rectangle, as it was written.
+#[derive(Clone, Copy)]
+pub struct Corners<'a> {
+    pub x1: &'a str,
+    pub y1: &'a str,
+    pub x2: &'a str,
+    pub y2: &'a str,
+}
+
+/// Of which rectangles `mftb moments` is asked.
+#[derive(Clone, Copy)]
+pub enum Where<'a> {
+    /// Of one.
+    Rect(Corners<'a>),
+    /// Of those of the file of that name.
+    Rects(&'a str),
+}
+
 /// What `mftb moments` is asked to do.
 #[derive(Clone, Copy)]
 pub struct Moments<'a> {
@@ -118,11 +158,26 @@ pub struct Moments<'a> {
     pub store: &'a str,
     /// How many pages its cache holds at most, at least 1.
     pub cache_pages: u32,
-    /// The rectangle and the period.
-    pub bounds: Bounds<'a>,
+    /// The rectangles.
+    pub place: Where<'a>,
+    /// T1 and T2, as they were written.
+    pub times: [&'a str; 2],
     /// What is printed.
     pub rows: RowKind,
     /// When it is said why nothing is printed.
+    pub telling: Telling,
+}
+
+/// What `mftb gaps` is asked to do.
+#[derive(Clone, Copy)]
+pub struct Gaps<'a> {
+    /// The name of the file that keeps the database.
+    pub store: &'a str,
+    /// How many pages its cache holds at most, at least 1.
+    pub cache_pages: u32,
+    /// T1 and T2, as they were written.
+    pub times: [&'a str; 2],
+    /// When it is said why it could not be read.
     pub telling: Telling,
 }
 
@@ -131,8 +186,8 @@ pub struct Moments<'a> {
 pub struct Info<'a> {
     /// The name of the file that keeps the database.
     pub store: &'a str,
-    /// Whether it is printed as JSON.
-    pub is_json: bool,
+    /// How it is printed.
+    pub form: InfoForm,
 }
 
 /// What the program is asked to do.
@@ -150,6 +205,8 @@ pub enum Task<'a> {
     Parts(Parts<'a>),
     /// To say when legs are inside a rectangle.
     Moments(Moments<'a>),
+    /// To say when features have no position.
+    Gaps(Gaps<'a>),
     /// To say what a store holds.
     Info(Info<'a>),
 }

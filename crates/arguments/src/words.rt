@@ -1,6 +1,7 @@
 //! The words of the command line.
 use crate::task::{
-    Bounds, Check, Info, Migrate, Moments, Part, Parts, RowKind, Run, Task, Telling,
+    Check, Corners, Gaps, Info, InfoForm, Migrate, Moments, Part, Parts, RowKind, Run, StoreMode,
+    Task, Telling, Where, WriteMode,
 };
 use clap::builder::ValueParser;
 use clap::error::ErrorKind;
@@ -25,8 +26,12 @@ enum Form<'a> {
     Flag,
     /// `--NAME`, without a value, and that letter for it.
     FlagOrLetter(char),
+    /// `--NAME VALUE`.
+    Value(&'a str),
     /// `--NAME VALUE`, a number.
     Number(&'a str),
+    /// `--NAME N`, a number from 1 to 2^31.
+    Limit,
     /// `--NAME N`, a number of 1 at least, and that where it is not there.
     CountOr(&'a str),
 }
@@ -45,9 +50,9 @@ impl<'a> Word<'a> {
     }
 }
 
-/// A number of that at least.
-fn at_least<'a>(least: u32) -> ValueParser<'a> {
-    ValueParser::signed(i64::from(least), i64::from(u32::MAX))
+/// A number between two others.
+fn between<'a>(least: u32, most: u32) -> ValueParser<'a> {
+    ValueParser::signed(i64::from(least), i64::from(most))
 }
 
 /// A word that has to be there.
@@ -60,7 +65,7 @@ fn required<'a>(alloc: Global, word: Word<'a>) -> Arg<'a> {
 
 /// A word that has to be there, and is a number of that at least.
 fn count<'a>(alloc: Global, word: Word<'a>, least: u32) -> Arg<'a> {
-    required(alloc, word).value_parser(at_least(least))
+    required(alloc, word).value_parser(between(least, u32::MAX))
 }
 
 /// A word that has to be there, and may begin with a minus.
@@ -86,18 +91,29 @@ fn letter_flag<'a>(alloc: Global, word: Word<'a>, letter: char) -> Arg<'a> {
     flag(alloc, word).short(letter)
 }
 
-/// A word `--NAME VALUE`, a number of that at least.
-fn number<'a>(alloc: Global, word: Word<'a>, value: &'a str, least: u32) -> Arg<'a> {
+/// A word `--NAME VALUE`.
+fn option<'a>(alloc: Global, word: Word<'a>, value: &'a str) -> Arg<'a> {
     Arg::new(alloc, word.name)
         .long(word.name)
         .value_name(value)
         .help(word.help)
-        .value_parser(at_least(least))
+}
+
+/// A word `--NAME VALUE`, a number.
+fn number<'a>(alloc: Global, word: Word<'a>, value: &'a str) -> Arg<'a> {
+    option(alloc, word, value).value_parser(between(0, u32::MAX))
+}
+
+/// A word `--NAME N`, a number from 1 to 2^31.
+fn limit<'a>(alloc: Global, word: Word<'a>) -> Arg<'a> {
+    option(alloc, word, "N").value_parser(between(1, 1 << 31))
 }
 
 /// A word `--NAME N`, a number of 1 at least, and that where it is not there.
 fn count_or<'a>(alloc: Global, word: Word<'a>, default: &'a str) -> Arg<'a> {
-    number(alloc, word, "N", 1).default_value(default)
+    option(alloc, word, "N")
+        .value_parser(between(1, u32::MAX))
+        .default_value(default)
 }
 
 /// What `clap` is told of a word.
@@ -109,7 +125,9 @@ fn arg_of<'a>(alloc: Global, word: Word<'a>) -> Arg<'a> {
         Form::Names => names(alloc, word),
         Form::Flag => flag(alloc, word),
         Form::FlagOrLetter(letter) => letter_flag(alloc, word, letter),
-        Form::Number(value) => number(alloc, word, value, 0),
+        Form::Value(value) => option(alloc, word, value),
+        Form::Number(value) => number(alloc, word, value),
+        Form::Limit => limit(alloc, word),
         Form::CountOr(default) => count_or(alloc, word, default),
     }
 }
@@ -121,7 +139,15 @@ fn command<'a>(
     about: &'a str,
     words: &[Word<'a>],
 ) -> Result<Command<'a>, AllocError> {
-    let mut command = Command::new(alloc, name).about(about);
+    with_words(alloc, Command::new(alloc, name).about(about), words)
+}
+
+/// A command with more words, in their order.
+fn with_words<'a>(
+    alloc: Global,
+    mut command: Command<'a>,
+    words: &[Word<'a>],
+) -> Result<Command<'a>, AllocError> {
     for word in words {
         command = command.arg(arg_of(alloc, *word))?;
     }
@@ -134,6 +160,24 @@ fn cache_pages<'a>() -> Word<'a> {
         Form::CountOr("256"),
         "cache-pages",
         "How many pages of the file are kept in memory, 4096 bytes each",
+    )
+}
+
+/// The word `--most-legs N`.
+fn most_legs<'a>() -> Word<'a> {
+    Word::new(
+        Form::Limit,
+        "most-legs",
+        "How many legs a STORE that is made takes, up to 2147483648 [default: 16777216]",
+    )
+}
+
+/// The word `--most-features N`.
+fn most_features<'a>() -> Word<'a> {
+    Word::new(
+        Form::Limit,
+        "most-features",
+        "How many features a STORE that is made takes, up to 2147483648 [default: 1048576]",
     )
 }
 
@@ -192,6 +236,8 @@ fn run_command<'a>(alloc: Global) -> Result<Command<'a>, AllocError> {
             "The files that the script may load, by these names",
         ),
         cache_pages(),
+        most_legs(),
+        most_features(),
         in_place(),
         existing(),
         Word::new(
@@ -285,26 +331,59 @@ fn parts_command<'a>(alloc: Global) -> Result<Command<'a>, AllocError> {
     )
 }
 
-/// What a bound of `mftb moments` is.
-fn bound_form<'a>(takes_negative: bool) -> Form<'a> {
-    if takes_negative {
-        Form::Bound
-    } else {
-        Form::Required
+/// How the words of `mftb moments` are read.
+#[derive(Clone, Copy)]
+struct Reading {
+    /// Whether a bound may be a number below 0.
+    takes_negative: bool,
+    /// Whether `--rects FILE` stands in the place of a rectangle.
+    has_rects: bool,
+}
+
+impl Reading {
+    /// How these words are read.
+    fn of(words: &[String]) -> Reading {
+        Reading {
+            takes_negative: has_negative(words),
+            has_rects: words.iter().any(|word| is_rects(word.as_str())),
+        }
+    }
+
+    /// What a bound is.
+    fn bound<'a>(self) -> Form<'a> {
+        if self.takes_negative {
+            Form::Bound
+        } else {
+            Form::Required
+        }
     }
 }
 
-/// The words of `mftb moments`.
-fn moments_command<'a>(alloc: Global, takes_negative: bool) -> Result<Command<'a>, AllocError> {
-    let bound = bound_form(takes_negative);
-    let words = [
-        Word::new(Form::Required, "STORE", "The file that keeps the database"),
+/// Whether a word is `--rects`, with its value or without.
+fn is_rects(word: &str) -> bool {
+    word == "--rects" || word.starts_with("--rects=")
+}
+
+/// The words of a rectangle.
+fn corners<'a>(bound: Form<'a>) -> [Word<'a>; 4] {
+    [
         Word::new(bound, "X1", "The least x"),
         Word::new(bound, "Y1", "The least y"),
         Word::new(bound, "X2", "The greatest x"),
         Word::new(bound, "Y2", "The greatest y"),
+    ]
+}
+
+/// The words of `mftb moments` behind those of a rectangle.
+fn moments_words<'a>(bound: Form<'a>) -> [Word<'a>; 8] {
+    [
         Word::new(bound, "T1", "The first moment, as 2012-01-17T12:33:41Z"),
         Word::new(bound, "T2", "The last moment"),
+        Word::new(
+            Form::Value("FILE"),
+            "rects",
+            "Ask of each rectangle of FILE (CSV: name,x1,y1,x2,y2), without X1 Y1 X2 Y2",
+        ),
         Word::new(
             Form::Flag,
             "visits",
@@ -318,9 +397,37 @@ fn moments_command<'a>(alloc: Global, takes_negative: bool) -> Result<Command<'a
         cache_pages(),
         explain(),
         quiet(),
-    ];
+    ]
+}
+
+/// The words of `mftb moments`.
+fn moments_command<'a>(alloc: Global, reading: Reading) -> Result<Command<'a>, AllocError> {
+    let bound = reading.bound();
+    let store = [Word::new(Form::Required, "STORE", "The file that keeps the database")];
     let about = "Prints when legs are inside a rectangle in a period, as exact fractions";
-    command(alloc, "moments", about, &words)
+    let mut command = command(alloc, "moments", about, &store)?;
+    if !reading.has_rects {
+        command = with_words(alloc, command, &corners(bound))?;
+    }
+    with_words(alloc, command, &moments_words(bound))
+}
+
+/// The words of `mftb gaps`.
+fn gaps_command<'a>(alloc: Global) -> Result<Command<'a>, AllocError> {
+    let words = [
+        Word::new(Form::Required, "STORE", "The file that keeps the database"),
+        Word::new(
+            Form::Required,
+            "T1",
+            "The first moment, as 2012-01-17T12:33:41Z",
+        ),
+        Word::new(Form::Required, "T2", "The last moment"),
+        cache_pages(),
+        explain(),
+        quiet(),
+    ];
+    let about = "Prints when features have no position: the times between their legs";
+    command(alloc, "gaps", about, &words)
 }
 
 /// The words of `mftb info`.
@@ -346,14 +453,15 @@ fn bare<'a>(alloc: Global) -> Command<'a> {
 }
 
 /// The words of the program, and its commands in the order in which the help says them.
-fn mftb<'a>(alloc: Global, takes_negative: bool) -> Result<Command<'a>, AllocError> {
+fn mftb<'a>(alloc: Global, reading: Reading) -> Result<Command<'a>, AllocError> {
     bare(alloc)
         .subcommand(run_command(alloc)?)?
         .subcommand(check_command(alloc)?)?
         .subcommand(migrate_command(alloc)?)?
         .subcommand(part_command(alloc)?)?
         .subcommand(parts_command(alloc)?)?
-        .subcommand(moments_command(alloc, takes_negative)?)?
+        .subcommand(moments_command(alloc, reading)?)?
+        .subcommand(gaps_command(alloc)?)?
         .subcommand(info_command(alloc)?)
 }
 
@@ -399,19 +507,39 @@ fn telling_of(matches: &ArgMatches) -> Telling {
     }
 }
 
+/// Whether a store that is absent is made.
+fn store_mode_of(matches: &ArgMatches) -> StoreMode {
+    if flag_of(matches, "existing") {
+        StoreMode::Existing
+    } else {
+        StoreMode::Made
+    }
+}
+
+/// Where a run writes.
+fn write_mode_of(matches: &ArgMatches) -> WriteMode {
+    if flag_of(matches, "in-place") {
+        WriteMode::InPlace
+    } else {
+        WriteMode::OnCopy
+    }
+}
+
 /// What `mftb run` is asked to do.
 fn run_of<'a>(alloc: Global, matches: &ArgMatches<'a>) -> Result<Run<'a>, Error> {
     let names = matches.get_strs("FILES").unwrap_or(&[]);
     Ok(Run {
         store: word_of(matches, "STORE"),
         cache_pages: number_of(matches, "cache-pages", CACHE_PAGES),
+        most_legs: matches.get_one("most-legs"),
+        most_features: matches.get_one("most-features"),
         script: word_of(matches, "SCRIPT"),
         files: Vec::from_slice(alloc, names)?,
-        in_place: flag_of(matches, "in-place"),
+        store_mode: store_mode_of(matches),
+        write_mode: write_mode_of(matches),
         progress: flag_of(matches, "progress"),
         telling: telling_of(matches),
         is_strict: flag_of(matches, "strict"),
-        is_existing: flag_of(matches, "existing"),
     })
 }
 
@@ -426,19 +554,26 @@ fn rows_of(matches: &ArgMatches) -> RowKind {
     }
 }
 
+/// Of which rectangles it is asked.
+fn place_of<'a>(matches: &ArgMatches<'a>) -> Where<'a> {
+    match matches.get_str("rects") {
+        Some(file) => Where::Rects(file),
+        None => Where::Rect(Corners {
+            x1: word_of(matches, "X1"),
+            y1: word_of(matches, "Y1"),
+            x2: word_of(matches, "X2"),
+            y2: word_of(matches, "Y2"),
+        }),
+    }
+}
+
 /// What `mftb moments` is asked to do.
 fn moments_of<'a>(matches: &ArgMatches<'a>) -> Moments<'a> {
-    let corners = [
-        word_of(matches, "X1"),
-        word_of(matches, "Y1"),
-        word_of(matches, "X2"),
-        word_of(matches, "Y2"),
-    ];
-    let times = [word_of(matches, "T1"), word_of(matches, "T2")];
     Moments {
         store: word_of(matches, "STORE"),
         cache_pages: number_of(matches, "cache-pages", CACHE_PAGES),
-        bounds: Bounds { corners, times },
+        place: place_of(matches),
+        times: [word_of(matches, "T1"), word_of(matches, "T2")],
         rows: rows_of(matches),
         telling: telling_of(matches),
     }
@@ -481,11 +616,26 @@ fn migrate_of<'a>(matches: &ArgMatches<'a>) -> Migrate<'a> {
     }
 }
 
+/// What `mftb gaps` is asked to do.
+fn gaps_of<'a>(matches: &ArgMatches<'a>) -> Gaps<'a> {
+    Gaps {
+        store: word_of(matches, "STORE"),
+        cache_pages: number_of(matches, "cache-pages", CACHE_PAGES),
+        times: [word_of(matches, "T1"), word_of(matches, "T2")],
+        telling: telling_of(matches),
+    }
+}
+
 /// What `mftb info` is asked to do.
 fn info_of<'a>(matches: &ArgMatches<'a>) -> Info<'a> {
+    let form = if flag_of(matches, "json") {
+        InfoForm::Json
+    } else {
+        InfoForm::Lines
+    };
     Info {
         store: word_of(matches, "STORE"),
-        is_json: flag_of(matches, "json"),
+        form,
     }
 }
 
@@ -514,7 +664,7 @@ fn clash_of(matches: &ArgMatches) -> Option<&'static str> {
 /// So any other word behind a minus stays a flag. Two flags that exclude each other are refused here,
 /// once no word is missing.
 pub fn read_words<'a>(alloc: Global, words: &'a [String]) -> Result<Task<'a>, Error> {
-    let mut program = mftb(alloc, has_negative(words))?;
+    let mut program = mftb(alloc, Reading::of(words))?;
     let matches = program.try_get_matches_from_mut(words)?;
     match matches.subcommand() {
         Some((name, found)) => ask(alloc, &mut program, name, found),
@@ -543,6 +693,7 @@ fn task_of<'a>(alloc: Global, name: &str, matches: &ArgMatches<'a>) -> Result<Ta
         "part" => Task::Part(part_of(matches)),
         "parts" => Task::Parts(parts_of(matches)),
         "moments" => Task::Moments(moments_of(matches)),
+        "gaps" => Task::Gaps(gaps_of(matches)),
         "info" => Task::Info(info_of(matches)),
         _ => Task::Run(run_of(alloc, matches)?),
     })

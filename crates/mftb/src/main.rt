@@ -1,31 +1,15 @@
 //! A trajectory database on the command line: `mftb run STORE SCRIPT [FILES]...`, `mftb check STORE`,
 //! `mftb migrate OLD NEW`, `mftb part K N FILE`, `mftb parts N FILE DIR`,
-//! `mftb moments STORE X1 Y1 X2 Y2 T1 T2`, `mftb info STORE`.
+//! `mftb moments STORE X1 Y1 X2 Y2 T1 T2`, `mftb gaps STORE T1 T2`, `mftb info STORE`.
 #![tactic(auto)]
 
-mod asked;
-mod bounds;
-mod catalogued;
-mod check;
-mod file_part;
-mod file_parts;
-mod held_file;
-mod info;
-mod locks;
-mod migrate;
-mod names;
-mod opening;
+mod commands;
+mod explain;
 mod outcome;
-mod passages;
-mod reach;
-mod reading;
-mod root;
-mod run;
-mod start;
-mod system_folder;
-mod telling;
+mod status;
+mod system;
 
-use start::start;
+use status::start;
 use std::io::{ErrorKind, IsTerminal, Write};
 use std::process::ExitCode;
 use std::{env, io};

@@ -1,10 +1,8 @@
 -- What a stay begins and ends by.
 use Rattle.std.specs.Prelude.{ℕ, List, codes, ◌≡◌, ℤ, pos, ◌*ℤ◌}
-use Rattle.timebase.specs.Period.{PeriodView}
 use Rattle.moments.specs.declared.ends.End.{End}
 use Rattle.moments.specs.declared.ends.End.TheVariants.{Leg, Period, Edge}
 use Rattle.moments.specs.declared.moment.Moment.{Moment}
-use Rattle.moments.specs.declared.stay.Stay.{Stay}
 
 -- the moment is that whole millisecond
 abbrev pub IsMilli : Moment → ℤ → Type 0
@@ -15,14 +13,6 @@ abbrev pub IsEndBy : Moment → ℤ → ℤ → End → Type 0
 IsEndBy moment leg period Leg = IsMilli moment leg
 IsEndBy moment leg period Period = (IsMilli moment leg → ⊥) × IsMilli moment period
 IsEndBy moment leg period Edge = (IsMilli moment leg → ⊥) × (IsMilli moment period → ⊥)
-
--- so of the first moment of a stay, the leg's start and the period's, and of the last and their ends
-abbrev pub IsBegunBy : PeriodView → Stay → End → Type 0
-IsBegunBy period stay end = IsEndBy stay.enters stay.leg.t0 period.start end
-
--- what a stay ends by, in a period
-abbrev pub IsEndedBy : PeriodView → Stay → End → Type 0
-IsEndedBy period stay end = IsEndBy stay.leaves stay.leg.t1 period.end end
 
 -- an end as it is printed
 abbrev pub end_text : End → List ℕ

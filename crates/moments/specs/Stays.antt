@@ -5,6 +5,7 @@ use Rattle.mfcsv.specs.declared.Position.{Position}
 use Rattle.legs.specs.Legs.{LegView}
 use Rattle.legs.specs.Boxes.{RectView}
 use Rattle.clipping.specs.Inside.{HasMomentInside, IsMomentInside, duration, scaled_at}
+use Rattle.moments.specs.Ends.{IsEndBy}
 use Rattle.moments.specs.declared.stay.Stay.{Stay}
 
 module _ (leg : LegView) (rect : RectView) (period : PeriodView) where
@@ -37,7 +38,7 @@ pub record IsPositionAt (leg : LegView) (n : ℤ) (d : ℕ) (position : Position
   pub z : IsCoordAt leg leg.z0 leg.z1 n d position.z
 
 -- the stay is of the leg, from the first moment at which it is inside to the last, and at each between; it has the leg's
--- positions at both
+-- positions at both, and says what both are: the leg's own end, or else the period's, or else neither
 pub record IsStay (rect : RectView) (period : PeriodView) (leg : LegView)
     (stay : Stay) : Type 0 where
   pub same : stay.leg ≡ leg
@@ -47,6 +48,8 @@ pub record IsStay (rect : RectView) (period : PeriodView) (leg : LegView)
       stay.leaves.den
   pub entry : IsPositionAt leg stay.enters.num stay.enters.den stay.entry
   pub exit : IsPositionAt leg stay.leaves.num stay.leaves.den stay.exit
+  pub begun : IsEndBy stay.enters leg.t0 period.start stay.enters_by
+  pub ended : IsEndBy stay.leaves leg.t1 period.end stay.leaves_by
 
 -- the stays are, in the order of the legs, one of each leg that is inside at some moment in the period, and no others
 abbrev pub AreStays : RectView → PeriodView → List LegView → List Stay → Type 0

@@ -14,6 +14,8 @@ visit_of stay =
       leaves = stay.leaves;
       entry = stay.entry;
       exit = stay.exit;
+      enters_by = stay.enters_by;
+      leaves_by = stay.leaves_by;
       legs = 1;
     }
 
@@ -25,8 +27,12 @@ goes_on visit stay =
 -- the visit with a stay more at its end
 abbrev pub visit_with : Visit → Stay → Visit
 visit_with visit stay =
-    record visit
-    { leaves = stay.leaves; exit = stay.exit; legs = min (visit.legs + 1) (2 ^ 64 - 1) }
+    record visit {
+      leaves = stay.leaves;
+      exit = stay.exit;
+      leaves_by = stay.leaves_by;
+      legs = min (visit.legs + 1) (2 ^ 64 - 1);
+    }
 
 -- the visits with a stay more, where the last visit of its feature is at that place
 abbrev pub visits_at : List Visit → Stay → Option ℕ → List Visit

@@ -1,10 +1,9 @@
 //! What a stay begins and ends by.
 ghost use Rattle.std.specs.Prelude.{◌↔◌, ◌*ℤ◌, ◌≡◌, IsTrue, pos};
-ghost use Rattle.moments.specs.Ends.{IsBegunBy, IsEndBy, IsEndedBy};
+ghost use Rattle.moments.specs.Ends.{IsEndBy};
 
 use crate::moment::Moment;
-use crate::stay::Stay;
-use timebase::{Ms, Period};
+use timebase::Ms;
 
 /// What a stay begins or ends by, the first of these that is so.
 #[derive(Clone, Copy, PartialEq, Eq, Debug)]
@@ -41,7 +40,7 @@ fn is_at(moment: Moment, at: Ms) -> bool
 }
 
 /// What a moment is, of a leg's own end and a period's.
-fn end_by(moment: Moment, leg: Ms, period: Ms) -> End
+pub(crate) fn end_by(moment: Moment, leg: Ms, period: Ms) -> End
     ensures { IsEndBy moment leg period result }
 {
     if is_at(moment, leg) {
@@ -50,21 +49,5 @@ fn end_by(moment: Moment, leg: Ms, period: Ms) -> End
         End::Period
     } else {
         End::Edge
-    }
-}
-
-impl Stay {
-    /// What the stay begins by, in a period.
-    pub fn begun_by(&self, period: &Period) -> End
-        ensures { IsBegunBy period.now self.now result }
-    {
-        end_by(self.enters, self.leg.t0, period.start())
-    }
-
-    /// What the stay ends by, in a period.
-    pub fn ended_by(&self, period: &Period) -> End
-        ensures { IsEndedBy period.now self.now result }
-    {
-        end_by(self.leaves, self.leg.t1, period.end())
     }
 }

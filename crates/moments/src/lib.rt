@@ -4,6 +4,7 @@
 mod asking;
 mod dwells;
 mod ends;
+mod gaps;
 mod listing;
 mod moment;
 mod stay;
@@ -12,6 +13,7 @@ mod visits;
 pub use asking::stays;
 pub use dwells::{Dwell, dwells_of};
 pub use ends::End;
+pub use gaps::{Gap, gaps_of};
 pub use listing::stays_of;
 pub use moment::Moment;
 pub use stay::{Stay, stay_of};

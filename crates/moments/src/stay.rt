@@ -4,6 +4,7 @@ ghost use Rattle.clipping.specs.Inside.{HasMomentInside};
 ghost use Rattle.moments.specs.Parts.{IsAt, IsPart, IsWhole};
 ghost use Rattle.moments.specs.Stays.{IsStay};
 
+use crate::ends::{End, end_by};
 use crate::moment::Moment;
 use clipping::{Frac, clip};
 use fixedpoint::Coord;
@@ -24,6 +25,10 @@ pub struct Stay {
     pub entry: Position,
     /// Where it is at the last, rounded likewise.
     pub exit: Position,
+    /// What the first moment is.
+    pub enters_by: End,
+    /// What the last one is.
+    pub leaves_by: End,
 }
 
 /// The product of two small numbers.
@@ -92,11 +97,14 @@ pub fn stay_of(leg: &Leg, rect: &Rect, period: &Period) -> Option<Stay>
         (IsStay rect.now period.now leg.now) }
 {
     let cut = clip(leg, rect, period)?;
+    let (enters, leaves) = (moment_at(leg, cut.lo), moment_at(leg, cut.hi));
     Some(Stay {
         leg: *leg,
-        enters: moment_at(leg, cut.lo),
-        leaves: moment_at(leg, cut.hi),
+        enters,
+        leaves,
         entry: position_at(leg, cut.lo),
         exit: position_at(leg, cut.hi),
+        enters_by: end_by(enters, leg.t0, period.start()),
+        leaves_by: end_by(leaves, leg.t1, period.end()),
     })
 }

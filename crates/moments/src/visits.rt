@@ -6,6 +6,7 @@ ghost use Rattle.moments.specs.Lengths.{IsNoLater, not_below_0};
 ghost use Rattle.moments.specs.Places.{last_place};
 ghost use Rattle.moments.specs.Visits.{visit_of, visit_with, visits_of, visits_with};
 
+use crate::ends::End;
 use crate::moment::Moment;
 use crate::stay::Stay;
 use mfcsv::Position;
@@ -24,6 +25,10 @@ pub struct Visit {
     pub entry: Position,
     /// Where it is at the last, rounded likewise.
     pub exit: Position,
+    /// What the first moment is, of its first stay.
+    pub enters_by: End,
+    /// What the last one is, of its last stay.
+    pub leaves_by: End,
     /// How many legs it goes over.
     pub legs: u64,
 }
@@ -50,6 +55,8 @@ impl Visit {
             leaves: stay.leaves,
             entry: stay.entry,
             exit: stay.exit,
+            enters_by: stay.enters_by,
+            leaves_by: stay.leaves_by,
             legs: 1,
         }
     }
@@ -68,6 +75,7 @@ impl Visit {
         Visit {
             leaves: stay.leaves,
             exit: stay.exit,
+            leaves_by: stay.leaves_by,
             legs: self.legs.saturating_add(1),
             ..self
         }

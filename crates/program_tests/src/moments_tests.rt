@@ -58,19 +58,17 @@ fn a_leg_touches_the_end_of_a_line(rt: HostRuntime) -> Result<(), Fail> {
     assert_eq!(rt; parts(stay.enters), (90_000, 7, 12_857_142, 12_857_143));
     assert_eq!(rt; stay.leaves, stay.enters);
     assert!(rt; stay.entry == place(&rt, -603_000_000, 0));
-    assert_eq!(rt;
-        (stay.begun_by(&long), stay.ended_by(&long)),
-        (End::Edge, End::Edge)
-    );
+    assert_eq!(rt; (stay.enters_by, stay.leaves_by), (End::Edge, End::Edge));
     Ok(())
 }
 
-/// What legs make: how many stays, visits and dwells; what begins and ends the first stay; the parts of the first visit;
-/// whose the first two visits are, and of how many legs; and how long both dwells are at least and at most.
+/// What legs make: how many stays, visits and dwells; what begins and ends the first stay and the first visit; the parts
+/// of the first visit; whose the first two visits are, and of how many legs; and how long both dwells are at least and at
+/// most.
 #[derive(Clone, Copy, PartialEq, Eq, Debug)]
 struct Made {
     counts: [usize; 3],
-    ends: (End, End),
+    ends: [(End, End); 2],
     visit: [(i128, u64, i64, i64); 2],
     legs: [(u32, u64); 2],
     lengths: [(u64, u64); 2],
@@ -84,7 +82,10 @@ fn made_of(alloc: Global, legs: &[Leg], rect: &Rect, period: &Period) -> Option<
     let (one, other) = (dwells.first()?, dwells.get(1)?);
     Some(Made {
         counts: [stays.len(), visits.len(), dwells.len()],
-        ends: (stay.begun_by(period), stay.ended_by(period)),
+        ends: [
+            (stay.enters_by, stay.leaves_by),
+            (first.enters_by, first.leaves_by),
+        ],
         visit: [parts(first.enters), parts(first.leaves)],
         legs: [(first.feature, first.legs), (second.feature, second.legs)],
         lengths: [(one.least, one.most), (other.least, other.most)],
@@ -104,7 +105,7 @@ fn stays_are_joined_over_legs(rt: HostRuntime) -> Result<(), Fail> {
     ];
     let wanted = Made {
         counts: [4, 3, 2],
-        ends: (End::Edge, End::Leg),
+        ends: [(End::Edge, End::Leg), (End::Edge, End::Edge)],
         // From the middle of the first leg to a third of the second.
         visit: [
             (3_500, 1, 3_500_000, 3_500_000),

@@ -1,7 +1,12 @@
 //! How long a file may be, the lines of faults, and a session over a store that fails.
+use legs::Limits;
 use outputs::CountedOutput;
 use pages::{Fuse, MemStore};
-use sessions::{Fault, MOST_BYTES, answer, database, read_named};
+use querylang::LineCode;
+use sessions::{
+    Cause, Fault, MOST_BYTES, MOST_FEATURES, MOST_LEGS, Opening, RectsFault, answer, database,
+    read_named,
+};
 use std::fs;
 use std::hash::RandomState;
 use std::test::Fail;
@@ -21,13 +26,14 @@ c,10,190,12.0 1.0 10.0 2.0 11.0 3.0,vehicle,1
 fn a_file_that_is_too_long_is_not_read(rt: HostRuntime) -> Result<(), Fail> {
     fs::write(&rt, "five.txt", "12345")?;
     assert!(rt; read_named(&rt, "five.txt", 5)?.as_slice() == b"12345".as_slice());
-    assert!(rt; read_named(&rt, "five.txt", 4).err() == Some(Fault::CannotRead("five.txt")));
+    let too_long = Fault::CannotRead("five.txt", Cause::TooLong);
+    assert!(rt; read_named(&rt, "five.txt", 4).err() == Some(too_long));
     assert_eq!(rt; MOST_BYTES, 1_073_741_824);
     Ok(())
 }
 
 /// Faults, and the line of each.
-const FAULTS: [(Fault, &str); 16] = [
+const FAULTS: [(Fault, &str); 18] = [
     (Fault::Run(RunFault::Memory), "memory"),
     (Fault::Run(RunFault::Store), "store"),
     (Fault::Run(RunFault::Damaged(7)), "page 7 damaged"),
@@ -41,9 +47,20 @@ const FAULTS: [(Fault, &str); 16] = [
     (Fault::Open(OpenFault::Unfinished), "store unfinished"),
     (Fault::Open(OpenFault::Version), "store version"),
     (Fault::Open(OpenFault::Malformed), "store malformed"),
-    (Fault::CannotRead("a.csv"), "cannot read a.csv"),
+    (
+        Fault::CannotRead("a.csv", Cause::Absent),
+        "cannot read a.csv",
+    ),
     (Fault::NotEmpty, "new store not empty"),
     (Fault::InUse, "store in use"),
+    (
+        Fault::OtherLimits(5, 3),
+        "other limits: the store takes 5 legs and 3 features",
+    ),
+    (
+        Fault::Rects(3, RectsFault::Corner(LineCode::Q6)),
+        "record 3 of the rectangles: X1 is above X2, or Y1 above Y2",
+    ),
 ];
 
 #[test]
@@ -62,11 +79,18 @@ fn the_first_fault_is_said(rt: HostRuntime) -> Result<(), Fail> {
     files.add("S1.csv", Vec::from_slice(alloc, STANDARD.as_bytes())?)?;
     // Page 0 is written and made to last, and the third call fails: the load, and then the closing.
     let store = Fuse::new(MemStore::new(alloc, 100), 2, false);
-    let opened = database(alloc, keys, store, true, 1);
+    let how = Opening {
+        alloc,
+        keys,
+        is_new: true,
+        limits: Limits::new(MOST_LEGS, MOST_FEATURES).unwrap(),
+        cache_pages: 1,
+    };
+    let opened = database(&how, store);
     let mut taken = Vec::new(alloc);
     let mut out = CountedOutput::new(&mut taken);
-    let (_, said, closed) = answer(alloc, opened, b"load S1.csv".as_slice(), &files, &mut out);
-    assert!(rt; said == Err(Fault::Run(RunFault::Store)) && taken.is_empty());
-    assert!(rt; closed == Err(RunFault::Failed));
+    let (_, ended) = answer(alloc, opened, b"load S1.csv".as_slice(), &files, &mut out);
+    assert!(rt; ended.ran == Err(Fault::Run(RunFault::Store)) && taken.is_empty());
+    assert!(rt; ended.kept == Err(Fault::Run(RunFault::Failed)));
     Ok(())
 }

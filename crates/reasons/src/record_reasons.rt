@@ -198,9 +198,12 @@ pub(crate) fn early_start(
 /// Legs for which the store has no room.
 pub(crate) fn too_many_legs(alloc: Global, known: &Known) -> Result<String, AllocError> {
     match known.most_legs {
-        Some(most) => format!(in alloc;
-            "with its legs the store would have more than {most}; load it into a new store, or into the parts of a fleet"
-        ),
+        Some(most) => {
+            let next = "a new store with more --most-legs, or into the parts of a fleet";
+            format!(in alloc;
+                "with its legs the store would have more than {most}; load it into {next}"
+            )
+        }
         None => String::from_str(alloc, Code::F19.rule()),
     }
 }
@@ -208,9 +211,12 @@ pub(crate) fn too_many_legs(alloc: Global, known: &Known) -> Result<String, Allo
 /// A feature for which the store has no room.
 pub(crate) fn too_many_features(alloc: Global, known: &Known) -> Result<String, AllocError> {
     match known.most_features {
-        Some(most) => format!(in alloc;
-            "with it the store would have more than {most} features; load it into a new store, or into the parts of a fleet"
-        ),
+        Some(most) => {
+            let next = "a new store with more --most-features, or into the parts of a fleet";
+            format!(in alloc;
+                "with it the store would have more than {most} features; load it into {next}"
+            )
+        }
         None => String::from_str(alloc, Code::F20.rule()),
     }
 }

@@ -1,18 +1,12 @@
--- Texts that grow and shrink at their end, and what a moment is.
-use Rattle.std.proofs.Common.{ℕ, suc, ◌≡◌, ◌∙◌, ◌+◌, ◌-◌, ◌<◌, ◌≤◌, Bool, true, false, List, [], ◌∷◌, ◌++◌, length, take, get_or, if◌then◌else◌, ℤ, pos, ◌*ℤ◌, int_eq, flat_map, refl, sym, ap, append-nil, append_assoc, length-append, Some, None, unwrap_or, unsigned_abs, arith}
-use Rattle.std.proofs.lemmas.Bool.{false≢true}
-use Rattle.std.proofs.lemmas.Bool.Decides.{Decides-int_eq}
+-- Texts that grow and shrink at their end.
+use Rattle.std.proofs.Common.{ℕ, suc, ◌≡◌, ◌∙◌, ◌+◌, ◌-◌, ◌<◌, ◌≤◌, Bool, true, false, List, [], ◌∷◌, ◌++◌, length, take, get_or, if◌then◌else◌, ℤ, pos, flat_map, refl, sym, ap, append-nil, append_assoc, length-append, Some, None, unwrap_or, unsigned_abs, arith}
 use Rattle.std.proofs.lemmas.List.{flat_map_more, take_all, take_more}
 use Rattle.std.specs.Int.{int_div_euclid, int_rem_euclid}
 use Rattle.timebase.specs.Instant.{is_moment, some_moment}
 use Rattle.timebase.specs.InstantText.{instant_text, date_text_at, day_of, clock_text_at, clock_of}
 use Rattle.writer.specs.File.{features_text}
 use Rattle.writer.specs.Records.{record_text}
-use Rattle.moments.specs.Ends.{IsEndBy}
-use Rattle.moments.specs.declared.ends.End.{End}
-use Rattle.moments.specs.declared.ends.End.TheVariants.{Leg, Period, Edge}
-use Rattle.moments.specs.declared.moment.Moment.{Moment}
-use Rattle.reports.specs.StayTexts.{end_at, micros_text, quoted_text, three_digits, without_last}
+use Rattle.reports.specs.StayTexts.{micros_text, quoted_text, three_digits, without_last}
 
 -- the last byte is one of those that came last
 pub last_of_append : (xs ys : List ℕ) → 0 < length ys → without_last (xs ++ ys) ≡ xs ++ without_last ys
@@ -60,31 +54,6 @@ micros_made old one two three all micros at rest told rest_is a b c d =
 pub four_fields : (old one two three all a b c d : List ℕ) → one ≡ old ++ 44 ∷ a → two ≡ one ++ 44 ∷ b → three ≡ two ++ 44 ∷ c → all ≡ three ++ 44 ∷ d → all ≡ old ++ 44 ∷ (a ++ 44 ∷ b ++ 44 ∷ c ++ 44 ∷ d)
 four_fields old one two three all a b c d p q r s = rw (s, r, q, p) (simp append_assoc refl)
 
--- a choice of three by two tests
-first_of_three : {X : Type 0} (a b : Bool) (x y z : X) → a ≡ true → x ≡ (if a then x else (if b then y else z))
-first_of_three true b x y z told = refl
-first_of_three false b x y z told = absurd (false≢true told)
-
-second_of_three : {X : Type 0} (a b : Bool) (x y z : X) → (a ≡ true → ⊥) → b ≡ true → y ≡ (if a then x else (if b then y else z))
-second_of_three true b x y z isnt told = absurd (isnt refl)
-second_of_three false true x y z isnt told = refl
-second_of_three false false x y z isnt told = absurd (false≢true told)
-
-third_of_three : {X : Type 0} (a b : Bool) (x y z : X) → (a ≡ true → ⊥) → (b ≡ true → ⊥) → z ≡ (if a then x else (if b then y else z))
-third_of_three true b x y z one two = absurd (one refl)
-third_of_three false true x y z one two = absurd (two refl)
-third_of_three false false x y z one two = refl
-
--- what a moment is, is what it is told to be
-pub end_is : (moment : Moment) (leg period : ℤ) (end : End) → IsEndBy moment leg period end → end ≡ end_at moment leg period
-unfolding end_at
-end_is moment leg period Leg told =
-    first_of_three (int_eq moment.num (leg *ℤ pos moment.den)) (int_eq moment.num (period *ℤ pos moment.den)) Leg Period Edge ((Decides-int_eq moment.num (leg *ℤ pos moment.den)).1 told)
-end_is moment leg period Period told =
-    second_of_three (int_eq moment.num (leg *ℤ pos moment.den)) (int_eq moment.num (period *ℤ pos moment.den)) Leg Period Edge (λ e. told.0 ((Decides-int_eq moment.num (leg *ℤ pos moment.den)).0 e)) ((Decides-int_eq moment.num (period *ℤ pos moment.den)).1 told.1)
-end_is moment leg period Edge told =
-    third_of_three (int_eq moment.num (leg *ℤ pos moment.den)) (int_eq moment.num (period *ℤ pos moment.den)) Leg Period Edge (λ e. told.0 ((Decides-int_eq moment.num (leg *ℤ pos moment.den)).0 e)) (λ e. told.1 ((Decides-int_eq moment.num (period *ℤ pos moment.den)).0 e))
-
 -- the texts of one element more
 pub texts_more : {X : Type 0} (f : X → List ℕ) (start : List ℕ) (xs : List X) (i : ℕ) (x : X) (before after : List ℕ) → i < length xs → before ≡ start ++ flat_map f (take i xs) → after ≡ before ++ f (get_or xs i x) → after ≡ start ++ flat_map f (take (i + 1) xs)
 texts_more {X = X} f start xs i x before after within so_far more =
@@ -94,7 +63,6 @@ texts_more {X = X} f start xs i x before after within so_far more =
 pub texts_with : {X : Type 0} (f : X → List ℕ) (start : List ℕ) (xs : List X) (i : ℕ) (x : X) (before after : List ℕ) → i < length xs → x ≡ get_or xs i x → before ≡ start ++ flat_map f (take i xs) → after ≡ before ++ f x → after ≡ start ++ flat_map f (take (i + 1) xs)
 texts_with {X = X} f start xs i x before after within there so_far more = texts_more f start xs i x before after within so_far (more ∙ ap (λ (y : X). before ++ f y) there)
 
--- and of all, behind a first line
-pub texts_all : {X : Type 0} (f : X → List ℕ) (old line start : List ℕ) (xs : List X) (i : ℕ) (text : List ℕ) → length xs ≤ i → start ≡ old ++ line → text ≡ start ++ flat_map f (take i xs) → text ≡ old ++ (line ++ flat_map f xs)
-texts_all {X = X} f old line start xs i text past begun so_far =
-    so_far ∙ ap (λ (ys : List X). start ++ flat_map f ys) (take_all i xs past) ∙ ap (λ (t : List ℕ). t ++ flat_map f xs) begun ∙ append_assoc old line (flat_map f xs)
+-- and of all
+pub texts_all : {X : Type 0} (f : X → List ℕ) (old : List ℕ) (xs : List X) (i : ℕ) (text : List ℕ) → length xs ≤ i → text ≡ old ++ flat_map f (take i xs) → text ≡ old ++ flat_map f xs
+texts_all {X = X} f old xs i text past so_far = so_far ∙ ap (λ (ys : List X). old ++ flat_map f ys) (take_all i xs past)

@@ -1,11 +1,9 @@
--- The texts of stays, visits and dwells: records of CSV behind a line that names their fields.
-use Rattle.std.specs.Prelude.{ℕ, ◌+◌, ◌-◌, ◌/◌, ◌%◌, if◌then◌else◌, List, [], ◌∷◌, ◌++◌, length, take, ℤ, pos, ◌-ℤ◌, ◌*ℤ◌, unsigned_abs, codes, decimal, flat_map}
+-- The texts of stays, visits and dwells: records of CSV, and the line that names their fields.
+use Rattle.std.specs.Prelude.{ℕ, ◌+◌, ◌-◌, ◌/◌, ◌%◌, List, [], ◌∷◌, ◌++◌, length, take, ℤ, pos, ◌-ℤ◌, ◌*ℤ◌, unsigned_abs, codes, decimal, flat_map}
 use Rattle.std.specs.Fmt.{signed_decimal}
 use Rattle.std.specs.Int.{int_div_euclid, int_rem_euclid}
-use Rattle.std.specs.Ordering.{int_eq}
 use Rattle.fixedpoint.specs.NumberText.{coord_text}
 use Rattle.timebase.specs.InstantText.{instant_text}
-use Rattle.timebase.specs.Period.{PeriodView}
 use Rattle.mfcsv.specs.declared.Dimension.{Dimension}
 use Rattle.mfcsv.specs.declared.Dimension.TheVariants.{Two, Three}
 use Rattle.mfcsv.specs.declared.Position.{Position}
@@ -16,7 +14,6 @@ use Rattle.moments.specs.Ends.{end_text}
 use Rattle.moments.specs.Lengths.{micros_down, micros_up}
 use Rattle.moments.specs.declared.dwells.Dwell.{Dwell}
 use Rattle.moments.specs.declared.ends.End.{End}
-use Rattle.moments.specs.declared.ends.End.TheVariants.{Leg, Period, Edge}
 use Rattle.moments.specs.declared.moment.Moment.{Moment}
 use Rattle.moments.specs.declared.stay.Stay.{Stay}
 use Rattle.moments.specs.declared.visits.Visit.{Visit}
@@ -42,6 +39,10 @@ quoted_text name = without_last (record_text (name ∷ []))
 abbrev pub name_text : Book → ℕ → List ℕ
 name_text book feature = quoted_text (name_of book feature)
 
+-- the field that stands before each record of a rectangle of that name, and a comma
+abbrev pub label_text : List ℕ → List ℕ
+label_text name = quoted_text name ++ codes ","
+
 -- a moment as a fraction of milliseconds since a base
 unfoldable pub fraction_text : ℤ → Moment → List ℕ
 fraction_text base moment =
@@ -65,66 +66,58 @@ position_text Two p = next_field (coord_text p.x) ++ next_field (coord_text p.y)
 position_text Three p =
     next_field (coord_text p.x) ++ next_field (coord_text p.y) ++ next_field (coord_text p.z)
 
--- what a moment is: the leg's own end, or else the period's, or else neither
-unfoldable pub end_at : Moment → ℤ → ℤ → End
-end_at moment leg period =
-    if int_eq moment.num (leg *ℤ pos moment.den) then Leg
-    else (if int_eq moment.num (period *ℤ pos moment.den) then Period else Edge)
-
--- what a stay begins by, and what it ends by
-unfoldable pub ends_text : PeriodView → Stay → List ℕ
-ends_text period stay =
-    next_field (end_text (end_at stay.enters stay.leg.t0 period.start))
-    ++ next_field (end_text (end_at stay.leaves stay.leg.t1 period.end))
+-- what a first and a last moment are
+unfoldable pub ends_text : End → End → List ℕ
+ends_text enters_by leaves_by = next_field (end_text enters_by) ++ next_field (end_text leaves_by)
 
 -- the record of a stay
-unfoldable pub stay_text : Book → Frame → PeriodView → Stay → List ℕ
-stay_text book frame period stay =
-    name_text book stay.leg.feature ++ times_text frame.base stay.enters stay.leaves
+unfoldable pub stay_text : Book → Frame → Stay → List ℕ
+stay_text book frame stay =
+    frame.label.now ++ name_text book stay.leg.feature ++ times_text frame.base stay.enters stay.leaves
     ++ position_text frame.dimension stay.entry ++ position_text frame.dimension stay.exit
-    ++ ends_text period stay ++ codes "\n"
+    ++ ends_text stay.enters_by stay.leaves_by ++ codes "\n"
 
 -- the record of a visit, with the number of its legs
 unfoldable pub visit_text : Book → Frame → Visit → List ℕ
 visit_text book frame visit =
-    name_text book visit.feature ++ times_text frame.base visit.enters visit.leaves
+    frame.label.now ++ name_text book visit.feature ++ times_text frame.base visit.enters visit.leaves
     ++ position_text frame.dimension visit.entry ++ position_text frame.dimension visit.exit
-    ++ next_field (decimal visit.legs) ++ codes "\n"
+    ++ ends_text visit.enters_by visit.leaves_by ++ next_field (decimal visit.legs) ++ codes "\n"
 
 -- the names of the fields of two positions
 abbrev pub position_fields : Dimension → List ℕ
 position_fields Two = codes "x_in,y_in,x_out,y_out"
 position_fields Three = codes "x_in,y_in,z_in,x_out,y_out,z_out"
 
--- the line that names the fields of stays or visits, the last of which are their own
-unfoldable pub fields_text : Dimension → List ℕ → List ℕ
-fields_text dimension own =
-    codes "feature,enters,leaves,enters_at,leaves_at" ++ next_field (position_fields dimension)
+-- the line that names the fields of stays or visits, between the first of them and the last
+unfoldable pub fields_text : List ℕ → Dimension → List ℕ → List ℕ
+fields_text first dimension own =
+    first ++ codes ",enters,leaves,enters_at,leaves_at" ++ next_field (position_fields dimension)
     ++ next_field own ++ codes "\n"
 
--- the records of stays, behind that line
-unfoldable pub stays_text : Book → Frame → PeriodView → List Stay → List ℕ
-stays_text book frame period stays =
-    fields_text frame.dimension (codes "enters_by,leaves_by")
-    ++ flat_map (stay_text book frame period) stays
+-- the records of stays
+abbrev pub stays_text : Book → Frame → List Stay → List ℕ
+stays_text book frame stays = flat_map (stay_text book frame) stays
 
--- the records of visits, likewise
-unfoldable pub visits_text : Book → Frame → List Visit → List ℕ
-visits_text book frame visits =
-    fields_text frame.dimension (codes "legs") ++ flat_map (visit_text book frame) visits
+-- the records of visits
+abbrev pub visits_text : Book → Frame → List Visit → List ℕ
+visits_text book frame visits = flat_map (visit_text book frame) visits
 
 -- microseconds as seconds, with six digits behind the point
 unfoldable pub seconds_text : ℕ → List ℕ
 seconds_text micros =
     decimal (micros / 1000000) ++ codes "." ++ three_digits (micros / 1000) ++ three_digits micros
 
+-- the line that names the fields of dwells, behind the first of them
+unfoldable pub dwell_fields : List ℕ → List ℕ
+dwell_fields first = first ++ codes ",visits,least,most\n"
+
 -- the record of a feature's dwell: how many visits it pays, and for how many seconds it stays at least and at most
-unfoldable pub dwell_text : Book → Dwell → List ℕ
-dwell_text book dwell =
-    name_text book dwell.feature ++ next_field (decimal dwell.visits)
+unfoldable pub dwell_text : Book → (label : List ℕ) → Dwell → List ℕ
+dwell_text book label dwell =
+    label ++ name_text book dwell.feature ++ next_field (decimal dwell.visits)
     ++ next_field (seconds_text dwell.least) ++ next_field (seconds_text dwell.most) ++ codes "\n"
 
--- the records of dwells, behind the line that names their fields
-unfoldable pub dwells_text : Book → List Dwell → List ℕ
-dwells_text book dwells =
-    codes "feature,visits,least,most\n" ++ flat_map (dwell_text book) dwells
+-- the records of dwells
+abbrev pub dwells_text : Book → (label : List ℕ) → List Dwell → List ℕ
+dwells_text book label dwells = flat_map (dwell_text book label) dwells

@@ -1,11 +1,15 @@
 //! What the program prints of a store and of moments: as records, as lines for people, and as JSON.
 #![tactic(auto)]
 
+mod gaps_text;
 mod info_json;
 mod info_text;
 mod moments_text;
 mod pushed;
 
+pub use gaps_text::{push_gap, push_gap_fields};
 pub use info_json::push_json;
 pub use info_text::{StoreReport, push_lines};
-pub use moments_text::{Frame, push_dwells, push_stays, push_visits};
+pub use moments_text::{
+    Frame, push_dwell_fields, push_dwells, push_fields, push_label, push_stays, push_visits,
+};

@@ -1,33 +1,34 @@
-//! The texts of stays, visits and dwells: records of CSV behind a line that names their fields.
+//! The texts of stays, visits and dwells: records of CSV, and the line that names their fields.
 ghost use Rattle.std.specs.Prelude.{◌≡◌, ◌<◌, ◌++◌, pos, All, decimal, IfErr, length, OnOk};
 ghost use Rattle.std.specs.Fmt.{signed_decimal};
 ghost use Rattle.std.specs.Int.{int_div_euclid};
 ghost use Rattle.fixedpoint.specs.NumberText.{coord_text};
 ghost use Rattle.timebase.specs.Instant.{IsMoment};
 ghost use Rattle.timebase.specs.InstantText.{instant_text};
-ghost use Rattle.moments.specs.Ends.{end_text};
 ghost use Rattle.trajdb.specs.Calls.{IsText};
 ghost use Rattle.trajdb.specs.declared.RunFault.{RunFault};
 ghost use Rattle.reports.specs.Printing.{IsPrintFault};
-ghost use Rattle.reports.specs.StayTexts.{dwell_text, dwells_text, end_at, ends_text, fields_text, fraction_text, micros_text, name_text, next_field, position_fields, position_text, quoted_text, seconds_text, stay_text, stays_text, three_digits, times_text, visit_text, visits_text, without_last};
+ghost use Rattle.reports.specs.StayTexts.{dwell_fields, dwell_text, dwells_text, ends_text, fields_text, fraction_text, label_text, micros_text, name_text, next_field, position_fields, position_text, quoted_text, seconds_text, stay_text, stays_text, three_digits, times_text, visit_text, visits_text, without_last};
 
 use fixedpoint::{Coord, push_coord};
 use itoa::Buffer;
 use mfcsv::{Dimension, Position};
-use moments::{Dwell, Moment, Stay, Visit};
+use moments::{Dwell, End, Moment, Stay, Visit};
 use pages::PageStore;
 use std::alloc::{AllocError, Global};
-use timebase::{Ms, Period, push_instant};
+use timebase::{Ms, push_instant};
 use trajdb::{Db, RunFault};
 use writer::push_features;
 
-/// From what moments are counted, and how many coordinates a position has.
+/// How records are written.
 #[derive(Clone, Copy)]
-pub struct Frame {
+pub struct Frame<'a> {
     /// From what moments are counted.
     pub base: Ms,
     /// How many coordinates a position has.
     pub dimension: Dimension,
+    /// What stands before each record: nothing, or a field and a comma.
+    pub label: &'a [u8],
 }
 
 /// Appends a number.
@@ -57,7 +58,7 @@ fn push_three_digits(text: &mut Vec<u8>, number: u64) -> Result<(), AllocError>
 }
 
 /// Appends a comma and a word.
-fn push_word(text: &mut Vec<u8>, word: &str) -> Result<(), AllocError>
+pub(crate) fn push_word(text: &mut Vec<u8>, word: &str) -> Result<(), AllocError>
     ensures { OnOk result (text.new.items ≡ text.old.items ++ next_field word.now) }
 {
     text.push(b',')?;
@@ -91,8 +92,36 @@ fn push_quoted(alloc: Global, text: &mut Vec<u8>, name: &str) -> Result<(), RunF
     Ok(())
 }
 
+/// Appends the field that stands before each record of a rectangle of that name, and a comma.
+pub fn push_label(alloc: Global, text: &mut Vec<u8>, name: &str) -> Result<(), RunFault>
+    // It is refused for want of memory alone, and else quoted where CSV needs it.
+    ensures fault { IfErr result (λ fault. fault ≡ RunFault.Memory) }
+    // It appends exactly the label: the name, quoted where CSV needs it, and a comma.
+    ensures text { OnOk result (text.new.items ≡ text.old.items ++ label_text name.now) }
+{
+    push_quoted(alloc, text, name)?;
+    Ok(text.push(b',')?)
+}
+
+/// Appends what stands before a record, and the name of a feature.
+fn push_labelled<S: PageStore>(
+    alloc: Global,
+    text: &mut Vec<u8>,
+    database: &Db<S>,
+    label: &[u8],
+    feature: u32,
+) -> Result<(), RunFault>
+    ensures there { OnOk result (feature < length database.now.book.names) }
+    ensures fault { IfErr result (IsText (feature < length database.now.book.names)) }
+    ensures text { OnOk result (text.new.items
+        ≡ text.old.items ++ label.now ++ name_text database.now.book feature) }
+{
+    text.extend_from_slice(label)?;
+    push_name(alloc, text, database, feature)
+}
+
 /// Appends the name of a feature.
-fn push_name<S: PageStore>(
+pub(crate) fn push_name<S: PageStore>(
     alloc: Global,
     text: &mut Vec<u8>,
     database: &Db<S>,
@@ -151,7 +180,7 @@ fn push_micros(text: &mut Vec<u8>, micros: i64) -> Result<(), RunFault>
 /// Appends a first and a last moment: as fractions, and as instants, the first rounded down and the last up.
 fn push_times(
     text: &mut Vec<u8>,
-    frame: &Frame,
+    frame: &Frame<'_>,
     enters: Moment,
     leaves: Moment,
 ) -> Result<(), RunFault>
@@ -176,7 +205,7 @@ fn push_next_coord(text: &mut Vec<u8>, coord: Coord) -> Result<(), AllocError>
 
 /// Appends a comma and each coordinate of a position.
 #[tactic(auto, unfolding(crate::specs::StayTexts::position_text))]
-fn push_position(
+pub(crate) fn push_position(
     text: &mut Vec<u8>,
     dimension: Dimension,
     position: Position,
@@ -193,7 +222,7 @@ fn push_position(
 }
 
 /// The names of the fields of two positions.
-fn position_fields(dimension: Dimension) -> &'static str
+pub(crate) fn position_fields(dimension: Dimension) -> &'static str
     ensures { result.now ≡ position_fields dimension }
 {
     match dimension {
@@ -202,42 +231,32 @@ fn position_fields(dimension: Dimension) -> &'static str
     }
 }
 
-/// Appends the names of the fields of stays or visits.
+/// Appends the line that names the fields of stays or visits, of which `first` are the first and `others` the last.
 #[tactic(auto, unfolding(crate::specs::StayTexts::fields_text))]
-fn push_fields(text: &mut Vec<u8>, dimension: Dimension, others: &str) -> Result<(), RunFault>
-    ensures fault { IfErr result (λ fault. fault ≡ RunFault.Memory) }
+pub fn push_fields(
+    text: &mut Vec<u8>,
+    first: &str,
+    dimension: Dimension,
+    others: &str,
+) -> Result<(), AllocError>
+    // They are those of the records behind it.
     ensures text { OnOk result (text.new.items
-        ≡ text.old.items ++ fields_text dimension others.now) }
+        ≡ text.old.items ++ fields_text first.now dimension others.now) }
 {
-    text.extend_from_slice(b"feature,enters,leaves,enters_at,leaves_at")?;
+    text.extend_from_slice(first.as_bytes())?;
+    text.extend_from_slice(b",enters,leaves,enters_at,leaves_at")?;
     push_word(text, position_fields(dimension))?;
     push_word(text, others)?;
     Ok(text.push(b'\n')?)
 }
 
-/// What a stay begins by, as it is printed.
-fn begun_text(period: &Period, stay: &Stay) -> &'static str
-    ensures { result.now
-        ≡ end_text (end_at stay.now.enters stay.now.leg.t0 period.now.start) }
-{
-    stay.begun_by(period).as_str()
-}
-
-/// What it ends by.
-fn ended_text(period: &Period, stay: &Stay) -> &'static str
-    ensures { result.now
-        ≡ end_text (end_at stay.now.leaves stay.now.leg.t1 period.now.end) }
-{
-    stay.ended_by(period).as_str()
-}
-
-/// Appends both, each behind a comma.
+/// Appends what a first and a last moment are, each behind a comma.
 #[tactic(auto, unfolding(crate::specs::StayTexts::ends_text))]
-fn push_ends(text: &mut Vec<u8>, period: &Period, stay: &Stay) -> Result<(), AllocError>
-    ensures { OnOk result (text.new.items ≡ text.old.items ++ ends_text period.now stay.now) }
+fn push_ends(text: &mut Vec<u8>, enters_by: End, leaves_by: End) -> Result<(), AllocError>
+    ensures { OnOk result (text.new.items ≡ text.old.items ++ ends_text enters_by leaves_by) }
 {
-    push_word(text, begun_text(period, stay))?;
-    push_word(text, ended_text(period, stay))
+    push_word(text, enters_by.as_str())?;
+    push_word(text, leaves_by.as_str())
 }
 
 /// Appends the record of a stay.
@@ -246,21 +265,20 @@ fn push_stay<S: PageStore>(
     alloc: Global,
     text: &mut Vec<u8>,
     database: &Db<S>,
-    frame: &Frame,
-    period: &Period,
+    frame: &Frame<'_>,
     stay: &Stay,
 ) -> Result<(), RunFault>
     ensures there { OnOk result (stay.now.leg.feature < length database.now.book.names) }
     ensures fault { IfErr result
         (IsText (stay.now.leg.feature < length database.now.book.names)) }
     ensures text { OnOk result (text.new.items
-        ≡ text.old.items ++ stay_text database.now.book frame.now period.now stay.now) }
+        ≡ text.old.items ++ stay_text database.now.book frame.now stay.now) }
 {
-    push_name(alloc, text, database, stay.leg.feature)?;
+    push_labelled(alloc, text, database, frame.label, stay.leg.feature)?;
     push_times(text, frame, stay.enters, stay.leaves)?;
     push_position(text, frame.dimension, stay.entry)?;
     push_position(text, frame.dimension, stay.exit)?;
-    push_ends(text, period, stay)?;
+    push_ends(text, stay.enters_by, stay.leaves_by)?;
     Ok(text.push(b'\n')?)
 }
 
@@ -269,8 +287,7 @@ pub fn push_stays<S: PageStore>(
     alloc: Global,
     text: &mut Vec<u8>,
     database: &Db<S>,
-    frame: &Frame,
-    period: &Period,
+    frame: &Frame<'_>,
     stays: &[Stay],
 ) -> Result<(), RunFault>
     // It succeeds only if each stay's feature is in the book.
@@ -281,11 +298,10 @@ pub fn push_stays<S: PageStore>(
         (All (λ stay. stay.leg.feature < length database.now.book.names) stays.now)) }
     // It appends the line of field names, and one record for each stay, in order.
     ensures text { OnOk result (text.new.items
-        ≡ text.old.items ++ stays_text database.now.book frame.now period.now stays.now) }
+        ≡ text.old.items ++ stays_text database.now.book frame.now stays.now) }
 {
-    push_fields(text, frame.dimension, "enters_by,leaves_by")?;
     for stay in stays {
-        push_stay(alloc, text, database, frame, period, stay)?;
+        push_stay(alloc, text, database, frame, stay)?;
     }
     Ok(())
 }
@@ -296,7 +312,7 @@ fn push_visit<S: PageStore>(
     alloc: Global,
     text: &mut Vec<u8>,
     database: &Db<S>,
-    frame: &Frame,
+    frame: &Frame<'_>,
     visit: &Visit,
 ) -> Result<(), RunFault>
     ensures there { OnOk result (visit.now.feature < length database.now.book.names) }
@@ -304,10 +320,11 @@ fn push_visit<S: PageStore>(
     ensures text { OnOk result (text.new.items
         ≡ text.old.items ++ visit_text database.now.book frame.now visit.now) }
 {
-    push_name(alloc, text, database, visit.feature)?;
+    push_labelled(alloc, text, database, frame.label, visit.feature)?;
     push_times(text, frame, visit.enters, visit.leaves)?;
     push_position(text, frame.dimension, visit.entry)?;
     push_position(text, frame.dimension, visit.exit)?;
+    push_ends(text, visit.enters_by, visit.leaves_by)?;
     push_count(text, visit.legs)?;
     Ok(text.push(b'\n')?)
 }
@@ -317,7 +334,7 @@ pub fn push_visits<S: PageStore>(
     alloc: Global,
     text: &mut Vec<u8>,
     database: &Db<S>,
-    frame: &Frame,
+    frame: &Frame<'_>,
     visits: &[Visit],
 ) -> Result<(), RunFault>
     // It succeeds only if each visit's feature is in the book.
@@ -330,7 +347,6 @@ pub fn push_visits<S: PageStore>(
     ensures text { OnOk result (text.new.items
         ≡ text.old.items ++ visits_text database.now.book frame.now visits.now) }
 {
-    push_fields(text, frame.dimension, "legs")?;
     for visit in visits {
         push_visit(alloc, text, database, frame, visit)?;
     }
@@ -351,20 +367,31 @@ fn push_seconds(text: &mut Vec<u8>, micros: u64) -> Result<(), RunFault>
     Ok(push_three_digits(text, micros)?)
 }
 
+/// Appends the line that names the fields of dwells, of which `first` are the first.
+#[tactic(auto, unfolding(crate::specs::StayTexts::dwell_fields))]
+pub fn push_dwell_fields(text: &mut Vec<u8>, first: &str) -> Result<(), AllocError>
+    // They are those of the records behind it.
+    ensures text { OnOk result (text.new.items ≡ text.old.items ++ dwell_fields first.now) }
+{
+    text.extend_from_slice(first.as_bytes())?;
+    text.extend_from_slice(b",visits,least,most\n")
+}
+
 /// Appends the record of a feature's visits.
 #[tactic(auto, unfolding(crate::specs::StayTexts::dwell_text))]
 fn push_dwell<S: PageStore>(
     alloc: Global,
     text: &mut Vec<u8>,
     database: &Db<S>,
+    label: &[u8],
     dwell: &Dwell,
 ) -> Result<(), RunFault>
     ensures there { OnOk result (dwell.now.feature < length database.now.book.names) }
     ensures fault { IfErr result (IsText (dwell.now.feature < length database.now.book.names)) }
     ensures text { OnOk result (text.new.items
-        ≡ text.old.items ++ dwell_text database.now.book dwell.now) }
+        ≡ text.old.items ++ dwell_text database.now.book label.now dwell.now) }
 {
-    push_name(alloc, text, database, dwell.feature)?;
+    push_labelled(alloc, text, database, label, dwell.feature)?;
     push_count(text, dwell.visits)?;
     push_seconds(text, dwell.least)?;
     push_seconds(text, dwell.most)?;
@@ -377,6 +404,7 @@ pub fn push_dwells<S: PageStore>(
     alloc: Global,
     text: &mut Vec<u8>,
     database: &Db<S>,
+    label: &[u8],
     dwells: &[Dwell],
 ) -> Result<(), RunFault>
     // It succeeds only if each dwell's feature is in the book.
@@ -387,11 +415,10 @@ pub fn push_dwells<S: PageStore>(
         (All (λ dwell. dwell.feature < length database.now.book.names) dwells.now)) }
     // It appends the line of field names, and one record for each dwell, in order.
     ensures text { OnOk result (text.new.items
-        ≡ text.old.items ++ dwells_text database.now.book dwells.now) }
+        ≡ text.old.items ++ dwells_text database.now.book label.now dwells.now) }
 {
-    text.extend_from_slice(b"feature,visits,least,most\n")?;
     for dwell in dwells {
-        push_dwell(alloc, text, database, dwell)?;
+        push_dwell(alloc, text, database, label, dwell)?;
     }
     Ok(())
 }

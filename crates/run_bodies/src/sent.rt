@@ -27,10 +27,11 @@ pub fn push_dwells<S: PageStore>(
     alloc: Global,
     text: &mut Vec<u8>,
     database: &Db<S>,
+    label: &[u8],
     dwells: &[Dwell],
 ) -> Result<(), RunFault>
     ensures { OnOk result
         (All (λ dwell. dwell.feature < length database.now.book.names) dwells.now) }
 {
-    reports::push_dwells(alloc, text, database, dwells)
+    reports::push_dwells(alloc, text, database, label, dwells)
 }

@@ -3,7 +3,7 @@ use Rattle.std.specs.Prelude.{ℕ, ◌≡◌, ◌≢◌, ◌⊎◌, ◌<◌, ◌
 use Rattle.std.specs.Io.KnownBytes.{Appends}
 use Rattle.legs.specs.Book.{Book}
 use Rattle.legs.specs.Costs.{ShapeView}
-use Rattle.legs.specs.Limits.{limits_of, LimitsView}
+use Rattle.legs.specs.Limits.{LimitsView}
 use Rattle.outputs.specs.Output.{OutputView}
 use Rattle.pages.specs.Store.{Store, Faulted, IsSynced}
 use Rattle.boxsearch.specs.Index.{written, words}
@@ -22,15 +22,11 @@ use Rattle.trajdb.specs.declared.Report.{Report}
 use Rattle.trajdb.specs.declared.RunFault.{RunFault}
 use Rattle.trajdb.specs.declared.RunFault.TheVariants as run
 use Rattle.sessions.specs.declared.fault.Fault.{Fault}
-use Rattle.sessions.specs.declared.fault.Fault.TheVariants.{Run, Open, CannotRead, CannotWrite, NotEmpty, NoPart, InUse, NoStore, NoSuchStore, Bounds}
+use Rattle.sessions.specs.declared.fault.Fault.TheVariants.{Run, Open, CannotRead, CannotWrite, NotEmpty, NoPart, InUse, NoStore, NoSuchStore, OtherLimits, Rects, Bounds}
 
 -- the shape of the tree of a new database
 abbrev pub new_shape : ShapeView
 new_shape = record { leaf = 50; inner = 72 }
-
--- and under these limits
-abbrev pub new_limits : LimitsView
-new_limits = limits_of 16777216 1048576
 
 -- what was sent is exactly the text of the run over a book, and the store holds the book after it, in
 -- a tree of that shape
@@ -50,6 +46,22 @@ pub record SendsFront (limits : LimitsView) (book : Book) (files : List (List �
   pub text : List ℕ
   pub answers : IsRunText limits files book (take done lines) text
   pub is_front : IsPrefixOf front text
+
+-- what was sent of a run that ended so: the answers to some first lines, and to all lines where it was brought to its end;
+-- all of these answers, or where the output failed a front of them that has all but the last one
+pub record SendsLines (limits : LimitsView) (book : Book) (files : List (List ℕ × List ℕ))
+    (sent sent' : Option (List ℕ)) (lines : List (List ℕ)) (ran : Result (Unit {0}) Fault) : Type 0 where
+  pub done : ℕ
+  pub text : List ℕ
+  pub answers : IsRunText limits files book (take done lines) text
+  pub front : List ℕ
+  pub sends : Appends sent sent' front
+  pub is_front : IsPrefixOf front text
+  pub whole : OnOk ran (done ≡ length lines)
+  pub all : ran ≢ Err (Run run.Output) → front ≡ text
+  pub cut : ran ≡ Err (Run run.Output)
+      → (before : List ℕ) × IsRunText limits files book (take (done - 1) lines) before
+      × IsPrefixOf before front
 
 -- what the closing of a database with a book leaves, by what it answered: the store holds the book, or where memory ran
 -- out or the store is full, it is one that is not finished; where the store failed, it is that, or all of its pages but
@@ -143,18 +155,18 @@ said (Ok x) (Ok y) = Ok tt
 said (Ok x) (Err fault) = Err (Run fault)
 said (Err fault) closed = Err (Run fault)
 
--- a database that was made or opened is run over and closed, and the fault of these is answered, and what the closing
--- came to; where there is none, why is answered, nothing is to be closed, the store is the one that was given back, and
--- nothing was sent
+-- a database that was made or opened is run over and closed, and the fault of these is answered, and that of the closing,
+-- for which what the run did is not kept; where there is none, why is answered twice, the store is the one that was given
+-- back, and nothing was sent
 abbrev pub RunsOver : {S O : Type 0} (seen : S → Store) (shown : O → OutputView)
     → Result DbView (S × CatalogueFault) → List (List ℕ × List ℕ) → (out out' : O)
-    → List (List ℕ) → Result (Unit {0}) Fault → (closed : Result (Unit {0}) RunFault) → Store
-    → Type 0
-RunsOver seen shown (Ok db) files out out' lines answered closed store =
-    (ran : Result (Unit {0}) RunFault) × (answered ≡ said ran closed)
+    → List (List ℕ) → (answered kept : Result (Unit {0}) Fault) → Store → Type 0
+RunsOver seen shown (Ok db) files out out' lines answered kept store =
+    (ran : Result (Unit {0}) RunFault) × (closed : Result (Unit {0}) RunFault)
+    × (answered ≡ said ran closed) × (kept ≡ said (Ok tt) closed)
     × RunsAndCloses shown db files out out' lines ran closed store
-RunsOver seen shown (Err back) files out out' lines answered closed store =
-    (answered ≡ Err (Open back.1)) × (closed ≡ Ok tt) × (store ≡ seen back.0)
+RunsOver seen shown (Err back) files out out' lines answered kept store =
+    (answered ≡ Err (Open back.1)) × (kept ≡ Err (Open back.1)) × (store ≡ seen back.0)
     × (shown out' ≡ shown out)
 
 -- the store holds the book of a database, in a tree of its shape; the report says how many legs and features the book has,
@@ -209,14 +221,16 @@ IsOverFault old after new left (Run run.StoreFull) = left.count ≡ left.most
 IsOverFault old after new left (Run run.Failed) = ⊥
 IsOverFault old after new left (Run run.Output) = ⊥
 IsOverFault old after new left (Open fault) = IsMigratingFault old after new left fault
-IsOverFault old after new left (CannotRead name) = ⊥
+IsOverFault old after new left (CannotRead name cause) = ⊥
 IsOverFault old after new left (CannotWrite name) = ⊥
 IsOverFault old after new left NotEmpty = ⊥
 IsOverFault old after new left (NoPart part parts) = ⊥
 IsOverFault old after new left InUse = ⊥
 IsOverFault old after new left (NoStore cause) = ⊥
 IsOverFault old after new left NoSuchStore = ⊥
+IsOverFault old after new left (OtherLimits legs features) = ⊥
 IsOverFault old after new left (Bounds code) = ⊥
+IsOverFault old after new left (Rects number why) = ⊥
 
 -- why a store of version 1 that holds a book is not brought over: memory ran out or the new store is full, which then
 -- has no page, or says that it is not finished, or has a page 0 alone, whose write failed; or a store failed, and where
@@ -235,11 +249,13 @@ IsNotOver new left (Open opening.StoreFull) = IsLeftOver new left
 IsNotOver new left (Open opening.Unfinished) = ⊥
 IsNotOver new left (Open opening.Version) = ⊥
 IsNotOver new left (Open opening.Malformed) = ⊥
-IsNotOver new left (CannotRead name) = ⊥
+IsNotOver new left (CannotRead name cause) = ⊥
 IsNotOver new left (CannotWrite name) = ⊥
 IsNotOver new left NotEmpty = ⊥
 IsNotOver new left (NoPart part parts) = ⊥
 IsNotOver new left InUse = ⊥
 IsNotOver new left (NoStore cause) = ⊥
 IsNotOver new left NoSuchStore = ⊥
+IsNotOver new left (OtherLimits legs features) = ⊥
 IsNotOver new left (Bounds code) = ⊥
+IsNotOver new left (Rects number why) = ⊥

@@ -1,5 +1,5 @@
 -- What the name of a store stands for, from moment to moment, and what a run makes of it.
-use Rattle.std.specs.Prelude.{ℕ, ◌≡◌, ◌<◌, ◌⊎◌, ◌^◌, ◌-◌, List, [], ◌∷◌, length, Bool, Option, Some, None, IfSome, IsTrue, Err, Ok, Result, false, true, ⊤}
+use Rattle.std.specs.Prelude.{ℕ, ◌≡◌, ◌<◌, ◌⊎◌, ◌^◌, ◌-◌, List, [], ◌∷◌, length, take, Bool, Option, Some, None, IfSome, IsTrue, Err, Ok, Result, false, true, ⊤}
 use Rattle.legs.specs.Book.{Book, empty_book}
 use Rattle.legs.specs.Costs.{ShapeView}
 use Rattle.legs.specs.Limits.{LimitsView}
@@ -15,13 +15,13 @@ use Rattle.trajdb.specs.Db.{capacity_of, shape_of, store_of, DbView, HasPages, I
 use Rattle.trajdb.specs.Faults.{IsNotOutput}
 use Rattle.trajdb.specs.Lasting.{HasBook}
 use Rattle.trajdb.specs.Promises.{OpenCall}
-use Rattle.trajdb.specs.Run.{HasRun}
+use Rattle.trajdb.specs.Run.{run_book}
 use Rattle.register.specs.declared.fault.CatalogueFault.{CatalogueFault}
 use Rattle.trajdb.specs.declared.RunFault.{RunFault}
-use Rattle.trajdb.specs.declared.RunFault.TheVariants.{Memory, Store as StoreFailed}
-use Rattle.sessions.specs.Answers.{Answers, new_limits, new_shape}
+use Rattle.trajdb.specs.declared.RunFault.TheVariants.{Failed, Memory, Store as StoreFailed}
+use Rattle.sessions.specs.Answers.{new_shape, IsAtLoad, SendsLines}
 use Rattle.sessions.specs.declared.fault.Fault.{Fault}
-use Rattle.sessions.specs.declared.fault.Fault.TheVariants.{Bounds, CannotRead, CannotWrite, InUse, NoPart, NoStore, NoSuchStore, NotEmpty, Open, Run}
+use Rattle.sessions.specs.declared.fault.Fault.TheVariants.{Bounds, CannotRead, CannotWrite, InUse, NoPart, NoStore, NoSuchStore, OtherLimits, Rects, NotEmpty, Open, Run}
 
 -- the pages of the file of that name at each moment so far, the last one first; `None` where there was no file
 abbrev pub History : Type 0
@@ -49,12 +49,13 @@ abbrev pub store_in : History → Store
 store_in [] = file_store []
 store_in (now ∷ past) = file_store (pages_in now)
 
--- a run begins with a book: the one that a store holds, or the empty one, where the store has no page and is made
-abbrev pub BeginsWith : Bool → Store → ShapeView → LimitsView → Book → Type 0
-BeginsWith is_new store shape limits book =
+-- a run begins with a book: the one that a store holds, or the empty one under given limits, where the store has no page
+-- and is made
+abbrev pub BeginsWith : Bool → (given : LimitsView) → Store → ShapeView → LimitsView → Book → Type 0
+BeginsWith is_new given store shape limits book =
     HoldsBook store shape limits book
     ⊎ (IsTrue is_new × (store.count ≡ 0) × (shape ≡ new_shape)
-    × (limits ≡ new_limits) × (book ≡ empty_book))
+    × (limits ≡ given) × (book ≡ empty_book))
 
 -- a store is as another one in all but its count of faults, what is synced and whether it may be lost
 abbrev pub HasPagesOf : Store → Store → Type 0
@@ -92,14 +93,16 @@ HoldsNow shape limits book held = IfSome held (λ now. HoldsBook (store_in now) 
 abbrev pub IsOfFolder : Fault → Type 0
 IsOfFolder (Run why) = (why ≡ Memory) ⊎ (why ≡ StoreFailed)
 IsOfFolder (Open why) = ⊥
-IsOfFolder (CannotRead name) = ⊥
+IsOfFolder (CannotRead name cause) = ⊥
 IsOfFolder (CannotWrite name) = ⊥
 IsOfFolder NotEmpty = ⊥
 IsOfFolder (NoPart number count) = ⊥
 IsOfFolder InUse = Unit {0}
 IsOfFolder (NoStore cause) = Unit {0}
 IsOfFolder NoSuchStore = ⊥
+IsOfFolder (OtherLimits legs features) = ⊥
 IsOfFolder (Bounds code) = ⊥
+IsOfFolder (Rects number why) = ⊥
 
 -- it refused a call, which it counts, and this fault is why it did so last: it made no copy, did not make it last, or did
 -- not give it the name
@@ -107,44 +110,52 @@ abbrev pub IsRefusedByFolder : (before after : ℕ) (last : Option Fault) → Fa
 IsRefusedByFolder before after last fault =
     IsOfFolder fault × HasRisen before after × (last ≡ Some fault)
 
--- how a run on a copy over a book is refused: nothing was sent of it, or all was, or it says which kind of fault it is: of
--- the output, want of memory, or of a store that failed or is full; that it is so, this does not say
-abbrev pub IsRefusedBeside : LimitsView → Book → List (List ℕ × List ℕ)
-    → (sent sent' : Option (List ℕ)) → List (List ℕ) → Fault → Type 0
-IsRefusedBeside limits book files sent sent' lines fault =
-    (sent' ≡ sent)
-    ⊎ (((after : Book) × HasRun limits files sent sent' book after lines)
-    ⊎ ((why : RunFault) × (fault ≡ Run why) × (IsNotOutput why → IsLoadFault why)))
+-- how a run on a copy is refused: nothing was sent of it, or it says which kind of fault it is: of the output, want of
+-- memory, or of a store that failed or is full; that it is so, this does not say
+abbrev pub IsRefusedBeside : (sent sent' : Option (List ℕ)) → Fault → Type 0
+IsRefusedBeside sent sent' fault =
+    (sent' ≡ sent) ⊎ ((why : RunFault) × (fault ≡ Run why) × (IsNotOutput why → IsLoadFault why))
 
--- the store of a run over a book that is answered, and of which nothing else than its pages takes the name, which then
--- stands for a file that holds the book after the run: a later run finds it
+-- why what a run on a copy did is not kept, where no folder refused it: there was no database, which is why it was
+-- refused, and nothing was sent; a load of a file that is there failed; or the database was not closed, as memory ran out,
+-- or as its store failed or is full
+abbrev pub IsDropped : List (List ℕ × List ℕ) → (sent sent' : Option (List ℕ)) → List (List ℕ)
+    → (ran : Result (Unit {0}) Fault) → Fault → Type 0
+IsDropped files sent sent' lines ran fault =
+    ((sent' ≡ sent) × (ran ≡ Err fault))
+    ⊎ (((fault ≡ Run Failed) × (k : ℕ) × IsAtLoad files lines k)
+    ⊎ ((why : RunFault) × (fault ≡ Run why) × IsLoadFault why))
+
+-- the store of a run over a book that is kept, and of which nothing else than its pages takes the name, which then stands
+-- for a file that holds the book after the lines whose answers were sent: a later run finds it
 pub record RunsBeside (shape : ShapeView) (limits : LimitsView) (book : Book)
     (files : List (List ℕ × List ℕ)) (sent sent' : Option (List ℕ)) (lines : List (List ℕ))
-    (old new : Option History) : Type 0 where
+    (ran : Result (Unit {0}) Fault) (old new : Option History) : Type 0 where
+  pub sends : SendsLines limits book files sent sent' lines ran
   pub store : Store
-  pub answers : Answers shape limits book files sent sent' lines store
+  pub holds : HoldsBook store shape limits (run_book limits files book (take sends.done lines))
   pub kept : NameIsKept store old new
-  pub held : HoldsNow shape limits answers.after new
+  pub held : HoldsNow shape limits (run_book limits files book (take sends.done lines)) new
 
--- of a store without pages a database is made with the empty book that has begun and not failed, with a cache of so many
+-- of a store without pages a database is made under these limits with the empty book that has begun and not failed, with a cache of so many
 -- pages: its store has page 0 alone, which of a faithful one is its header, and is synced; over a faithful one it is sound,
 -- and its pages are as its state says. Or it is not: as the store failed, or may have no page, where that is said, and over a faithful one else for want
 -- of memory alone; what is left has no page, or page 0 alone, which of a faithful one is that header, unless it failed
-abbrev pub Makes : {S : Type 0} (seen : S → Store) (store : Store) (cache_pages : ℕ)
+abbrev pub Makes : {S : Type 0} (seen : S → Store) (store : Store) (limits : LimitsView) (cache_pages : ℕ)
     → Result DbView (S × CatalogueFault) → Type 0
-Makes seen store cache_pages (Ok db) =
-    (IsTrue store.is_faithful → HasBook new_shape new_limits empty_book db × HasPages db)
-    × (db.book ≡ empty_book) × (db.limits ≡ new_limits) × (shape_of db ≡ new_shape)
+Makes seen store limits cache_pages (Ok db) =
+    (IsTrue store.is_faithful → HasBook new_shape limits empty_book db × HasPages db)
+    × (db.book ≡ empty_book) × (db.limits ≡ limits) × (shape_of db ≡ new_shape)
     × (db.begun ≡ true) × (db.failed ≡ false) × (capacity_of db ≡ cache_pages)
-    × Writes 0 (sealed 0 (header_payload new_shape new_limits)) store (store_of db)
+    × Writes 0 (sealed 0 (header_payload new_shape limits)) store (store_of db)
     × IsSynced (store_of db)
-Makes seen store cache_pages (Err back) =
+Makes seen store limits cache_pages (Err back) =
     (IsTrue store.is_faithful → IsSavingStop back.1) × IsCaused store (seen back.0) back.1
-    × Keeps store (seen back.0) × IsLeft new_shape new_limits store (seen back.0)
+    × Keeps store (seen back.0) × IsLeft new_shape limits store (seen back.0)
 
--- a store is opened, or made a database where it has no page and that is asked for, with a cache of so many pages; or it
+-- a store is opened, or made a database under these limits where it has no page and that is asked for, with a cache of so many pages; or it
 -- is not, and why
 pub record OpensOrMakes {S : Type 0} (seen : S → Store) (store : Store) (is_new : Bool)
-    (cache_pages : ℕ) (opened : Result DbView (S × CatalogueFault)) : Type 0 where
+    (limits : LimitsView) (cache_pages : ℕ) (opened : Result DbView (S × CatalogueFault)) : Type 0 where
   pub opens : (is_new ≡ false) ⊎ (0 < store.count) → OpenCall seen store cache_pages opened
-  pub makes : IsTrue is_new → store.count ≡ 0 → Makes seen store cache_pages opened
+  pub makes : IsTrue is_new → store.count ≡ 0 → Makes seen store limits cache_pages opened

@@ -7,7 +7,9 @@ use Rattle.trajdb.specs.declared.RunFault.TheVariants as run
 use Rattle.sessions.specs.declared.cause.Cause.{Cause}
 use Rattle.sessions.specs.declared.cause.Cause.TheVariants.{Absent, NoRight, Folder, NoFolder, Full, ReadOnly, TooLong, Limited, Empty, Other}
 use Rattle.sessions.specs.declared.fault.Fault.{Fault}
-use Rattle.sessions.specs.declared.fault.Fault.TheVariants.{Run, Open, CannotRead, CannotWrite, NotEmpty, NoPart, InUse, NoStore, NoSuchStore, Bounds}
+use Rattle.sessions.specs.declared.fault.Fault.TheVariants.{Run, Open, CannotRead, CannotWrite, NotEmpty, NoPart, InUse, NoStore, NoSuchStore, OtherLimits, Rects, Bounds}
+use Rattle.sessions.specs.declared.rects_fault.RectsFault.{RectsFault}
+use Rattle.sessions.specs.declared.rects_fault.RectsFault.TheVariants.{NotUtf8, NoColumns, Name, Twice, Corner}
 
 -- why a rectangle or a period is refused
 abbrev pub bounds_words : LineCode → List ℕ
@@ -19,6 +21,14 @@ bounds_words Q5 = codes "a coordinate is no number, or out of range"
 bounds_words Q6 = codes "X1 is above X2, or Y1 above Y2"
 bounds_words Q7 = codes "T1 or T2 is no instant, or out of range"
 bounds_words Q8 = codes "T1 is after T2"
+
+-- why a file of rectangles is refused
+abbrev pub rects_words : RectsFault → List ℕ
+rects_words NotUtf8 = codes "a field is not UTF-8"
+rects_words NoColumns = codes "there are no columns name, x1, y1, x2 and y2"
+rects_words Name = codes "the name is empty, or has more than 255 bytes"
+rects_words Twice = codes "the name stands a second time"
+rects_words (Corner code) = bounds_words code
 
 -- the text of a fault's line, after `mftb: `
 abbrev pub fault_text : Fault → List ℕ
@@ -35,7 +45,7 @@ fault_text (Open opening.StoreFull) = codes "store full"
 fault_text (Open opening.Unfinished) = codes "store unfinished"
 fault_text (Open opening.Version) = codes "store version"
 fault_text (Open opening.Malformed) = codes "store malformed"
-fault_text (CannotRead name) = codes "cannot read " ++ name.now
+fault_text (CannotRead name cause) = codes "cannot read " ++ name.now
 fault_text (CannotWrite name) = codes "cannot write " ++ name.now
 fault_text NotEmpty = codes "new store not empty"
 fault_text (NoPart part parts) =
@@ -44,7 +54,12 @@ fault_text (NoPart part parts) =
 fault_text InUse = codes "store in use"
 fault_text (NoStore cause) = codes "store"
 fault_text NoSuchStore = codes "no such store"
+fault_text (OtherLimits legs features) =
+    codes "other limits: the store takes " ++ (decimal legs ++ (codes " legs and "
+    ++ (decimal features ++ codes " features")))
 fault_text (Bounds code) = bounds_words code
+fault_text (Rects number why) =
+    codes "record " ++ (decimal number ++ (codes " of the rectangles: " ++ rects_words why))
 
 -- why a file of the system was not opened, made, read or written
 abbrev pub cause_text : Cause → List ℕ
@@ -63,24 +78,28 @@ cause_text Other = codes "the system refused a call"
 abbrev pub status_of : Fault → ℕ
 status_of (Run why) = 1
 status_of (Open why) = 1
-status_of (CannotRead name) = 1
+status_of (CannotRead name cause) = 1
 status_of (CannotWrite name) = 1
 status_of NotEmpty = 1
 status_of (NoPart part parts) = 2
 status_of InUse = 1
 status_of (NoStore cause) = 1
 status_of NoSuchStore = 1
+status_of (OtherLimits legs features) = 2
 status_of (Bounds code) = 2
+status_of (Rects number why) = 2
 
 -- a store that failed is the fault
 abbrev pub IsOfStore : Fault → Type 0
 IsOfStore (Run why) = why ≡ run.Store
 IsOfStore (Open why) = why ≡ opening.Store
-IsOfStore (CannotRead name) = ⊥
+IsOfStore (CannotRead name cause) = ⊥
 IsOfStore (CannotWrite name) = ⊥
 IsOfStore NotEmpty = ⊥
 IsOfStore (NoPart part parts) = ⊥
 IsOfStore InUse = ⊥
 IsOfStore (NoStore cause) = Unit {0}
 IsOfStore NoSuchStore = ⊥
+IsOfStore (OtherLimits legs features) = ⊥
 IsOfStore (Bounds code) = ⊥
+IsOfStore (Rects number why) = ⊥

@@ -1,34 +1,19 @@
 //! A run that works on a copy beside the store.
-ghost use Rattle.std.specs.Prelude.{◌≡◌, ◌<◌, ◌+◌, ◌-◌, ◌^◌, min, IfErr, IfSome, IsTrue, OnErr, OnOk, false};
+ghost use Rattle.std.specs.Prelude.{◌≡◌, ◌<◌, ◌+◌, ◌-◌, ◌^◌, ◌⊎◌, min, IfErr, IfSome, IsTrue, OnErr, OnOk, false};
 ghost use Rattle.legs.specs.Book.{Book};
 ghost use Rattle.legs.specs.Costs.{ShapeView};
 ghost use Rattle.legs.specs.Limits.{LimitsView};
 ghost use Rattle.trajdb.specs.Script.{lines_of};
-ghost use Rattle.sessions.specs.Answers.{SendsFront};
-ghost use Rattle.sessions.specs.Folder.{BeginsWith, NameIsKept, IsRefusedByFolder, IsRefusedBeside, IsReplaced, RunsBeside, store_in};
+ghost use Rattle.sessions.specs.Answers.{SendsLines};
+ghost use Rattle.sessions.specs.Folder.{BeginsWith, NameIsKept, IsDropped, IsRefusedByFolder, IsRefusedBeside, IsReplaced, RunsBeside, store_in};
 
+use crate::ended::Ended;
 use crate::fault::Fault;
 use crate::folder::Folder;
-use crate::session::{answer, database};
+use crate::session::{Opening, answer, database};
 use outputs::Output;
 use pages::PageStore;
-use std::alloc::Global;
-use std::hash::RandomState;
 use trajdb::Files;
-
-/// How the database of a store is made or opened.
-#[derive(Clone, Copy)]
-pub struct Opening {
-    /// Where its memory comes from.
-    pub alloc: Global,
-    /// With what its names are hashed: a stranger who chooses the names of a file is not to know
-    /// it.
-    pub keys: RandomState,
-    /// Whether it is made where the store has no page.
-    pub is_new: bool,
-    /// How many pages its cache holds at most, of 4096 bytes each; at least 1.
-    pub cache_pages: u32,
-}
 
 /// Gives the store's name to a copy whose pages are on the disk, and makes that last.
 fn give<'a, F: Folder>(folder: &mut F, mut store: F::Store) -> Result<(), Fault<'a>>
@@ -81,75 +66,94 @@ fn keep<'a, F: Folder>(folder: &mut F, store: F::Store) -> Result<(), Fault<'a>>
 }
 
 /// Runs a script over a copy of the store, which then takes the store's name, where a page of it
-/// was written. Where the run is not brought to its end, the store stays as it is, and the copy is
-/// taken away.
+/// was written. Where the run is not brought to its end, and the database has not failed, the copy has
+/// what the lines before did, and takes the name all the same. Else the store stays as it is, and the
+/// copy is taken away.
 ///
 /// `script` and `files` are bytes as they were read; the answers go to `out`. It is refused as the
 /// folder refuses it (`Folder::copy`, `Folder::sync`, `Folder::replace`), and as `answer` does.
 pub fn run_on_copy<'a, F: Folder, O: Output>(
     folder: &mut F,
-    how: Opening,
+    how: &Opening,
     script: &[u8],
     files: &Files,
     out: &mut O,
-) -> Result<(), Fault<'a>>
+) -> Ended<'a>
     // The cache has room for a page.
-    requires { 0 < how.cache_pages }
+    requires { 0 < how.now.cache_pages }
 
-    // What was sent is exactly the text of the run over the book that the store held, or the empty
-    // one where it is made; the store's name stood for what it stood for until, at one moment, it
-    // was given to a file that holds the book after it.
-    ensures runs { OnOk result (IfSome (F.held folder.old)
+    // Whatever is answered, what was sent is the answers to some first lines over the book that the
+    // store held, or the empty one where it is made, and to all lines where the run was brought to
+    // its end; or where the output failed a front of them that has all but the last one.
+    ensures sent { IfSome (F.held folder.old)
         (λ past. (shape : ShapeView) (limits : LimitsView) (book : Book)
-        → BeginsWith how.is_new (store_in past) shape limits book
+        → BeginsWith how.now.is_new how.now.limits (store_in past) shape limits book
+        → SendsLines limits book files.now (O.seen out.old).contents (O.seen out.new).contents
+        (lines_of script.now) result.ran) }
+
+    // The store's name stood for what it stood for until, at one moment, it was given to a file that
+    // holds the book after these lines.
+    ensures runs { OnOk result.kept (IfSome (F.held folder.old)
+        (λ past. (shape : ShapeView) (limits : LimitsView) (book : Book)
+        → BeginsWith how.now.is_new how.now.limits (store_in past) shape limits book
         → RunsBeside shape limits book files.now (O.seen out.old).contents
-        (O.seen out.new).contents (lines_of script.now) (F.held folder.old) (F.held folder.new))) }
+        (O.seen out.new).contents (lines_of script.now) result.ran (F.held folder.old)
+        (F.held folder.new))) }
 
     // The name is on the disk as far as the system can make it so.
-    ensures settled { OnOk result (IsTrue (F.is_settled folder.old)
+    ensures settled { OnOk result.kept (IsTrue (F.is_settled folder.old)
         → IsTrue (F.is_settled folder.new)) }
 
-    // A copy is asked for once, whatever is answered, and none is left beside the store's file. Where it is answered, the
-    // folder refused nothing.
+    // A copy is asked for once, whatever is answered, and none is left beside the store's file. Where what the run did is
+    // kept, the folder refused nothing.
     ensures copy_calls { F.copy_calls folder.new
         ≡ min (F.copy_calls folder.old + 1) (2 ^ 64 - 1) }
     // No copy is left, as far as the system lets it be taken away.
     ensures gone { F.has_copy folder.new ≡ false }
     // After `Ok` the folder refused no call.
-    ensures refuses_none { OnOk result (F.refusals folder.new ≡ F.refusals folder.old) }
+    ensures refuses_none { OnOk result.kept (F.refusals folder.new ≡ F.refusals folder.old) }
 
-    // Where it is refused the name stands for what it stood for, all along, and what was sent is
-    // the front of that text.
-    ensures stays { OnErr result (F.held folder.new ≡ F.held folder.old) }
-    // After an error what was sent is a prefix of that text.
-    ensures sent { OnErr result (IfSome (F.held folder.old)
-        (λ past. (shape : ShapeView) (limits : LimitsView) (book : Book)
-        → BeginsWith how.is_new (store_in past) shape limits book
-        → SendsFront limits book files.now (O.seen out.old).contents (O.seen out.new).contents
-        (lines_of script.now))) }
+    // Where it is not kept the name stands for what it stood for, all along.
+    ensures stays { OnErr result.kept (F.held folder.new ≡ F.held folder.old) }
 
-    // Where something was sent, and not all, it is said to be refused for the output, for want of
-    // memory, or for a store that failed or is full.
-    ensures refused { IfErr result (λ fault. IfSome (F.held folder.old)
+    // It is not kept only where the folder refused, there is no database, a load of a file failed, or
+    // the database was not closed.
+    ensures dropped { IfErr result.kept (λ fault. IfSome (F.held folder.old)
         (λ past. (shape : ShapeView) (limits : LimitsView) (book : Book)
-        → BeginsWith how.is_new (store_in past) shape limits book
-        → IsRefusedBeside limits book files.now (O.seen out.old).contents
-        (O.seen out.new).contents (lines_of script.now) fault)) }
+        → BeginsWith how.now.is_new how.now.limits (store_in past) shape limits book
+        → IsRefusedByFolder (F.refusals folder.old) (F.refusals folder.new)
+        (F.last_fault folder.new) fault
+        ⊎ IsDropped files.now (O.seen out.old).contents (O.seen out.new).contents
+        (lines_of script.now) result.ran fault)) }
+
+    // Where something was sent, and the run was not brought to its end, it is said to be refused for
+    // the output, for want of memory, or for a store that failed or is full.
+    ensures refused { IfErr result.ran (λ fault. IfSome (F.held folder.old)
+        (λ past. (shape : ShapeView) (limits : LimitsView) (book : Book)
+        → BeginsWith how.now.is_new how.now.limits (store_in past) shape limits book
+        → IsRefusedBeside (O.seen out.old).contents (O.seen out.new).contents fault)) }
 {
     let store = match folder.copy() {
         Ok(store) => store,
         Err(fault) => {
             folder.discard();
-            return Err(fault);
+            return Ended {
+                ran: Err(fault),
+                kept: Err(fault),
+            };
         }
     };
-    let database = database(how.alloc, how.keys, store, how.is_new, how.cache_pages);
-    let (store, answered, _closed) = answer(how.alloc, database, script, files, out);
-    match answered {
-        Ok(()) => keep(folder, store),
-        Err(fault) => {
+    let database = database(how, store);
+    let (store, ended) = answer(how.alloc, database, script, files, out);
+    let closed = ended.kept;
+    match closed {
+        Ok(()) => Ended {
+            ran: ended.ran,
+            kept: keep(folder, store),
+        },
+        Err(_) => {
             folder.discard();
-            Err(fault)
+            ended
         }
     }
 }

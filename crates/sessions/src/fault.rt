@@ -3,6 +3,7 @@ ghost use Rattle.std.specs.Prelude.{◌≡◌, ◌↔◌, IsTrue};
 ghost use Rattle.sessions.specs.Texts.{bounds_words, status_of, IsOfStore};
 
 use crate::cause::Cause;
+use crate::rects_fault::{RectsFault, rects_text};
 use querylang::LineCode;
 use std::alloc::AllocError;
 use std::fmt;
@@ -16,8 +17,8 @@ pub enum Fault<'a> {
     Run(RunFault),
     /// The database was not made, opened or brought over.
     Open(OpenFault),
-    /// The script or a file of that name could not be read, or is too long.
-    CannotRead(&'a str),
+    /// The script or a file of that name could not be read, or is too long, and why.
+    CannotRead(&'a str, Cause),
     /// A file of a part could not be written into the folder of that name.
     CannotWrite(&'a str),
     /// The file that a store was to be brought over into is there, and has bytes.
@@ -30,8 +31,12 @@ pub enum Fault<'a> {
     NoStore(Cause),
     /// There is no such store, and none is to be made.
     NoSuchStore,
+    /// The store is there, and takes at most so many legs and features, and not as many as were asked for.
+    OtherLimits(u64, u32),
     /// The rectangle or the period is refused, as a line of a script would be.
     Bounds(LineCode),
+    /// A file of rectangles is refused, at the record of that number.
+    Rects(u64, RectsFault),
 }
 
 impl Fault<'_> {
@@ -40,7 +45,7 @@ impl Fault<'_> {
         ensures { result ≡ status_of self.now }
     {
         match self {
-            Fault::NoPart(..) | Fault::Bounds(_) => 2,
+            Fault::NoPart(..) | Fault::OtherLimits(..) | Fault::Bounds(_) | Fault::Rects(..) => 2,
             _ => 1,
         }
     }
@@ -93,7 +98,7 @@ impl From<OpenFault> for Fault<'_> {
 }
 
 /// Why a rectangle or a period is refused.
-fn bounds_text(code: LineCode) -> &'static str
+pub(crate) fn bounds_text(code: LineCode) -> &'static str
     ensures { result.now ≡ bounds_words code }
 {
     match code {
@@ -129,7 +134,7 @@ impl Display for Fault<'_> {
             Fault::Open(OpenFault::Malformed) => f.write_str("store malformed"),
             Fault::Run(RunFault::Failed) => f.write_str("failed"),
             Fault::Run(RunFault::Output) => f.write_str("output"),
-            Fault::CannotRead(name) => write!(f, "cannot read {name}"),
+            Fault::CannotRead(name, _) => write!(f, "cannot read {name}"),
             Fault::CannotWrite(name) => write!(f, "cannot write {name}"),
             Fault::NotEmpty => f.write_str("new store not empty"),
             Fault::NoPart(part, parts) => {
@@ -137,7 +142,17 @@ impl Display for Fault<'_> {
             }
             Fault::InUse => f.write_str("store in use"),
             Fault::NoSuchStore => f.write_str("no such store"),
+            Fault::OtherLimits(legs, features) => {
+                write!(
+                    f,
+                    "other limits: the store takes {legs} legs and {features} features"
+                )
+            }
             Fault::Bounds(code) => f.write_str(bounds_text(*code)),
+            Fault::Rects(record, why) => {
+                let why = rects_text(*why);
+                write!(f, "record {record} of the rectangles: {why}")
+            }
         }
     }
 }

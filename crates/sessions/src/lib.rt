@@ -7,6 +7,7 @@ mod answering;
 mod beside;
 mod cause;
 mod checking;
+mod ended;
 mod fault;
 mod folder;
 mod folder_refusals;
@@ -15,12 +16,14 @@ mod part;
 mod part_files;
 mod read_only;
 mod reading;
+mod rects_fault;
 mod session;
 
 pub use answering::send_all;
-pub use beside::{Opening, run_on_copy};
+pub use beside::run_on_copy;
 pub use cause::Cause;
 pub use checking::check_and_close;
+pub use ended::Ended;
 pub use fault::Fault;
 pub use folder::Folder;
 pub use folder_refusals::FolderRefusals;
@@ -29,4 +32,7 @@ pub use part::send_part;
 pub use part_files::{PartFolder, put_parts};
 pub use read_only::ReadOnly;
 pub use reading::{MOST_BYTES, read_named};
-pub use session::{CACHE_PAGES, answer, database, run_and_close};
+pub use rects_fault::RectsFault;
+pub use session::{
+    CACHE_PAGES, MOST_FEATURES, MOST_LEGS, Opening, answer, database, run_and_close,
+};

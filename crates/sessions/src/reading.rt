@@ -2,6 +2,7 @@
 ghost use Rattle.std.specs.Prelude.{◌≤◌, IfErr, IfOk, vec_len};
 ghost use Rattle.sessions.specs.Reading.{IsUnreadFile};
 
+use crate::cause::Cause;
 use crate::fault::Fault;
 use std::fs::{File, OpenFile};
 use std::io::Read;
@@ -25,19 +26,19 @@ pub fn read_named<'a, R: rt::Files + AllocGlobal>(
 {
     let fault = |error: io::Error| match error.kind() {
         io::ErrorKind::OutOfMemory => Fault::Run(RunFault::Memory),
-        _ => Fault::CannotRead(name),
+        kind => Fault::CannotRead(name, Cause::from(kind)),
     };
     let file = File::open(rt, name).map_err(fault)?;
     // A long file of the disk is not read first.
     if file.metadata().map_err(fault)?.len() > most {
-        return Err(Fault::CannotRead(name));
+        return Err(Fault::CannotRead(name, Cause::TooLong));
     }
     let mut bytes = Vec::new(rt.alloc());
     file.take(most.saturating_add(1))
         .read_to_end(&mut bytes)
         .map_err(fault)?;
     if bytes.len() as u64 > most {
-        return Err(Fault::CannotRead(name));
+        return Err(Fault::CannotRead(name, Cause::TooLong));
     }
     Ok(bytes)
 }

@@ -9,8 +9,9 @@ ghost use Rattle.pages.specs.Store.{Faulted, IsSynced};
 ghost use Rattle.trajdb.specs.Db.{shape_of, store_of, HasPages, IsSoundDb};
 ghost use Rattle.trajdb.specs.Lasting.{HasBook, IsIdle};
 ghost use Rattle.sessions.specs.Folder.{OpensOrMakes};
-ghost use Rattle.sessions.specs.Answers.{new_limits, said, Answers, RunBegins, RunsAndCloses, RunsOver, SendsFront};
+ghost use Rattle.sessions.specs.Answers.{said, Answers, RunBegins, RunsAndCloses, RunsOver, SendsFront};
 
+use crate::ended::Ended;
 use crate::fault::Fault;
 use legs::Limits;
 use outputs::Output;
@@ -23,36 +24,38 @@ use trajdb::{Db, Files, OpenFault, RunFault};
 /// How many pages the cache of a database holds where no other number is given, of 4096 bytes each.
 pub const CACHE_PAGES: u32 = 256;
 
-/// The most legs of a database.
-const MOST_LEGS: u64 = 1 << 24;
+/// The most legs of a new database where no other number is given.
+pub const MOST_LEGS: u64 = 1 << 24;
 
-/// The most features of a database.
-const MOST_FEATURES: u32 = 1 << 20;
+/// The most features of a new database where no other number is given.
+pub const MOST_FEATURES: u32 = 1 << 20;
 
-/// How much a new database may hold.
-fn limits() -> Limits
-    ensures { result ≡ new_limits }
-{
-    Limits::new(MOST_LEGS, MOST_FEATURES).unwrap()
+/// How the database of a store is made or opened.
+#[derive(Clone, Copy)]
+pub struct Opening {
+    /// Where its memory comes from.
+    pub alloc: Global,
+    /// With what its names are hashed: a stranger who chooses the names of a file is not to know
+    /// it.
+    pub keys: RandomState,
+    /// Whether it is made where the store has no page.
+    pub is_new: bool,
+    /// How much it may hold, where it is made.
+    pub limits: Limits,
+    /// How many pages its cache holds at most, of 4096 bytes each; at least 1.
+    pub cache_pages: u32,
 }
 
-/// The database of a store, or a new one over a store without pages that is to be made, for at most
-/// 16777216 legs and 1048576 features. Its cache holds at most that many pages, of 4096 bytes each;
-/// names are hashed with the keys, which a stranger who chooses the names of a file is not to know.
+/// The database of a store, or a new one over a store without pages that is to be made.
 ///
 /// Where it is refused, the store is handed back, and why, as `Db::create` and `Db::open` say it.
-pub fn database<S: PageStore>(
-    alloc: Global,
-    keys: RandomState,
-    store: S,
-    is_new: bool,
-    cache_pages: u32,
-) -> Result<Db<S>, (S, OpenFault)>
+pub fn database<S: PageStore>(how: &Opening, store: S) -> Result<Db<S>, (S, OpenFault)>
     // The cache has room for a page.
-    requires { 0 < cache_pages }
+    requires { 0 < how.now.cache_pages }
     // A store that has a page, or of which none is to be made, is opened, be what it holds sound or not; any other is made
     // an empty database, which has page 0 alone, and is synced, or is handed back.
-    ensures opens { OpensOrMakes S.seen (S.seen store) is_new cache_pages result }
+    ensures opens { OpensOrMakes S.seen (S.seen store) how.now.is_new how.now.limits
+        how.now.cache_pages result }
 
     // One that holds a book is a database with that book, and over any faithful store its pages are as its state says.
     ensures kept { IfOk result (λ db. IsTrue (S.seen store).is_faithful
@@ -66,11 +69,12 @@ pub fn database<S: PageStore>(
     // It has not failed.
     ensures lives { IfOk result (λ db. db.failed ≡ false) }
 {
-    if is_new && store.len() == 0 {
+    let cache_pages = how.cache_pages as usize;
+    if how.is_new && store.len() == 0 {
         let shape = Shape::new(50, 72).unwrap();
-        return Db::create(alloc, keys, store, shape, cache_pages as usize, limits());
+        return Db::create(how.alloc, how.keys, store, shape, cache_pages, how.limits);
     }
-    Db::open(alloc, keys, store, cache_pages as usize)
+    Db::open(how.alloc, how.keys, store, cache_pages)
 }
 
 /// Runs the script over a database, closes it, and gives its store back, with what the run and what
@@ -130,26 +134,25 @@ fn answer_of<'a>(ran: Result<(), RunFault>, closed: Result<(), RunFault>) -> Res
 /// Runs the script over the database of a store, closes it, and gives the store back, as
 /// `run_and_close` does (`Run`). Where there is no database it is refused as that was (`Open`).
 ///
-/// What is answered is the run's fault, or else the closing's; what the closing came to stands behind it, and is `Ok`
-/// where there is no database.
+/// `Ended::ran` is the run's fault, or else the closing's, and `Ended::kept` the closing's.
 pub fn answer<'a, S: PageStore, O: Output>(
     alloc: Global,
     database: Result<Db<S>, (S, OpenFault)>,
     script: &[u8],
     files: &Files,
     out: &mut O,
-) -> (S, Result<(), Fault<'a>>, Result<(), RunFault>)
+) -> (S, Ended<'a>)
     // What was sent is exactly the text of the run over the book, and the store then holds the book
     // after it, in a tree of the same shape.
-    ensures runs { OnOk result.1 (IfOk database (λ db. IsSoundDb db → HasPages db → IsIdle db
+    ensures runs { OnOk result.1.ran (IfOk database (λ db. IsSoundDb db → HasPages db → IsIdle db
         → Answers (shape_of db) db.limits db.book files.now (O.seen out.old).contents
         (O.seen out.new).contents (lines_of script.now) (S.seen result.0))) }
 
     // Where the database had begun, or a file was accepted, all of the store is synced then.
-    ensures synced { OnOk result.1 (IfOk database (λ db. RunBegins db files.now
+    ensures synced { OnOk result.1.ran (IfOk database (λ db. RunBegins db files.now
         (lines_of script.now) → IsSynced (S.seen result.0))) }
     // Where it is refused, what was sent is the front of that text.
-    ensures sent { OnErr result.1 (IfOk database (λ db. IsSoundDb db → db.failed ≡ false
+    ensures sent { OnErr result.1.ran (IfOk database (λ db. IsSoundDb db → db.failed ≡ false
         → SendsFront db.limits db.book files.now (O.seen out.old).contents (O.seen out.new).contents
         (lines_of script.now))) }
 
@@ -157,16 +160,27 @@ pub fn answer<'a, S: PageStore, O: Output>(
     // have failed only where it did; where there is no database it is the one that was given back, and
     // nothing is sent.
     ensures over { RunsOver S.seen O.seen database files.now out.old out.new
-        (lines_of script.now) result.1 result.2 (S.seen result.0) }
+        (lines_of script.now) result.1.ran result.1.kept (S.seen result.0) }
     // `Store` is returned only if the store failed.
-    ensures caused { IfOk database (λ db. IsErrOf result.1 (Fault.Run RunFault.Store)
+    ensures caused { IfOk database (λ db. IsErrOf result.1.ran (Fault.Run RunFault.Store)
         → Faulted (store_of db) (S.seen result.0)) }
 {
     match database {
         Ok(database) => {
             let (store, ran, closed) = run_and_close(alloc, database, script, files, out);
-            (store, answer_of(ran, closed), closed)
+            let ended = Ended {
+                ran: answer_of(ran, closed),
+                kept: answer_of(Ok(()), closed),
+            };
+            (store, ended)
         }
-        Err((store, fault)) => (store, Err(Fault::Open(fault)), Ok(())),
+        Err((store, fault)) => {
+            let refused = Err(Fault::Open(fault));
+            let ended = Ended {
+                ran: refused,
+                kept: refused,
+            };
+            (store, ended)
+        }
     }
 }

@@ -1,8 +1,9 @@
-use Rattle.std.proofs.Common.{refl, ◌<ℤ◌}
+use Rattle.std.proofs.Common.{subst, ◌<ℤ◌}
 use Rattle.mfcsv.specs.declared.Position.{Position}
 use Rattle.legs.specs.Legs.{LegView}
 use Rattle.clipping.specs.Clip.{Clips}
 use Rattle.clipping.specs.declared.line.Frac.{Frac}
+use Rattle.moments.specs.Ends.{IsEndBy}
 use Rattle.moments.specs.Parts.{IsAt, IsWhole}
 use Rattle.moments.specs.Stays.{IsPositionAt}
 use Rattle.moments.specs.declared.moment.Moment.{Moment}
@@ -13,11 +14,11 @@ pub returns-in_err-cut : goal.returns-in_err-cut
 unfolding Clips
 returns-in_err-cut c = rw c.from_residual.ensures c.in_err-cut.ensures
 
-pub moment_at-requires : goal.moment_at-requires
-moment_at-requires c = low_part c.in_ok-cut.cut
+pub moment_at-enters-requires : goal.moment_at-enters-requires
+moment_at-enters-requires c = low_part c.in_ok-cut.cut
 
-pub moment_at-requires-2 : goal.moment_at-requires-2
-moment_at-requires-2 c = high_part c.in_ok-cut.cut
+pub moment_at-leaves-requires : goal.moment_at-leaves-requires
+moment_at-leaves-requires c = high_part c.in_ok-cut.cut
 
 pub position_at-requires : goal.position_at-requires
 position_at-requires c = low_part c.in_ok-cut.cut
@@ -40,15 +41,19 @@ returns c =
     let rect = c.args.rect.now in
     let period = c.args.period.now in
     let cut = c.in_ok-cut.cut in
-    let rises = c.moment_at.ensures.rises in
-    let enters = c.moment_at.result in
-    let leaves = c.moment_at-2.result in
+    let rises = c.moment_at-enters.ensures.rises in
+    let enters = c.moment_at-enters.result in
+    let leaves = c.moment_at-leaves.result in
     let clip = c.in_ok-cut.ensures.0 in
     record {
-      same = refl;
-      first = first_is leg rect period cut rises clip enters.num enters.den enters.positive c.moment_at.ensures.at;
-      last = last_is leg rect period cut rises clip leaves.num leaves.den leaves.positive c.moment_at-2.ensures.at;
-      between = between_is leg rect period cut rises clip enters.num leaves.num enters.den leaves.den enters.positive leaves.positive c.moment_at.ensures.at c.moment_at-2.ensures.at;
-      entry = position_is leg cut.lo enters c.position_at.result rises c.moment_at.ensures.at c.position_at.ensures.x c.position_at.ensures.y c.position_at.ensures.z;
-      exit = position_is leg cut.hi leaves c.position_at-2.result rises c.moment_at-2.ensures.at c.position_at-2.ensures.x c.position_at-2.ensures.y c.position_at-2.ensures.z;
+      same = c.leg.view_is;
+      first = first_is leg rect period cut rises clip enters.num enters.den enters.positive c.moment_at-enters.ensures.at;
+      last = last_is leg rect period cut rises clip leaves.num leaves.den leaves.positive c.moment_at-leaves.ensures.at;
+      between = between_is leg rect period cut rises clip enters.num leaves.num enters.den leaves.den enters.positive leaves.positive c.moment_at-enters.ensures.at c.moment_at-leaves.ensures.at;
+      entry = position_is leg cut.lo enters c.position_at.result rises c.moment_at-enters.ensures.at c.position_at.ensures.x c.position_at.ensures.y c.position_at.ensures.z;
+      exit = position_is leg cut.hi leaves c.position_at-2.result rises c.moment_at-leaves.ensures.at c.position_at-2.ensures.x c.position_at-2.ensures.y c.position_at-2.ensures.z;
+      begun = subst (λ p. IsEndBy enters leg.t0 p c.end_by.result) c.start.ensures.value
+          (subst (λ (l : LegView). IsEndBy enters l.t0 c.start.result c.end_by.result) c.leg.view_is c.end_by.ensures);
+      ended = subst (λ p. IsEndBy leaves leg.t1 p c.end_by-2.result) c.end.ensures.value
+          (subst (λ (l : LegView). IsEndBy leaves l.t1 c.end.result c.end_by-2.result) c.leg.view_is c.end_by-2.ensures);
     }

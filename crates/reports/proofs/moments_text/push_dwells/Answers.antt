@@ -1,8 +1,8 @@
-use Rattle.std.proofs.Common.{◌<◌, ℕ, List, All, codes, length, subst, arith}
+use Rattle.std.proofs.Common.{◌<◌, ℕ, List, All, length, subst, arith}
 use Rattle.std.proofs.lemmas.List.{take_all}
 use Rattle.std.proofs.lemmas.List.Elements.{All-more}
 use Rattle.moments.specs.declared.dwells.Dwell.{Dwell}
-use Rattle.reports.specs.StayTexts.{dwell_text, dwells_text}
+use Rattle.reports.specs.StayTexts.{dwell_text}
 use Rattle.reports.proofs.TextLemmas.{texts_all, texts_more}
 use Rattle.reports.proofs.moments_text.push_dwells.Goals as goal
 
@@ -10,7 +10,7 @@ pub loop-dwell-preserved : goal.loop-dwell-preserved
 loop-dwell-preserved g c =
     let book = c.args.database.now.book in
     let P : Dwell → Type 0 = λ dwell. dwell.feature < length book.names in
-    let f : Dwell → List ℕ = dwell_text book in
+    let f : Dwell → List ℕ = dwell_text book c.args.label.now in
     let within : c.loop-dwell.dwell-index < length c.args.dwells.now = omega (arith, c.loop-dwell-test.true) in
     record {
       there = All-more P c.args.dwells.now c.loop-dwell.dwell-index (record { feature = 0; visits = 0; least = 0; most = 0 }) within c.loop-dwell.invariant.there c.in_ok-push_dwell.ensures.there;
@@ -23,7 +23,5 @@ returns-clause-there g c =
     subst (λ (xs : List Dwell). All P xs) (take_all c.loop-dwell.dwell-index c.args.dwells.now (omega (arith, c.loop-dwell-test.false))) c.loop-dwell.invariant.there
 
 pub returns-clause-text : goal.returns-clause-text
-unfolding dwells_text
 returns-clause-text g c =
-    let book = c.args.database.now.book in
-    texts_all (dwell_text book) c.args.text.now.items (codes "feature,visits,least,most\n") _ c.args.dwells.now c.loop-dwell.dwell-index _ (omega (arith, c.loop-dwell-test.false)) c.in_ok-extend_from_slice.ensures.items c.loop-dwell.invariant.text
+    texts_all (dwell_text c.args.database.now.book c.args.label.now) c.args.text.now.items c.args.dwells.now c.loop-dwell.dwell-index _ (omega (arith, c.loop-dwell-test.false)) c.loop-dwell.invariant.text

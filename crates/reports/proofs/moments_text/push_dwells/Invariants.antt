@@ -7,5 +7,5 @@ use Rattle.reports.proofs.moments_text.push_dwells.Given as goal
 abbrev pub invariant-loop-dwell : goal.invariant-loop-dwell
 invariant-loop-dwell g l = record {
   there : All (λ (dwell : Dwell). dwell.feature < length l.database.book.names) (take l.dwell-index l.dwells);
-  text : l.text.items ≡ l.initial.text.items ++ flat_map (dwell_text l.database.book) (take l.dwell-index l.dwells);
+  text : l.text.items ≡ l.initial.text.items ++ flat_map (dwell_text l.database.book l.label) (take l.dwell-index l.dwells);
 }

@@ -7,5 +7,5 @@ use Rattle.reports.proofs.moments_text.push_stays.Given as goal
 abbrev pub invariant-loop-stay : goal.invariant-loop-stay
 invariant-loop-stay g l = record {
   there : All (λ (stay : Stay). stay.leg.feature < length l.database.book.names) (take l.stay-index l.stays);
-  text : l.text.items ≡ l.initial.text.items ++ flat_map (stay_text l.database.book l.frame l.period) (take l.stay-index l.stays);
+  text : l.text.items ≡ l.initial.text.items ++ flat_map (stay_text l.database.book l.frame) (take l.stay-index l.stays);
 }

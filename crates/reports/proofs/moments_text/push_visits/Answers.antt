@@ -1,8 +1,8 @@
-use Rattle.std.proofs.Common.{◌<◌, ℕ, List, All, codes, length, subst, arith}
+use Rattle.std.proofs.Common.{◌<◌, ℕ, List, All, length, subst, arith}
 use Rattle.std.proofs.lemmas.List.{take_all}
 use Rattle.std.proofs.lemmas.List.Elements.{All-more}
 use Rattle.moments.specs.declared.visits.Visit.{Visit}
-use Rattle.reports.specs.StayTexts.{fields_text, visit_text, visits_text}
+use Rattle.reports.specs.StayTexts.{visit_text}
 use Rattle.reports.proofs.TextLemmas.{texts_all, texts_with}
 use Rattle.reports.proofs.moments_text.push_visits.Goals as goal
 
@@ -23,7 +23,5 @@ returns-clause-there g c =
     subst (λ (xs : List Visit). All P xs) (take_all c.loop-visit.visit-index c.args.visits.now (omega (arith, c.loop-visit-test.false))) c.loop-visit.invariant.there
 
 pub returns-clause-text : goal.returns-clause-text
-unfolding visits_text
 returns-clause-text g c =
-    let book = c.args.database.now.book in
-    texts_all (visit_text book c.args.frame.now) c.args.text.now.items (fields_text c.args.frame.now.dimension (codes "legs")) _ c.args.visits.now c.loop-visit.visit-index _ (omega (arith, c.loop-visit-test.false)) c.in_ok-push_fields.ensures.text c.loop-visit.invariant.text
+    texts_all (visit_text c.args.database.now.book c.args.frame.now) c.args.text.now.items c.args.visits.now c.loop-visit.visit-index _ (omega (arith, c.loop-visit-test.false)) c.loop-visit.invariant.text

@@ -33,8 +33,8 @@ pub returns-in-Ok-clause-over : goal.returns-in-Ok-clause-over
 returns-in-Ok-clause-over g c =
     let r = c.run_and_close-store.result in
     let s = g.S.PageStore.seen r.0 in
-    subst (λ k. RunsOver g.S.PageStore.seen g.O.Output.seen k c.args.files.now c.args.out.now c.run_and_close-store.new.out (lines_of c.args.script.now) c.answer_of.result r.2 s) (sym c.in-Ok.is)
-    (r.1, c.answer_of.ensures, c.run_and_close-store.ensures.both)
+    subst (λ k. RunsOver g.S.PageStore.seen g.O.Output.seen k c.args.files.now c.args.out.now c.run_and_close-store.new.out (lines_of c.args.script.now) c.answer_of.result c.answer_of-in-Ok.result s) (sym c.in-Ok.is)
+    (r.1, r.2, c.answer_of.ensures, c.answer_of-in-Ok.ensures, c.run_and_close-store.ensures.both)
 
 pub returns-in-Ok-clause-caused : goal.returns-in-Ok-clause-caused
 returns-in-Ok-clause-caused g c =

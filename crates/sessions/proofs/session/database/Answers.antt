@@ -5,7 +5,7 @@ use Rattle.legs.specs.Costs.{ShapeView}
 use Rattle.legs.specs.Limits.{LimitsView}
 use Rattle.trajdb.specs.Db.{shape_of, DbView}
 use Rattle.trajdb.specs.Promises.{OpenCall}
-use Rattle.sessions.specs.Answers.{new_limits, new_shape}
+use Rattle.sessions.specs.Answers.{new_shape}
 use Rattle.header.specs.Fields.{header_payload}
 use Rattle.pages.specs.Sealed.{sealed}
 use Rattle.pages.specs.Store.{Writes}
@@ -27,16 +27,15 @@ returns-then-len-eq0-clause-opens g c =
     let none : s.count ≡ 0 = sym c.len.ensures ∙ c.if-len-eq0.true in
     let same_shape : c.unwrap-shape.result ≡ new_shape = the_same c.unwrap-shape.result new_shape (sym c.unwrap-shape.ensures ∙ c.new.ensures) in
     let shape : IfOk r (λ (db : DbView). words.plan db.index ≡ Some new_shape) = subst (λ (k : ShapeView). IfOk r (λ (db : DbView). words.plan db.index ≡ Some k)) same_shape e.shape in
-    let limits : IfOk r (λ (db : DbView). db.limits ≡ new_limits) = subst (λ (l : LimitsView). IfOk r (λ (db : DbView). db.limits ≡ l)) c.limits.ensures e.limits in
-    let writes : IfOk r (λ (db : DbView). Writes 0 (sealed 0 (header_payload new_shape new_limits)) s db.index.cache.store) =
-    subst (λ (l : LimitsView). IfOk r (λ (db : DbView). Writes 0 (sealed 0 (header_payload new_shape l)) s db.index.cache.store)) c.limits.ensures
-    (subst (λ (k : ShapeView). IfOk r (λ (db : DbView). Writes 0 (sealed 0 (header_payload k c.limits.result)) s db.index.cache.store)) same_shape e.stored) in
-    let left : IfErr r (λ back. IsLeft new_shape new_limits s (seen back.0)) =
-    subst (λ (l : LimitsView). IfErr r (λ back. IsLeft new_shape l s (seen back.0))) c.limits.ensures
-    (subst (λ (k : ShapeView). IfErr r (λ back. IsLeft k c.limits.result s (seen back.0))) same_shape e.left) in
+    let most : LimitsView = c.args.how.now.limits in
+    let limits : IfOk r (λ (db : DbView). db.limits ≡ most) = e.limits in
+    let writes : IfOk r (λ (db : DbView). Writes 0 (sealed 0 (header_payload new_shape most)) s db.index.cache.store) =
+    subst (λ (k : ShapeView). IfOk r (λ (db : DbView). Writes 0 (sealed 0 (header_payload k most)) s db.index.cache.store)) same_shape e.stored in
+    let left : IfErr r (λ back. IsLeft new_shape most s (seen back.0)) =
+    subst (λ (k : ShapeView). IfErr r (λ back. IsLeft k most s (seen back.0))) same_shape e.left in
     record {
-      opens = neither (OpenCall seen s c.args.cache_pages r) c.args.is_new s.count c.if-is_new.true none;
-      makes = λ n z. made_or_not seen c.args.cache_pages r s (created r new_shape new_limits (IsTrue s.is_faithful) shape e.sound e.book limits) e.book limits (more_known (λ (db : DbView). words.plan db.index ≡ Some new_shape) (λ db. shape_of db ≡ new_shape) r (λ db h. the_same (shape_of db) new_shape h) shape) e.pages e.begun e.lives e.capacity writes e.synced e.only e.caused e.kept left;
+      opens = neither (OpenCall seen s c.args.how.now.cache_pages r) c.args.how.now.is_new s.count c.if-how.true none;
+      makes = λ n z. made_or_not seen most c.args.how.now.cache_pages r s (created r new_shape most (IsTrue s.is_faithful) shape e.sound e.book limits) e.book limits (more_known (λ (db : DbView). words.plan db.index ≡ Some new_shape) (λ db. shape_of db ≡ new_shape) r (λ db h. the_same (shape_of db) new_shape h) shape) e.pages e.begun e.lives e.capacity writes e.synced e.only e.caused e.kept left;
     }
 
 pub returns-clause-opens : goal.returns-clause-opens

@@ -2,9 +2,9 @@
 ghost use Rattle.std.specs.Prelude.{◌≡◌, None, IfErr, IsTrue, OnOk};
 ghost use Rattle.sessions.specs.Folder.{IsOfFolder};
 
-use crate::held_file::HeldFile;
-use crate::locks::{Held, Hold, hold_name, is_named, open_held};
-use crate::names::Names;
+use crate::system::file::HeldFile;
+use crate::system::locks::{Held, Hold, hold_name, is_named, open_held};
+use crate::system::names::Names;
 use monitor::{Noted, Progress};
 use pages::{FileStore, PageStore};
 use sessions::{Cause, Fault, Folder, FolderRefusals};

@@ -1,19 +1,24 @@
 //! `mftb run`: a script over the database that a file keeps.
-ghost use Rattle.std.specs.Prelude.{◌<◌};
+ghost use Rattle.std.specs.Prelude.{◌<◌, ◌≤◌, ◌^◌};
 
-use crate::locks::hold_name;
-use crate::names::Names;
-use crate::opening::{is_absent, is_special, open_asked, open_in_place, sweep};
+use crate::commands::reading::read_files;
+use crate::explain::notes::{Given, tell, tell_made};
+use crate::explain::reach::{Reach, reach_of};
 use crate::outcome::Outcome;
-use crate::reach::{Reach, reach_of};
-use crate::reading::read_files;
-use crate::system_folder::SystemFolder;
-use crate::telling::{Given, tell, tell_made};
-use arguments::{Run, Telling};
+use crate::system::folder::SystemFolder;
+use crate::system::locks::hold_name;
+use crate::system::names::Names;
+use crate::system::opening::{is_absent, is_special, open_asked, open_in_place, sweep};
+use crate::system::page_zero::{plain_store, read_header};
+use arguments::{Run, StoreMode, Telling, WriteMode};
+use legs::Limits;
 use monitor::{Followed, Noted, Notes, Progress, Told};
 use outputs::Output;
 use pages::PageStore;
-use sessions::{Fault, MOST_BYTES, Opening, answer, database, read_named, run_on_copy};
+use sessions::{
+    Ended, Fault, MOST_BYTES, MOST_FEATURES, MOST_LEGS, Opening, answer, database, read_named,
+    run_on_copy,
+};
 use std::fs::File;
 use std::hash::RandomState;
 use std::io::Eprint;
@@ -31,42 +36,45 @@ struct Work {
     ghost cached: { 0 < how.cache_pages },
 }
 
-/// What a run came to, and why the store was not closed, where that does not say so.
-type Ended<'a> = (Result<(), Fault<'a>>, Option<RunFault>);
-
-/// Whether that fault is what is said of a run.
-fn is_said(said: &Result<(), Fault<'_>>, fault: RunFault) -> bool {
-    match said {
-        Err(Fault::Run(ran)) => *ran == fault,
-        _ => false,
+/// A run that was refused before it began.
+fn refused<'a>(fault: Fault<'a>) -> Ended<'a> {
+    Ended {
+        ran: Err(fault),
+        kept: Err(fault),
     }
 }
 
-/// Why a store was not closed, where the fault of the run does not say so; of a database that failed the run does.
-fn unsaid(said: &Result<(), Fault<'_>>, closed: Result<(), RunFault>) -> Option<RunFault> {
-    match closed {
-        Ok(()) => None,
-        Err(fault) => {
-            if fault == RunFault::Failed || is_said(said, fault) {
-                None
-            } else {
-                Some(fault)
-            }
-        }
+/// Why a run failed: it was not brought to its end, or else what it did is not kept.
+fn said<'a>(ended: Ended<'a>) -> Result<(), Fault<'a>> {
+    match ended.ran {
+        Ok(()) => ended.kept,
+        Err(fault) => Err(fault),
     }
 }
 
-/// Runs the script over a store as it lies there, as `sessions::answer` does. The store is given back.
-fn run_over<'a, S: PageStore + Drop, O: Output>(
-    store: S,
+/// Why what a run did is not kept, where its own fault does not say so; of a database that failed it does.
+fn unsaid<'a>(ended: Ended<'a>) -> Option<Fault<'a>> {
+    match (ended.ran, ended.kept) {
+        (Err(ran), Err(kept)) if kept != ran && kept != Fault::Run(RunFault::Failed) => Some(kept),
+        _ => None,
+    }
+}
+
+/// Runs the script over a store that was opened, as `sessions::answer` does; or is refused as that was.
+fn run_over<'a, S: PageStore + Drop, R: rt::Clock + Eprint, O: Output>(
+    opened: Result<S, Fault<'a>>,
     work: &Work,
+    progress: &Progress<'_, R>,
     out: &mut O,
-) -> (S, Ended<'a>) {
-    let how = work.how;
-    let opened = database(how.alloc, how.keys, store, how.is_new, how.cache_pages);
-    let (store, said, closed) = answer(how.alloc, opened, &work.script, &work.files, out);
-    let unsaid = unsaid(&said, closed);
-    (store, (said, unsaid))
+) -> Ended<'a> {
+    let store = match opened {
+        Ok(store) => store,
+        Err(fault) => return refused(fault),
+    };
+    let how = &work.how;
+    let opened = database(how, Noted::new(store, progress));
+    let (_store, ended) = answer(how.alloc, opened, &work.script, &work.files, out);
+    ended
 }
 
 /// Runs a script that only asks over a store that is there. It is opened to be read alone.
@@ -77,29 +85,7 @@ fn ask<'a, R: rt::Files<File = File> + rt::Clock + Eprint, O: Output>(
     out: &mut O,
 ) -> Ended<'a> {
     sweep(rt, &work.names);
-    match open_asked(rt, &work.names) {
-        Ok(store) => {
-            let (_store, ended) = run_over(Noted::new(store, progress), work, out);
-            ended
-        }
-        Err(fault) => (Err(fault), None),
-    }
-}
-
-/// Runs a script that may write over a store that is opened as it lies there.
-fn open_and_run<'a, R: rt::Files<File = File> + rt::Clock + Eprint, O: Output>(
-    rt: &R,
-    work: &Work,
-    progress: &Progress<'_, R>,
-    out: &mut O,
-) -> Ended<'a> {
-    match open_in_place(rt, &work.names) {
-        Ok(store) => {
-            let (_store, ended) = run_over(Noted::new(store, progress), work, out);
-            ended
-        }
-        Err(fault) => (Err(fault), None),
-    }
+    run_over(open_asked(rt, &work.names), work, progress, out)
 }
 
 /// Runs a script that may write over the store as it lies there. Where the folder may not be written,
@@ -112,10 +98,10 @@ fn run_in_place<'a, R: rt::Files<File = File> + rt::Clock + Eprint, O: Output>(
 ) -> Ended<'a> {
     let names = &work.names;
     let lock = match hold_name(rt, names.lock.as_str()) {
-        Err(Fault::InUse) => return (Err(Fault::InUse), None),
+        Err(Fault::InUse) => return refused(Fault::InUse),
         held => held.ok(),
     };
-    let ended = open_and_run(rt, work, progress, out);
+    let ended = run_over(open_in_place(rt, names), work, progress, out);
     if let Some(lock) = lock {
         if lock.is_locked {
             let _ = fs::remove_file(rt, names.copy.as_str());
@@ -131,11 +117,14 @@ fn run_beside<'a, R: rt::Files<File = File> + rt::Clock + Eprint, O: Output>(
     work: &Work,
     progress: &Progress<'_, R>,
     out: &mut O,
-) -> Result<(), Fault<'a>> {
-    let mut folder = SystemFolder::take(rt, &work.names, progress)?;
-    let result = run_on_copy(&mut folder, work.how, &work.script, &work.files, out);
+) -> Ended<'a> {
+    let mut folder = match SystemFolder::take(rt, &work.names, progress) {
+        Ok(folder) => folder,
+        Err(fault) => return refused(fault),
+    };
+    let ended = run_on_copy(&mut folder, &work.how, &work.script, &work.files, out);
     folder.give_back();
-    result
+    ended
 }
 
 /// How a run ended in which so many lines and files were refused.
@@ -150,22 +139,22 @@ fn outcome_of(is_strict: bool, refused: u64) -> Outcome {
 /// Runs the script over the store, in the way that it asks for.
 fn run_as_asked<'a, R: rt::Files<File = File> + rt::Clock + Eprint, O: Output>(
     rt: &R,
-    is_in_place: bool,
+    mode: WriteMode,
     work: &Work,
     progress: &Progress<'_, R>,
     out: &mut O,
 ) -> Ended<'a> {
-    let how = work.how;
+    let how = &work.how;
     let loads = match has_load(how.alloc, &work.script) {
         Ok(loads) => loads,
-        Err(fault) => return (Err(Fault::Run(fault)), None),
+        Err(fault) => return refused(Fault::Run(fault)),
     };
     if !how.is_new && !loads {
         ask(rt, work, progress, out)
-    } else if is_in_place || is_special(rt, work.names.store.as_str()) {
+    } else if mode == WriteMode::InPlace || is_special(rt, work.names.store.as_str()) {
         run_in_place(rt, work, progress, out)
     } else {
-        (run_beside(rt, work, progress, out), None)
+        run_beside(rt, work, progress, out)
     }
 }
 
@@ -174,9 +163,65 @@ fn is_without_legs<R: rt::Files<File = File>>(rt: &R, name: &str, is_told: bool)
     is_told && reach_of(rt, name) == Reach::Nowhere
 }
 
-/// The files that a run may load.
-fn files_of<'a, R: rt::Files + AllocGlobal>(rt: &R, run: &Run<'a>) -> Result<Files, Fault<'a>> {
-    read_files(rt, &run.files)
+/// A limit, from 1 to 2^31, as it is read from the words.
+fn within(limit: u64) -> u64
+    ensures least { 1 ≤ result }
+    ensures most { result ≤ 2 ^ 31 }
+{
+    if limit < 1 {
+        1
+    } else if limit > 1 << 31 {
+        1 << 31
+    } else {
+        limit
+    }
+}
+
+/// How much a store may hold that a run makes.
+fn limits(run: &Run<'_>) -> Limits {
+    let legs = match run.most_legs {
+        Some(most) => u64::from(most),
+        None => MOST_LEGS,
+    };
+    let features = u64::from(run.most_features.unwrap_or(MOST_FEATURES));
+    Limits::new(within(legs), within(features) as u32).unwrap()
+}
+
+/// Whether a limit is asked for that a store does not have.
+fn is_other(asked: Option<u32>, limit: u64) -> bool {
+    match asked {
+        Some(most) => u64::from(most) != limit,
+        None => false,
+    }
+}
+
+/// Whether a run asks for limits that are not these.
+fn asks_for_others(run: &Run<'_>, limits: Limits) -> bool {
+    is_other(run.most_legs, limits.legs())
+        || is_other(run.most_features, u64::from(limits.features()))
+}
+
+/// How much the store of that name may hold, where its page 0 says it.
+fn limits_of<R: rt::Files<File = File>>(rt: &R, name: &str) -> Option<Limits> {
+    let mut store = plain_store(rt, name)?;
+    match read_header(&mut store) {
+        Ok(header) => header.limits,
+        Err(_) => None,
+    }
+}
+
+/// Refuses a store that is there, where a run asks for other limits than it has.
+fn hold_limits<'a, R: rt::Files<File = File>>(
+    rt: &R,
+    run: &Run<'_>,
+    store: &str,
+) -> Result<(), Fault<'a>> {
+    match limits_of(rt, store) {
+        Some(limits) if asks_for_others(run, limits) => {
+            Err(Fault::OtherLimits(limits.legs(), limits.features()))
+        }
+        _ => Ok(()),
+    }
 }
 
 /// Reads all that is named, and looks whether the store is there.
@@ -185,7 +230,7 @@ fn read_work<'a, R: rt::Files<File = File> + AllocGlobal + RandomSource>(
     run: &Run<'a>,
 ) -> Result<Work, Fault<'a>> {
     let script = read_named(rt, run.script, MOST_BYTES)?;
-    let files = files_of(rt, run)?;
+    let files = read_files(rt, &run.files)?;
     let Ok(keys) = RandomState::new(rt) else {
         return Err(Fault::Run(RunFault::Memory));
     };
@@ -194,11 +239,13 @@ fn read_work<'a, R: rt::Files<File = File> + AllocGlobal + RandomSource>(
         alloc: rt.alloc(),
         keys,
         is_new: is_absent(rt, names.store.as_str()),
+        limits: limits(run),
         cache_pages: run.cache_pages.max(1),
     };
-    if how.is_new && run.is_existing {
+    if how.is_new && run.store_mode == StoreMode::Existing {
         return Err(Fault::NoSuchStore);
     }
+    hold_limits(rt, run, names.store.as_str())?;
     Ok(Work {
         script,
         files,
@@ -237,18 +284,19 @@ pub(crate) fn run<
         Ok(work) => work,
         Err(fault) => return (out, Err(fault)),
     };
-    let how = work.how;
+    let how = &work.how;
     let is_shown = is_terminal && run.telling != Telling::Never;
     let progress = Progress::new(rt, Told::new(run.progress, is_shown), &work.script);
     let is_told = run.telling.is_told(is_terminal);
     let is_empty = how.is_new || is_without_legs(rt, work.names.store.as_str(), is_told);
     let mut out = Followed::new(out, &progress, Notes::new(how.alloc, is_told, is_empty));
-    let (ended, unsaid) = run_as_asked(rt, run.in_place, &work, &progress, &mut out);
+    let ended = run_as_asked(rt, run.write_mode, &work, &progress, &mut out);
     progress.clear();
-    if let Some(fault) = unsaid {
-        let fault = work.names.caused(Fault::Run(fault));
+    if let Some(fault) = unsaid(ended) {
+        let fault = work.names.caused(fault);
         let _ = eprintln!(rt; "mftb: {fault}");
     }
+    let ended = said(ended);
     let is_made = ended.is_ok() && how.is_new && progress.loads() == 0;
     if is_made && run.telling != Telling::Never {
         tell_made(rt, run.store);

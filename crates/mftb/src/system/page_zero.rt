@@ -1,20 +1,37 @@
 //! What the first page of a store and the root of its tree say.
+use crate::system::file::HeldFile;
 use fixedpoint::Coord;
-use header::{FINISHED, Front, front_of, root_of};
-use legs::Box3;
-use pages::{PageStore, Payload, unseal};
+use header::{FINISHED, Front, front_of, limits_in, root_of};
+use legs::{Box3, Limits};
+use pages::{FileStore, PageStore, Payload, unseal};
 use sessions::Fault;
+use std::fs::File;
+use std::rt::Files;
 use tbtree::cover_of;
 use timebase::Ms;
 use trajdb::RunFault;
+
+/// The store of the plain file of that name, to look at its pages.
+pub(crate) fn plain_store<R: Files<File = File>>(
+    rt: &R,
+    name: &str,
+) -> Option<FileStore<HeldFile<'static, File>>> {
+    let file = File::open(rt, name).ok()?;
+    match file.metadata() {
+        Ok(about) if about.is_file() => FileStore::new(HeldFile::new(file)).ok(),
+        _ => None,
+    }
+}
 
 /// What page 0 of a store says of it.
 #[derive(Clone, Copy)]
 pub(crate) struct Header {
     /// How it begins.
     pub(crate) front: Front,
+    /// How much it may hold, where that is in range.
+    pub(crate) limits: Option<Limits>,
     /// The page of the tree's root; 0 without a leg.
-    root: u32,
+    pub(crate) root: u32,
 }
 
 /// The payload of a page.
@@ -38,6 +55,7 @@ pub(crate) fn read_header<'a, S: PageStore>(store: &mut S) -> Result<Header, Fau
     match front_of(&payload) {
         Some(front) => Ok(Header {
             front,
+            limits: limits_in(&payload.bytes),
             root: root_of(&payload),
         }),
         None => Err(Fault::Run(RunFault::Damaged(0))),
@@ -65,7 +83,7 @@ fn is_in_range(bounds: &Box3) -> bool {
 }
 
 /// The box over the legs below a page of a tree; `None` where it is no page of one, or out of range.
-pub(crate) fn box_below(payload: &Payload) -> Option<Box3> {
+fn box_below(payload: &Payload) -> Option<Box3> {
     match cover_of(payload) {
         Some(bounds) if is_in_range(&bounds) => Some(bounds),
         _ => None,

@@ -1,7 +1,7 @@
 //! `mftb check`: whether the pages of a file hold one database.
-use crate::asked::database_to_ask;
-use crate::names::Names;
-use crate::opening::{open_asked, sweep};
+use crate::commands::asking::database_to_ask;
+use crate::system::names::Names;
+use crate::system::opening::{open_asked, sweep};
 use arguments::Check;
 use outputs::Output;
 use sessions::{Fault, check_and_close, send_all};

@@ -1,7 +1,7 @@
 //! `mftb info`: what a store holds.
-use crate::asked::{database_to_ask, store_to_ask};
-use crate::root::{Header, read_extent, read_header};
-use arguments::Info;
+use crate::commands::asking::{database_to_ask, store_to_ask};
+use crate::system::page_zero::{Header, read_extent, read_header};
+use arguments::{Info, InfoForm};
 use legs::Box3;
 use outputs::Output;
 use pages::PageStore;
@@ -13,36 +13,47 @@ use std::random::RandomSource;
 use std::rt::Files;
 use trajdb::{Db, RunFault};
 
-/// What page 0 of a store says, and the box over all its legs. Of the tree the root alone is read.
-fn look<'a, S: PageStore>(store: &mut S) -> Result<(Header, Option<Box3>), Fault<'a>> {
+/// What is seen of the pages of a store.
+#[derive(Clone, Copy)]
+struct Seen {
+    /// How many there are.
+    pages: u32,
+    /// What page 0 says.
+    header: Header,
+    /// The box over all legs.
+    extent: Option<Box3>,
+}
+
+/// What is seen of a store. Of the tree the root alone is read.
+fn look<'a, S: PageStore>(store: &mut S) -> Result<Seen, Fault<'a>> {
     let header = read_header(store)?;
-    let extent = read_extent(store, &header)?;
-    Ok((header, extent))
+    Ok(Seen {
+        pages: store.len(),
+        header,
+        extent: read_extent(store, &header)?,
+    })
 }
 
 /// The text of what is said of a database, and of what was seen of the pages of its store.
 fn text_of<S: PageStore>(
     alloc: Global,
     database: &Db<S>,
-    pages: u32,
-    seen: (Header, Option<Box3>),
-    is_json: bool,
+    seen: &Seen,
+    form: InfoForm,
 ) -> Result<Vec<u8>, RunFault> {
-    let (header, extent) = seen;
     let said = StoreReport {
-        version: header.front.version,
-        pages,
+        version: seen.header.front.version,
+        pages: seen.pages,
         head: database.head(),
         legs: database.leg_count(),
         features: database.feature_count(),
         limits: database.limits(),
-        extent,
+        extent: seen.extent,
     };
     let mut text = Vec::new(alloc);
-    if is_json {
-        push_json(&mut text, &said)?;
-    } else {
-        push_lines(&mut text, &said)?;
+    match form {
+        InfoForm::Json => push_json(&mut text, &said)?,
+        InfoForm::Lines => push_lines(&mut text, &said)?,
     }
     Ok(text)
 }
@@ -54,11 +65,10 @@ pub(crate) fn print_info<'a, R: Files<File = File> + AllocGlobal + RandomSource,
     out: &mut O,
 ) -> Result<(), Fault<'a>> {
     let mut store = store_to_ask(rt, task.store)?;
-    let pages = store.len();
     let seen = look(&mut store);
     let database = database_to_ask(rt, store, CACHE_PAGES)?;
     let told = match seen {
-        Ok(seen) => match text_of(rt.alloc(), &database, pages, seen, task.is_json) {
+        Ok(seen) => match text_of(rt.alloc(), &database, &seen, task.form) {
             Ok(text) => Ok(text),
             Err(fault) => Err(Fault::Run(fault)),
         },

@@ -1,8 +1,7 @@
 //! What a store keeps beside its legs, as its file has it.
-use crate::held_file::HeldFile;
+use crate::system::page_zero::plain_store;
 use catalogue::{Catalogue, restore};
 use pagecache::PageCache;
-use pages::FileStore;
 use sessions::ReadOnly;
 use std::fs::File;
 use std::hash::RandomState;
@@ -18,8 +17,7 @@ pub(crate) fn catalogue_of<R: Files<File = File> + AllocGlobal + RandomSource>(
     name: &str,
 ) -> Option<Catalogue> {
     let keys = RandomState::new(rt).ok()?;
-    let file = File::open(rt, name).ok()?;
-    let store = FileStore::new(HeldFile::new(file)).ok()?;
+    let store = plain_store(rt, name)?;
     match PageCache::new(rt.alloc(), ReadOnly::new(store), CACHE_PAGES) {
         Ok(cache) => match restore(rt.alloc(), keys, cache) {
             Ok((catalogue, _)) => Some(catalogue),

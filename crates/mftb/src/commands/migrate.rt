@@ -1,6 +1,6 @@
 //! `mftb migrate`: a store of version 1 is brought over into a new one.
-use crate::names::Names;
-use crate::opening::{is_absent, open_asked, open_in_place};
+use crate::system::names::Names;
+use crate::system::opening::{is_absent, open_asked, open_in_place};
 use arguments::Migrate;
 use outputs::Output;
 use pages::{FileStore, PageStore};

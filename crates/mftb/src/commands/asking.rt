@@ -1,9 +1,10 @@
 //! Databases that are only asked.
-use crate::held_file::HeldFile;
-use crate::names::Names;
-use crate::opening::{is_absent, open_asked, sweep};
+use crate::system::file::HeldFile;
+use crate::system::names::Names;
+use crate::system::opening::{absence_of, open_asked, sweep};
 use pages::{FileStore, PageStore};
 use sessions::{Fault, ReadOnly};
+use std::alloc::Global;
 use std::fs::File;
 use std::hash::RandomState;
 use std::random::RandomSource;
@@ -19,8 +20,8 @@ pub(crate) fn store_to_ask<'a, R: Files<File = File> + AllocGlobal>(
     store: &'a str,
 ) -> Result<AskedStore, Fault<'a>> {
     let names = Names::new(rt, store)?;
-    if is_absent(rt, names.store.as_str()) {
-        return Err(Fault::CannotRead(store));
+    if let Some(cause) = absence_of(rt, names.store.as_str()) {
+        return Err(Fault::CannotRead(store, cause));
     }
     sweep(rt, &names);
     open_asked(rt, &names)
@@ -39,4 +40,16 @@ pub(crate) fn database_to_ask<'a, R: AllocGlobal + RandomSource, S: PageStore + 
         Ok(database) => Ok(database),
         Err((_store, fault)) => Err(Fault::Open(fault)),
     }
+}
+
+/// Closes a database that was asked, and gives what it told.
+pub(crate) fn close_asked<'a, S: PageStore + Drop, T: Drop>(
+    alloc: Global,
+    database: Db<S>,
+    told: Result<T, RunFault>,
+) -> Result<T, Fault<'a>> {
+    let (_store, closed) = database.close(alloc);
+    let told = told?;
+    closed?;
+    Ok(told)
 }

@@ -1,22 +1,28 @@
 //! How the file of a store is opened, and held, for what a run does with it.
-use crate::held_file::HeldFile;
-use crate::locks::{Hold, open_held};
-use crate::names::Names;
+use crate::system::file::HeldFile;
+use crate::system::locks::{Hold, open_held};
+use crate::system::names::Names;
 use pages::FileStore;
 use sessions::{Cause, Fault, ReadOnly};
 use std::fs::{File, OpenOptions};
 use std::rt::Files;
 use std::{fs, io};
 
-/// Whether there is no file of that name, or one without bytes.
-pub(crate) fn is_absent<R: Files<File = File>>(rt: &R, name: &str) -> bool {
+/// Why there is nothing in the file of that name: there is none, or it has no byte. `None` where there may be something.
+pub(crate) fn absence_of<R: Files<File = File>>(rt: &R, name: &str) -> Option<Cause> {
     match File::open(rt, name) {
         Ok(file) => match file.metadata() {
-            Ok(metadata) => metadata.len() == 0,
-            Err(_) => false,
+            Ok(metadata) if metadata.len() == 0 => Some(Cause::Empty),
+            _ => None,
         },
-        Err(error) => error.kind() == io::ErrorKind::NotFound,
+        Err(error) if error.kind() == io::ErrorKind::NotFound => Some(Cause::Absent),
+        Err(_) => None,
     }
+}
+
+/// Whether there is no file of that name, or one without bytes.
+pub(crate) fn is_absent<R: Files<File = File>>(rt: &R, name: &str) -> bool {
+    absence_of(rt, name).is_some()
 }
 
 /// Whether a name is that of a device, a pipe or the like, of which no copy is made.

@@ -1,21 +1,17 @@
-//! What is said of a run, in words, on standard error.
-use crate::bounds::line_of;
-use crate::catalogued::catalogue_of;
-use crate::reach::{Reach, reach_of};
-use crate::reading::cause_of_reading;
-use arguments::{Bounds, Task, Telling};
+//! What is said of the lines of a run.
+use crate::explain::catalogued::catalogue_of;
+use crate::explain::reach::{Reach, reach_of};
 use catalogue::Catalogue;
 use legs::Box3;
 use monitor::{LineSpan, Note, Notes, What};
-use querylang::{Command, LineCode, parse_line};
+use querylang::{Command, parse_line};
 use reasons::{Code, Known, Refusal, Shown, file_words, line_words, reach_words};
-use sessions::{Cause, Fault};
 use std::alloc::{AllocError, Global};
 use std::fs::File;
 use std::io::Eprint;
 use std::random::RandomSource;
-use std::{fs, rt};
-use trajdb::{Files, OpenFault};
+use std::rt;
+use trajdb::Files;
 
 /// The name in a command.
 fn name_in(command: &Command) -> &str {
@@ -203,170 +199,8 @@ pub(crate) fn tell<R: rt::Files<File = File> + Eprint + AllocGlobal + RandomSour
     }
 }
 
-/// Says why no leg is inside a rectangle in a period, where the store has none there.
-pub(crate) fn tell_elsewhere<R: rt::Files<File = File> + Eprint + AllocGlobal>(
-    rt: &R,
-    store: &str,
-    asked: &Box3,
-) {
-    match reach_of(rt, store) {
-        Reach::Nowhere => {
-            let _ = eprintln!(rt; "mftb: the store has no legs");
-        }
-        Reach::Within(reach) => {
-            if let Ok(Some(words)) = reach_words(rt.alloc(), asked, &reach) {
-                let words = words.as_str();
-                let _ = eprintln!(rt; "mftb: {words}");
-            }
-        }
-        Reach::Unknown => {}
-    }
-}
-
 /// Says that a store was made by a run that has loaded nothing.
 pub(crate) fn tell_made<R: Eprint>(rt: &R, store: &str) {
     let store = Shown(store);
     let _ = eprintln!(rt; "mftb: there was no store {store}: an empty one was made");
-}
-
-/// The store that the program is to work on, and when it is said why it could not. Where a store is brought
-/// over, it is the new one.
-fn store_of<'a>(task: &Task<'a>) -> (&'a str, Telling) {
-    match task {
-        Task::Run(run) => (run.store, run.telling),
-        Task::Check(check) => (check.store, check.telling),
-        Task::Migrate(migrate) => (migrate.new, Telling::OnTerminal),
-        Task::Part(part) => (part.file, Telling::OnTerminal),
-        Task::Parts(parts) => (parts.file, Telling::OnTerminal),
-        Task::Moments(moments) => (moments.store, moments.telling),
-        Task::Info(info) => (info.store, Telling::OnTerminal),
-    }
-}
-
-/// The store that failed: of one that is brought over the old one, where it cannot be read.
-fn failed_store<'a, R: rt::Files<File = File>>(rt: &R, task: &Task<'a>) -> &'a str {
-    match task {
-        Task::Migrate(migrate) if File::open(rt, migrate.old).is_err() => migrate.old,
-        _ => store_of(task).0,
-    }
-}
-
-/// Why a store failed: it is a folder, or what was noted.
-fn cause_of_store<R: rt::Files<File = File>>(rt: &R, store: &str, cause: Cause) -> Cause {
-    match fs::metadata(rt, store) {
-        Ok(about) if about.is_dir() => Cause::Folder,
-        _ => cause,
-    }
-}
-
-/// Whether there is no file of that name.
-fn is_missing<R: rt::Files<File = File>>(rt: &R, name: &str) -> bool {
-    fs::symlink_metadata(rt, name).is_err()
-}
-
-/// Why a store was not opened, beyond what the fault's line says.
-fn opening_words(fault: &Fault) -> Option<&'static str> {
-    match fault {
-        Fault::NoSuchStore => Some(
-            "there is no such file, or one without a byte; --existing makes none",
-        ),
-        Fault::Open(OpenFault::Malformed) => {
-            Some("its pages are not those of a store; is it a file of another kind?")
-        }
-        Fault::Open(OpenFault::Version) => {
-            Some("another version made it; mftb migrate OLD NEW brings a store of version 1 over")
-        }
-        Fault::Open(OpenFault::Unfinished) => {
-            Some("what wrote it was cut short; load its files into a new store")
-        }
-        Fault::InUse => Some("another run holds it"),
-        _ => None,
-    }
-}
-
-/// Which word of a rectangle and a period is refused, and why.
-fn bounds_words(alloc: Global, bounds: &Bounds, code: LineCode) -> Option<String> {
-    if code == LineCode::Q3 {
-        // That is said of the line of a script.
-        return None;
-    }
-    let line = line_of(alloc, bounds).ok()?;
-    let code = Code::read(code.as_str())?;
-    line_words(alloc, line.as_bytes(), code).ok()
-}
-
-/// Says why a fault is so, where that is known.
-fn tell_cause<R: rt::Files<File = File> + Eprint + AllocGlobal>(
-    rt: &R,
-    task: &Task,
-    store: &str,
-    fault: &Fault,
-) {
-    match fault {
-        Fault::CannotRead(name) => {
-            let (name, cause) = (Shown(name), cause_of_reading(rt, name));
-            let _ = eprintln!(rt; "mftb: {name}: {cause}");
-        }
-        Fault::Bounds(code) => {
-            if let Task::Moments(task) = task
-                && let Some(words) = bounds_words(rt.alloc(), &task.bounds, *code)
-            {
-                let words = words.as_str();
-                let _ = eprintln!(rt; "mftb: {words}");
-            }
-        }
-        fault if fault.is_of_store() => {
-            let cause = match fault {
-                Fault::NoStore(cause) => *cause,
-                _ => Cause::Other,
-            };
-            let (name, cause) = (Shown(store), cause_of_store(rt, store, cause));
-            let _ = eprintln!(rt; "mftb: {name}: {cause}");
-        }
-        fault => {
-            if let Some(words) = opening_words(fault) {
-                let name = Shown(store);
-                let _ = eprintln!(rt; "mftb: {name}: {words}");
-            }
-        }
-    }
-}
-
-/// What is known before the program begins, to say more of a fault: whether that is to be said, and
-/// whether a store that is checked is absent.
-#[derive(Clone, Copy)]
-pub(crate) struct Before {
-    is_told: bool,
-    is_absent: bool,
-}
-
-impl Before {
-    /// What is known of what the program is to do.
-    pub(crate) fn new<R: rt::Files<File = File>>(rt: &R, task: &Task, is_terminal: bool) -> Before {
-        let (store, telling) = store_of(task);
-        Before {
-            is_told: telling.is_told(is_terminal),
-            is_absent: matches!(task, Task::Check(_)) && is_missing(rt, store),
-        }
-    }
-
-    /// Says, below the line of a fault, why it is so, and that a check made the file that it was to
-    /// check.
-    pub(crate) fn tell<R: rt::Files<File = File> + Eprint + AllocGlobal>(
-        self,
-        rt: &R,
-        task: &Task,
-        fault: &Fault,
-    ) {
-        if !self.is_told {
-            return;
-        }
-        let store = failed_store(rt, task);
-        if self.is_absent && !is_missing(rt, store) {
-            let name = Shown(store);
-            let _ = eprintln!(rt; "mftb: there was no file {name}: an empty one was made");
-        } else {
-            tell_cause(rt, task, store, fault);
-        }
-    }
 }

@@ -1,4 +1,4 @@
-use Rattle.mftb.proofs.system_folder.copy_bytes.Given as goal
+use Rattle.mftb.proofs.system.folder.copy_bytes.Given as goal
 
 abbrev pub decreases-loop-left : goal.decreases-loop-left
 decreases-loop-left l = l.left

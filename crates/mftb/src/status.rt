@@ -1,13 +1,14 @@
 //! The program, over any runtime and writers.
-use crate::check::check;
-use crate::file_part::print_part;
-use crate::file_parts::write_parts;
-use crate::info::print_info;
-use crate::migrate::migrate;
+use crate::commands::check::check;
+use crate::commands::gaps::print_gaps;
+use crate::commands::info::print_info;
+use crate::commands::migrate::migrate;
+use crate::commands::moments_command::print_moments;
+use crate::commands::part::print_part;
+use crate::commands::parts_command::write_parts;
+use crate::commands::run::run;
+use crate::explain::faults::Before;
 use crate::outcome::Outcome;
-use crate::passages::print_moments;
-use crate::run::run;
-use crate::telling::Before;
 use arguments::{Task, read_words};
 use clap::Error;
 use clap::error::ErrorKind;
@@ -39,6 +40,7 @@ fn perform<
         Task::Part(task) => print_part(rt, task, &mut out),
         Task::Parts(task) => write_parts(rt, task),
         Task::Moments(task) => print_moments(rt, task, &mut out, is_terminal),
+        Task::Gaps(task) => print_gaps(rt, task, &mut out),
         Task::Info(task) => print_info(rt, task, &mut out),
     };
     (out, done(ended))

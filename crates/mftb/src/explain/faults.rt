@@ -1,0 +1,167 @@
+//! Why the program failed, beyond what the line of the fault says.
+use arguments::{Corners, Moments, Task, Telling, Where};
+use querylang::LineCode;
+use reasons::{Code, Shown, line_words};
+use sessions::{Cause, Fault};
+use std::alloc::{AllocError, Global};
+use std::fs::File;
+use std::io::Eprint;
+use std::{fs, rt};
+use trajdb::OpenFault;
+
+/// The store that the program is to work on, and when it is said why it could not. Where a store is brought
+/// over, it is the new one.
+fn store_of<'a>(task: &Task<'a>) -> (&'a str, Telling) {
+    match task {
+        Task::Run(run) => (run.store, run.telling),
+        Task::Check(check) => (check.store, check.telling),
+        Task::Migrate(migrate) => (migrate.new, Telling::OnTerminal),
+        Task::Part(part) => (part.file, Telling::OnTerminal),
+        Task::Parts(parts) => (parts.file, Telling::OnTerminal),
+        Task::Moments(moments) => (moments.store, moments.telling),
+        Task::Gaps(gaps) => (gaps.store, gaps.telling),
+        Task::Info(info) => (info.store, Telling::OnTerminal),
+    }
+}
+
+/// The store that failed: of one that is brought over the old one, where it cannot be read.
+fn failed_store<'a, R: rt::Files<File = File>>(rt: &R, task: &Task<'a>) -> &'a str {
+    match task {
+        Task::Migrate(migrate) if File::open(rt, migrate.old).is_err() => migrate.old,
+        _ => store_of(task).0,
+    }
+}
+
+/// Why a store failed: it is a folder, or what was noted.
+fn cause_of_store<R: rt::Files<File = File>>(rt: &R, store: &str, cause: Cause) -> Cause {
+    match fs::metadata(rt, store) {
+        Ok(about) if about.is_dir() => Cause::Folder,
+        _ => cause,
+    }
+}
+
+/// Whether there is no file of that name.
+fn is_missing<R: rt::Files<File = File>>(rt: &R, name: &str) -> bool {
+    fs::symlink_metadata(rt, name).is_err()
+}
+
+/// Why a store was not opened, beyond what the fault's line says.
+fn opening_words(fault: &Fault) -> Option<&'static str> {
+    match fault {
+        Fault::NoSuchStore => Some(
+            "there is no such file, or one without a byte; --existing makes none",
+        ),
+        Fault::Open(OpenFault::Malformed) => {
+            Some("its pages are not those of a store; is it a file of another kind?")
+        }
+        Fault::Open(OpenFault::Version) => {
+            Some("another version made it; mftb migrate OLD NEW brings a store of version 1 over")
+        }
+        Fault::Open(OpenFault::Unfinished) => {
+            Some("what wrote it was cut short; load its files into a new store")
+        }
+        Fault::InUse => Some("another run holds it"),
+        Fault::OtherLimits(..) => {
+            Some("a store keeps the limits that it was made with; load its files into a new store")
+        }
+        _ => None,
+    }
+}
+
+/// The line of a script that asks for the `box` of the words of `mftb moments`.
+fn line_of(alloc: Global, task: &Moments<'_>) -> Result<String, AllocError> {
+    let [t1, t2] = task.times;
+    match task.place {
+        Where::Rect(Corners { x1, y1, x2, y2 }) => {
+            format!(in alloc; "box {x1} {y1} {x2} {y2} {t1} {t2}")
+        }
+        Where::Rects(_) => format!(in alloc; "box 0 0 0 0 {t1} {t2}"),
+    }
+}
+
+/// Which word of a rectangle and a period is refused, and why.
+fn bounds_words(alloc: Global, task: &Moments<'_>, code: LineCode) -> Option<String> {
+    if code == LineCode::Q3 {
+        // That is said of the line of a script.
+        return None;
+    }
+    let line = line_of(alloc, task).ok()?;
+    let code = Code::read(code.as_str())?;
+    line_words(alloc, line.as_bytes(), code).ok()
+}
+
+/// Says why a fault is so, where that is known.
+fn tell_cause<R: rt::Files<File = File> + Eprint + AllocGlobal>(
+    rt: &R,
+    task: &Task,
+    store: &str,
+    fault: &Fault,
+) {
+    match fault {
+        Fault::CannotRead(name, cause) => {
+            let name = Shown(name);
+            let _ = eprintln!(rt; "mftb: {name}: {cause}");
+        }
+        Fault::Bounds(code) => {
+            if let Task::Moments(task) = task
+                && let Some(words) = bounds_words(rt.alloc(), task, *code)
+            {
+                let words = words.as_str();
+                let _ = eprintln!(rt; "mftb: {words}");
+            }
+        }
+        fault if fault.is_of_store() => {
+            let cause = match fault {
+                Fault::NoStore(cause) => *cause,
+                _ => Cause::Other,
+            };
+            let (name, cause) = (Shown(store), cause_of_store(rt, store, cause));
+            let _ = eprintln!(rt; "mftb: {name}: {cause}");
+        }
+        fault => {
+            if let Some(words) = opening_words(fault) {
+                let name = Shown(store);
+                let _ = eprintln!(rt; "mftb: {name}: {words}");
+            }
+        }
+    }
+}
+
+/// What is known before the program begins, to say more of a fault: whether that is to be said, and
+/// whether a store that is checked is absent.
+#[derive(Clone, Copy)]
+pub(crate) struct Before {
+    is_told: bool,
+    is_absent: bool,
+}
+
+impl Before {
+    /// What is known of what the program is to do.
+    pub(crate) fn new<R: rt::Files<File = File>>(rt: &R, task: &Task, is_terminal: bool) -> Before {
+        let (store, telling) = store_of(task);
+        Before {
+            is_told: telling.is_told(is_terminal),
+            is_absent: matches!(task, Task::Check(_)) && is_missing(rt, store),
+        }
+    }
+
+    /// Says, below the line of a fault, why it is so, and that a check made the file that it was to
+    /// check.
+    pub(crate) fn tell<R: rt::Files<File = File> + Eprint + AllocGlobal>(
+        self,
+        rt: &R,
+        task: &Task,
+        fault: &Fault,
+    ) {
+        if !self.is_told {
+            return;
+        }
+        let store = failed_store(rt, task);
+        if self.is_absent && !is_missing(rt, store) {
+            let name = Shown(store);
+            let _ = eprintln!(rt; "mftb: there was no file {name}: an empty one was made");
+        } else {
+            tell_cause(rt, task, store, fault);
+        }
+    }
+}

@@ -1,0 +1,6 @@
+//! What is said in words on standard error.
+pub(crate) mod catalogued;
+pub(crate) mod elsewhere;
+pub(crate) mod faults;
+pub(crate) mod notes;
+pub(crate) mod reach;

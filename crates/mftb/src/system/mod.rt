@@ -1,0 +1,7 @@
+//! The files of the system: a store, its folder, its names and its locks.
+pub(crate) mod file;
+pub(crate) mod folder;
+pub(crate) mod locks;
+pub(crate) mod names;
+pub(crate) mod opening;
+pub(crate) mod page_zero;
