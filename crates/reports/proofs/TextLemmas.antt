@@ -54,6 +54,20 @@ micros_made old one two three all micros at rest told rest_is a b c d =
 pub four_fields : (old one two three all a b c d : List ℕ) → one ≡ old ++ 44 ∷ a → two ≡ one ++ 44 ∷ b → three ≡ two ++ 44 ∷ c → all ≡ three ++ 44 ∷ d → all ≡ old ++ 44 ∷ (a ++ 44 ∷ b ++ 44 ∷ c ++ 44 ∷ d)
 four_fields old one two three all a b c d p q r s = rw (s, r, q, p) (simp append_assoc refl)
 
+-- the parts of a line of field names, one behind another
+pub line_of_parts : (old one two three four all a b c d e : List ℕ) → one ≡ old ++ a → two ≡ one ++ b → three ≡ two ++ c → four ≡ three ++ d → all ≡ four ++ e → all ≡ old ++ (a ++ b ++ c ++ d ++ e)
+line_of_parts old one two three four all a b c d e p q r s t = rw (t, s, r, q, p) (simp append_assoc refl)
+
+-- the parts of a stay's record, of which the first two come at once
+pub stay_of_parts : (old one two three four five all a b c d e f g : List ℕ) → one ≡ old ++ a ++ b → two ≡ one ++ c → three ≡ two ++ d → four ≡ three ++ e → five ≡ four ++ f → all ≡ five ++ g
+    → all ≡ old ++ (a ++ b ++ c ++ d ++ e ++ f ++ g)
+stay_of_parts old one two three four five all a b c d e f g p q r s t u = rw (u, t, s, r, q, p) (simp append_assoc refl)
+
+-- the parts of a visit's record, which has one more
+pub visit_of_parts : (old one two three four five six all a b c d e f g h : List ℕ) → one ≡ old ++ a ++ b → two ≡ one ++ c → three ≡ two ++ d → four ≡ three ++ e → five ≡ four ++ f → six ≡ five ++ g → all ≡ six ++ h
+    → all ≡ old ++ (a ++ b ++ c ++ d ++ e ++ f ++ g ++ h)
+visit_of_parts old one two three four five six all a b c d e f g h p q r s t u v = rw (v, u, t, s, r, q, p) (simp append_assoc refl)
+
 -- the texts of one element more
 pub texts_more : {X : Type 0} (f : X → List ℕ) (start : List ℕ) (xs : List X) (i : ℕ) (x : X) (before after : List ℕ) → i < length xs → before ≡ start ++ flat_map f (take i xs) → after ≡ before ++ f (get_or xs i x) → after ≡ start ++ flat_map f (take (i + 1) xs)
 texts_more {X = X} f start xs i x before after within so_far more =

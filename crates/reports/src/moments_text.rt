@@ -239,7 +239,7 @@ pub fn push_fields(
     dimension: Dimension,
     others: &str,
 ) -> Result<(), AllocError>
-    // They are those of the records behind it.
+    // It appends the first names, those of moments and positions, the last names, and the line's end.
     ensures text { OnOk result (text.new.items
         ≡ text.old.items ++ fields_text first.now dimension others.now) }
 {
@@ -296,7 +296,7 @@ pub fn push_stays<S: PageStore>(
     // It fails only if memory runs out, or with page 0 if some stay's feature is not in the book.
     ensures fault { IfErr result (IsText
         (All (λ stay. stay.leg.feature < length database.now.book.names) stays.now)) }
-    // It appends the line of field names, and one record for each stay, in order.
+    // It appends one record for each stay, in order.
     ensures text { OnOk result (text.new.items
         ≡ text.old.items ++ stays_text database.now.book frame.now stays.now) }
 {
@@ -343,7 +343,7 @@ pub fn push_visits<S: PageStore>(
     // It fails only if memory runs out, or with page 0 if some visit's feature is not in the book.
     ensures fault { IfErr result (IsText
         (All (λ visit. visit.feature < length database.now.book.names) visits.now)) }
-    // It appends the line of field names, and one record for each visit, in order.
+    // It appends one record for each visit, in order.
     ensures text { OnOk result (text.new.items
         ≡ text.old.items ++ visits_text database.now.book frame.now visits.now) }
 {
@@ -370,7 +370,7 @@ fn push_seconds(text: &mut Vec<u8>, micros: u64) -> Result<(), RunFault>
 /// Appends the line that names the fields of dwells, of which `first` are the first.
 #[tactic(auto, unfolding(crate::specs::StayTexts::dwell_fields))]
 pub fn push_dwell_fields(text: &mut Vec<u8>, first: &str) -> Result<(), AllocError>
-    // They are those of the records behind it.
+    // It appends the first names, those of the count and the times, and the line's end.
     ensures text { OnOk result (text.new.items ≡ text.old.items ++ dwell_fields first.now) }
 {
     text.extend_from_slice(first.as_bytes())?;
@@ -413,7 +413,7 @@ pub fn push_dwells<S: PageStore>(
     // It fails only if memory runs out, or with page 0 if some dwell's feature is not in the book.
     ensures fault { IfErr result (IsText
         (All (λ dwell. dwell.feature < length database.now.book.names) dwells.now)) }
-    // It appends the line of field names, and one record for each dwell, in order.
+    // It appends one record for each dwell, in order.
     ensures text { OnOk result (text.new.items
         ≡ text.old.items ++ dwells_text database.now.book label.now dwells.now) }
 {
