@@ -69,12 +69,23 @@ OWN = """\
 
 It gives what it got (`first`: `value`, `Thing::second`: its clause).
 
+## Example
+
 From `crates/low/src/tests.rt`, `it_is_so`:
 
 ```rust
 let a = first(3);
 ```
+
+## What is proved
+
+- All of it.
+
+## What is not proved
+
+- Nothing.
 """
+PROVED = "## What is proved"
 LAW = """\
 -- Laws.
 use Rattle.std.specs.Prelude.{Unit}
@@ -215,13 +226,37 @@ class Promises(Case):
 
     def test_a_line_of_an_example_that_no_test_has(self):
         said = self.said(**{"crates/low/README.md": OWN.replace("first(3)", "first(4)")})
-        self.assertEqual(said, ["crates/low/README.md:8: crates/low/src/tests.rt has no line let a = first(4);"])
+        self.assertEqual(said, ["crates/low/README.md:10: crates/low/src/tests.rt has no line let a = first(4);"])
+
+    def test_the_form_of_a_crates_page(self):
+        example = OWN[OWN.index("From") : OWN.index(PROVED)]
+        rest = "What is proved, What is not proved"
+        other = f"```rust\nlet b = 1;\n```\n\n{PROVED}"
+        for old, new, told in [
+            (example, "See the tests.\n\n", "has no example"),
+            ("From `crates/low/src/tests.rt`, `it_is_so`:", "So:", "has no example"),
+            (PROVED, other, "an example does not say from which source it is"),
+            ("## Example", "## A caller", f"has the heads low, A caller, {rest}, and not low, Example, {rest}"),
+            ("- Nothing.", "- Nothing. " + "w " * 400, "has 438 words, and at most 400 may be"),
+        ]:
+            with self.subTest(told):
+                self.assertIn(old, OWN)
+                said = self.said(**{"crates/low/README.md": OWN.replace(old, new)})
+                self.assertEqual(said, [f"crates/low/README.md:1: {told}"])
+
+    def test_an_example_stands_in_a_source_that_the_gate_compiles(self):
+        for place in ("python/tests.rt", "crates/low/tests/tests.rt"):
+            with self.subTest(place):
+                own = OWN.replace("crates/low/src/tests.rt", place)
+                said = self.said(**{"crates/low/README.md": own, place: TESTS})
+                self.assertIn(f"crates/low/README.md:10: the gate does not compile {place}", said)
+            (self.folder / place).unlink()
 
     def test_lines_of_an_example_stand_one_behind_another(self):
         swapped = "assert_eq!(rt; a, 3);\nlet a = first(3);"
         said = self.said(**{"crates/low/README.md": OWN.replace("let a = first(3);", swapped)})
         told = "crates/low/src/tests.rt has no line let a = first(3); behind the line before it"
-        self.assertEqual(said, [f"crates/low/README.md:9: {told}"])
+        self.assertEqual(said, [f"crates/low/README.md:11: {told}"])
         apart = swapped.replace("\n", "\n//...\n")
         self.assertEqual(self.said(**{"crates/low/README.md": OWN.replace("let a = first(3);", apart)}), [])
 
@@ -238,18 +273,16 @@ class Promises(Case):
         )
 
     def test_definitions_on_the_page_of_a_crate_stand_in_its_files(self):
-        text = (
-            OWN
-            + "\n## Definitions\n\n**A law** (`Law.antt`). `IsLaw`, `is_more`.\n\n**None** (`No.antt`).\n\n## More\n\n`is_less`.\n"
-        )
-        said = self.said(**{"crates/low/README.md": text})
+        own = "## Definitions\n\n**A law** (`Law.antt`). `IsLaw`, `is_more`.\n\n**None** (`No.antt`).\n\n## More\n\n`is_less`.\n"
+        *said, heads = self.said(**{"crates/low/README.md": f"{OWN}\n{own}"})
         self.assertEqual(
             said,
             [
-                "crates/low/README.md:13: crates/low has no definition is_more",
-                "crates/low/README.md:15: there is no file crates/low/specs/No.antt",
+                "crates/low/README.md:23: crates/low has no definition is_more",
+                "crates/low/README.md:25: there is no file crates/low/specs/No.antt",
             ],
         )
+        self.assertIn("has the heads low, Example, What is proved, What is not proved, Definitions, More, and not", heads)
 
     def test_a_clause_of_a_record_of_calls_can_be_cited(self):
         files = {**TOPS, "docs/MORE.md": "It stays (`trajdb::Db::run`: `stays`, `gone`).\n"}
