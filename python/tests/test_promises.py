@@ -387,6 +387,13 @@ class Words(Case):
         told = ["page0.md has a mean of 22.0 words", "page1.md has a mean of 19.0 words", "page0.md:3 has 41 words"]
         self.assertEqual(said.splitlines(), [*told, "too long: 3 faults"])
 
+    def test_a_manual_page(self):
+        text = ".SH SYNOPSIS\n.B it\n.SH OPTIONS\n.TP\n.B all\nTakes\n.BR all ,\nand more.\nThen ends.\n.nf\nno code\n.fi\n"
+        found = words.sentences(words.read_manual(text))
+        self.assertEqual([(one.line, one.text) for one in found], [(6, "Takes all , and more."), (6, "Then ends.")])
+        self.write("it.1", ".SH NAME\nIt is " + "so " * 39 + "\n.PP\nNo more.\n")
+        self.assertEqual(self.gate("It is so.\n"), (1, "it.1 has a mean of 21.5 words\nit.1:2 has 41 words\ntoo long: 2 faults\n"))
+
     def test_the_gate_counts_all_pages_together(self):
         text = "Two words.\n\n" * 8000
         self.assertEqual(self.gate(text, text), (0, "short enough\n"))
