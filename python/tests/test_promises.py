@@ -282,7 +282,9 @@ class Promises(Case):
                 "crates/low/README.md:25: there is no file crates/low/specs/No.antt",
             ],
         )
-        self.assertIn("has the heads low, Example, What is proved, What is not proved, Definitions, More, and not", heads)
+        self.assertIn(
+            "has the heads low, Example, What is proved, What is not proved, Definitions, More, and not", heads
+        )
 
     def test_a_clause_of_a_record_of_calls_can_be_cited(self):
         files = {**TOPS, "docs/MORE.md": "It stays (`trajdb::Db::run`: `stays`, `gone`).\n"}
@@ -392,7 +394,9 @@ class Words(Case):
         found = words.sentences(words.read_manual(text))
         self.assertEqual([(one.line, one.text) for one in found], [(6, "Takes all , and more."), (6, "Then ends.")])
         self.write("it.1", ".SH NAME\nIt is " + "so " * 39 + "\n.PP\nNo more.\n")
-        self.assertEqual(self.gate("It is so.\n"), (1, "it.1 has a mean of 21.5 words\nit.1:2 has 41 words\ntoo long: 2 faults\n"))
+        self.assertEqual(
+            self.gate("It is so.\n"), (1, "it.1 has a mean of 21.5 words\nit.1:2 has 41 words\ntoo long: 2 faults\n")
+        )
 
     def test_the_gate_counts_all_pages_together(self):
         text = "Two words.\n\n" * 8000
