@@ -224,6 +224,11 @@ class Promises(Case):
         (self.folder / "crates" / "high" / "src").mkdir(parents=True)
         self.assertEqual(self.said(), ["crates/high/README.md:0: is not there"])
 
+    def test_a_crate_that_is_not_among_the_crates(self):
+        place = "docs/dev/ARCHITECTURE.md"
+        self.assertEqual(self.said(**{place: "# It\n"}), [f"{place}:0: has no link to crates/low/README.md"])
+        self.assertEqual(self.said(**{place: "# It\n\nThe crate [low](../../crates/low/README.md).\n"}), [])
+
     def test_a_line_of_an_example_that_no_test_has(self):
         said = self.said(**{"crates/low/README.md": OWN.replace("first(3)", "first(4)")})
         self.assertEqual(said, ["crates/low/README.md:10: crates/low/src/tests.rt has no line let a = first(4);"])
