@@ -3,16 +3,18 @@ import os
 import re
 import shutil
 import subprocess
+import tempfile
+from pathlib import Path
 
 from common import BUILT, FEEDS, ROOT, Case, has_info
 
 COMMAND = re.compile(
-    r"^    ((?:cd |grep |printf |echo |\.\./\.\./\.\./(?:tools/|mftb )).*|for (?:.*\n)+?    done)$", re.M
+    r"^    ((?:cd |Q=|grep |printf |echo |(?:\.\./)+(?:tools/|mftb )).*|for (?:.*\n)+?    done)$", re.M
 )
 # Pages whose commands are run.
-PAGES = [ROOT / "docs" / "user" / f"{name}.md" for name in ("START", "FEEDS", "DAILY")]
+PAGES = [ROOT / "docs" / "user" / f"{name}.md" for name in ("START", "FEEDS", "DAILY", "PAGE", "TABLE", "FLEET")]
 # What needs answers of the program.
-ASKS = re.compile(r"^\.\./\.\./\.\./mftb|/table|/daily|--store|--answer found")
+ASKS = re.compile(r"^(?:\.\./)+mftb|/table|/daily|/page|/fleet|--store|--answer found")
 
 
 class Pages(Case):
@@ -26,21 +28,26 @@ class Pages(Case):
 
     def follow(self, text, commands):
         """Runs a page's commands in copies of its folders; what they say must stand in it."""
-        top = self.folder / "top"
-        shutil.copytree(FEEDS, top / "examples" / "feeds")
+        top = Path(tempfile.mkdtemp(dir=self.folder))
+        shutil.copytree(ROOT / "examples", top / "examples", ignore=shutil.ignore_patterns("store", "*.mftb"))
         self.addCleanup(shutil.rmtree, top, ignore_errors=True)
         (top / "tools").symlink_to(ROOT / "tools")
         # Without a build the program's part is not followed; its answers are tested by examples/run, too.
         (top / "mftb").write_text(f'#!/bin/sh\nexec {BUILT} "$@"\n' if has_info() else "#!/bin/sh\n")
         (top / "mftb").chmod(0o755)
-        place, env = top, os.environ | {"MFTB_PROGRAM": str(top / "mftb")}
+        place, question, env = top, "", os.environ | {"MFTB_PROGRAM": str(top / "mftb")}
         for command in commands:
             if ASKS.search(command) and not has_info():
                 continue
             if command.startswith("cd "):
                 place = (top if command.startswith("cd examples") else place) / command[3:]
                 continue
-            ended = subprocess.run(["bash", "-c", command], cwd=place, capture_output=True, text=True, env=env)
+            if command.startswith("Q="):
+                question = f"{command}\n"
+                continue
+            words = ["bash", "-c", question + command]
+            ended = subprocess.run(words, cwd=place, capture_output=True, text=True, env=env)
+            self.assertEqual(ended.returncode, 0, command)
             for line in ended.stderr.splitlines():
                 self.assertIn(line, text)
         for path in FEEDS.glob("*/*.*"):
@@ -50,10 +57,10 @@ class Pages(Case):
 
     def test_pages_and_tools_have_the_same_words(self):
         """Each option that a page names is one of a tool's."""
-        tools = "from_ais", "from_csv", "from_gpx", "from_movebank", "draw", "table", "daily"
-        known = set(re.findall(r"--[a-z0-9-]+", " ".join(self.made(it, "--help") for it in tools)))
-        # Options of the program.
-        known |= {"--cache-pages"}
+        tools = "from_ais", "from_csv", "from_gpx", "from_movebank", "draw", "table", "daily", "page", "fleet"
+        helps = [self.made(it, "--help") for it in tools] + [self.made("fleet", it, "--help") for it in ("new", "ask")]
+        # Options of the program, too.
+        known = {"--most-legs", "--most-features"} | set(re.findall(r"--[a-z0-9-]+", " ".join(helps)))
         for path in PAGES:
             said = set(re.findall(r"(?<![\w-])--[a-z][a-z0-9-]+", path.read_text()))
             self.assertLessEqual(said, known, path.name)

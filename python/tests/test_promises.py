@@ -69,12 +69,23 @@ OWN = """\
 
 It gives what it got (`first`: `value`, `Thing::second`: its clause).
 
+## Example
+
 From `crates/low/src/tests.rt`, `it_is_so`:
 
 ```rust
 let a = first(3);
 ```
+
+## What is proved
+
+- All of it.
+
+## What is not proved
+
+- Nothing.
 """
+PROVED = "## What is proved"
 LAW = """\
 -- Laws.
 use Rattle.std.specs.Prelude.{Unit}
@@ -213,15 +224,44 @@ class Promises(Case):
         (self.folder / "crates" / "high" / "src").mkdir(parents=True)
         self.assertEqual(self.said(), ["crates/high/README.md:0: is not there"])
 
+    def test_a_crate_that_is_not_among_the_crates(self):
+        place = "docs/dev/ARCHITECTURE.md"
+        self.assertEqual(self.said(**{place: "# It\n"}), [f"{place}:0: has no link to crates/low/README.md"])
+        self.assertEqual(self.said(**{place: "# It\n\nThe crate [low](../../crates/low/README.md).\n"}), [])
+
     def test_a_line_of_an_example_that_no_test_has(self):
         said = self.said(**{"crates/low/README.md": OWN.replace("first(3)", "first(4)")})
-        self.assertEqual(said, ["crates/low/README.md:8: crates/low/src/tests.rt has no line let a = first(4);"])
+        self.assertEqual(said, ["crates/low/README.md:10: crates/low/src/tests.rt has no line let a = first(4);"])
+
+    def test_the_form_of_a_crates_page(self):
+        example = OWN[OWN.index("From") : OWN.index(PROVED)]
+        rest = "What is proved, What is not proved"
+        other = f"```rust\nlet b = 1;\n```\n\n{PROVED}"
+        for old, new, told in [
+            (example, "See the tests.\n\n", "has no example"),
+            ("From `crates/low/src/tests.rt`, `it_is_so`:", "So:", "has no example"),
+            (PROVED, other, "an example does not say from which source it is"),
+            ("## Example", "## A caller", f"has the heads low, A caller, {rest}, and not low, Example, {rest}"),
+            ("- Nothing.", "- Nothing. " + "w " * 400, "has 438 words, and at most 400 may be"),
+        ]:
+            with self.subTest(told):
+                self.assertIn(old, OWN)
+                said = self.said(**{"crates/low/README.md": OWN.replace(old, new)})
+                self.assertEqual(said, [f"crates/low/README.md:1: {told}"])
+
+    def test_an_example_stands_in_a_source_that_the_gate_compiles(self):
+        for place in ("python/tests.rt", "crates/low/tests/tests.rt"):
+            with self.subTest(place):
+                own = OWN.replace("crates/low/src/tests.rt", place)
+                said = self.said(**{"crates/low/README.md": own, place: TESTS})
+                self.assertIn(f"crates/low/README.md:10: the gate does not compile {place}", said)
+            (self.folder / place).unlink()
 
     def test_lines_of_an_example_stand_one_behind_another(self):
         swapped = "assert_eq!(rt; a, 3);\nlet a = first(3);"
         said = self.said(**{"crates/low/README.md": OWN.replace("let a = first(3);", swapped)})
         told = "crates/low/src/tests.rt has no line let a = first(3); behind the line before it"
-        self.assertEqual(said, [f"crates/low/README.md:9: {told}"])
+        self.assertEqual(said, [f"crates/low/README.md:11: {told}"])
         apart = swapped.replace("\n", "\n//...\n")
         self.assertEqual(self.said(**{"crates/low/README.md": OWN.replace("let a = first(3);", apart)}), [])
 
@@ -238,17 +278,17 @@ class Promises(Case):
         )
 
     def test_definitions_on_the_page_of_a_crate_stand_in_its_files(self):
-        text = (
-            OWN
-            + "\n## Definitions\n\n**A law** (`Law.antt`). `IsLaw`, `is_more`.\n\n**None** (`No.antt`).\n\n## More\n\n`is_less`.\n"
-        )
-        said = self.said(**{"crates/low/README.md": text})
+        own = "## Definitions\n\n**A law** (`Law.antt`). `IsLaw`, `is_more`.\n\n**None** (`No.antt`).\n\n## More\n\n`is_less`.\n"
+        *said, heads = self.said(**{"crates/low/README.md": f"{OWN}\n{own}"})
         self.assertEqual(
             said,
             [
-                "crates/low/README.md:13: crates/low has no definition is_more",
-                "crates/low/README.md:15: there is no file crates/low/specs/No.antt",
+                "crates/low/README.md:23: crates/low has no definition is_more",
+                "crates/low/README.md:25: there is no file crates/low/specs/No.antt",
             ],
+        )
+        self.assertIn(
+            "has the heads low, Example, What is proved, What is not proved, Definitions, More, and not", heads
         )
 
     def test_a_clause_of_a_record_of_calls_can_be_cited(self):
@@ -353,6 +393,15 @@ class Words(Case):
         self.assertEqual(status, 1)
         told = ["page0.md has a mean of 22.0 words", "page1.md has a mean of 19.0 words", "page0.md:3 has 41 words"]
         self.assertEqual(said.splitlines(), [*told, "too long: 3 faults"])
+
+    def test_a_manual_page(self):
+        text = ".SH SYNOPSIS\n.B it\n.SH OPTIONS\n.TP\n.B all\nTakes\n.BR all ,\nand more.\nThen ends.\n.nf\nno code\n.fi\n"
+        found = words.sentences(words.read_manual(text))
+        self.assertEqual([(one.line, one.text) for one in found], [(6, "Takes all , and more."), (6, "Then ends.")])
+        self.write("it.1", ".SH NAME\nIt is " + "so " * 39 + "\n.PP\nNo more.\n")
+        self.assertEqual(
+            self.gate("It is so.\n"), (1, "it.1 has a mean of 21.5 words\nit.1:2 has 41 words\ntoo long: 2 faults\n")
+        )
 
     def test_the_gate_counts_all_pages_together(self):
         text = "Two words.\n\n" * 8000
