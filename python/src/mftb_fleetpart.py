@@ -17,13 +17,15 @@ import uuid
 from collections.abc import Iterator, Sequence
 from itertools import chain, islice
 from pathlib import Path
-from typing import Any, BinaryIO, NamedTuple
+from typing import IO, Any, BinaryIO, NamedTuple
 
 PRIME = 4294967291
 # No moment is further from another, in milliseconds.
 FAR = 10**15
 # Lines of an answer that are sorted in memory; more are sorted by `sort`, on disk.
 BATCH = 100_000
+# The status of the program where its words are wrong.
+WRONG_WORDS = 2
 RARE, PAIR = re.compile(rb"[\x00-\x0a]"), re.compile(rb"\x02(.)")
 QUOTED = re.compile(rb'"((?:[^"]|"")*)",?')
 WORD = re.compile(rb"[^ \t]*")
@@ -47,7 +49,7 @@ class Cut(NamedTuple):
     """Parts to be cut out of a file: the number of the first, how many, of how many, and the folder of their texts."""
 
     number: int
-    count: int
+    size: int
     parts: int
     file: str
     folder: str
@@ -67,9 +69,16 @@ class Said(NamedTuple):
     """A part's answer: a refusal, or the records that are put first and where the lines of the others begin."""
 
     refusal: str
-    first: list
-    count: int
+    first: list[bytes]
+    others: int
     place: int
+
+
+class Inside(NamedTuple):
+    """What a part says of wrong words, or the file of its records."""
+
+    wrong: list[str]
+    path: str
 
 
 def part_of(name: bytes, parts: int) -> int:
@@ -82,7 +91,9 @@ def part_of(name: bytes, parts: int) -> int:
 
 def words_of(line: bytes) -> tuple[str, bytes]:
     """The first word of a line of a script, and the rest of it."""
-    word = WORD.match(line)[0]
+    found = WORD.match(line)
+    assert found
+    word = found[0]
     return word.decode(errors="replace"), line[len(word) :].strip(b" \t")
 
 
@@ -99,7 +110,7 @@ def printed(part: Part, *words: str, **given: Any) -> bytes:
     ended = subprocess.run([part.program, *words], stderr=subprocess.PIPE, stdin=subprocess.DEVNULL, **given)
     if ended.returncode:
         raise fault_of(ended.returncode, ended.stderr)
-    return ended.stdout
+    return bytes(ended.stdout or b"")
 
 
 def need_store(part: Part) -> None:
@@ -114,7 +125,7 @@ def need_store(part: Part) -> None:
 def cut(task: Cut) -> None:
     """Cuts parts out of a file, by one pass for each 16."""
     os.makedirs(task.folder, exist_ok=True)
-    some = "--first", str(task.number), "--count", str(task.count)
+    some = "--first", str(task.number), "--count", str(task.size)
     ended = subprocess.run(
         [task.program, "parts", str(task.parts), task.file, task.folder, *some],
         stdin=subprocess.DEVNULL,
@@ -151,6 +162,20 @@ def check(part: Part) -> list[int]:
 # Asking
 
 
+def inside(part: Part, command: str, before: Sequence[str], behind: Sequence[str]) -> Inside:
+    """The file of what `mftb moments` or `mftb zones` prints of a part, or its words where these are wrong."""
+    need_store(part)
+    path = Path(tempfile.mkdtemp(dir=part.work), "records")
+    with open(path, "wb") as out:
+        words = [part.program, command, "--explain", *before, part.store, *behind]
+        ended = subprocess.run(words, stdin=subprocess.DEVNULL, stdout=out, stderr=subprocess.PIPE)
+    if ended.returncode == WRONG_WORDS:
+        return Inside(ended.stderr.decode(errors="replace").strip().splitlines()[-1:], "")
+    if ended.returncode:
+        raise fault_of(ended.returncode, ended.stderr)
+    return Inside([], str(path))
+
+
 def ask(part: Part, lines: Sequence[bytes]) -> tuple[list[Said], str]:
     """The answers to the lines of a script, and the file with their records, in order."""
     need_store(part)
@@ -160,8 +185,10 @@ def ask(part: Part, lines: Sequence[bytes]) -> tuple[list[Said], str]:
     path, answers = Path(folder, "answers"), []
     command = [part.program, "run", part.store, f"{folder}/script"]
     with open(path, "wb") as out, open(f"{folder}/message", "w+b") as message:
-        streams = {"stdin": subprocess.DEVNULL, "stdout": subprocess.PIPE, "stderr": message}
-        with subprocess.Popen(command, bufsize=1 << 20, **streams) as running:
+        with subprocess.Popen(
+            command, bufsize=1 << 20, stdin=subprocess.DEVNULL, stdout=subprocess.PIPE, stderr=message
+        ) as running:
+            assert running.stdout
             try:
                 for word in words:
                     answers.append(answer(word, running.stdout, out, folder))
@@ -175,7 +202,7 @@ def ask(part: Part, lines: Sequence[bytes]) -> tuple[list[Said], str]:
     return answers, str(path)
 
 
-def answer(word: str, stream: BinaryIO, out: BinaryIO, folder: str) -> Said:
+def answer(word: str, stream: IO[bytes], out: BinaryIO, folder: str) -> Said:
     """Reads an answer, and appends its records to a file as lines, in order."""
     head = record(stream).decode()
     if head.startswith("refused "):
@@ -189,7 +216,7 @@ def answer(word: str, stream: BinaryIO, out: BinaryIO, folder: str) -> Said:
     return Said("", first, count - ahead, place)
 
 
-def record(stream: BinaryIO) -> bytes:
+def record(stream: IO[bytes]) -> bytes:
     """The next record, in which line ends may be quoted."""
     line = stream.readline()
     while line.count(b'"') % 2:
@@ -211,6 +238,7 @@ def sort_into(out: BinaryIO, lines: Iterator[bytes], folder: str) -> None:
     out.flush()
     command = ["sort", "-S", "64M", "-T", folder]
     with subprocess.Popen(command, stdin=subprocess.PIPE, stdout=out, env={**os.environ, "LC_ALL": "C"}) as sort:
+        assert sort.stdin
         sort.stdin.writelines(chain(batch, lines))
     if sort.returncode:
         raise Fault("the answer cannot be sorted: is the disk full?")
@@ -223,6 +251,8 @@ def name_and_rest(text: bytes) -> tuple[bytes, bytes]:
         name, _, rest = text.partition(b",")
         return name, rest
     found = QUOTED.match(text)
+    if not found:
+        raise Fault("the program printed half a name")
     return found[1].replace(b'""', b'"'), text[found.end() :]
 
 

@@ -46,6 +46,11 @@ def has_info():
     return BUILT.exists() and not subprocess.run([BUILT, "info", "--help"], capture_output=True).returncode
 
 
+def has_zones():
+    """Whether the build without proofs is there, and knows polygons."""
+    return BUILT.exists() and not subprocess.run([BUILT, "zones", "--help"], capture_output=True).returncode
+
+
 def run(tool, *words, folder, given=None):
     return subprocess.run([ROOT / "tools" / tool, *words], cwd=folder, capture_output=True, text=True, input=given)
 

@@ -8,7 +8,8 @@ from common import ROOT
 from mftb.legfiles import LegFile
 from mftb.page import layers
 from mftb.page.data import Head, Legs
-from mftb.page.layers import Rectangle, Wanted
+from mftb.page.layers import Wanted
+from mftb.rectangles import Rectangle
 from mftb.page.reading import exact_units
 from mftb.page.writing import Page, write
 

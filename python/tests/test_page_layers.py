@@ -5,7 +5,8 @@ from fractions import Fraction
 
 from common import ROOT, Case
 
-from mftb.page import layers, reading, zones
+from mftb import zonefiles
+from mftb.page import layers, reading
 from mftb.page.data import Legs
 from mftb.page.layers import Span, Wanted
 from mftb.texts import Refused
@@ -124,10 +125,10 @@ class Moments(Case):
 
 
 class Zones(Case):
-    def zones(self, text: str | bytes) -> list[zones.Zone]:
+    def zones(self, text: str | bytes) -> list[zonefiles.Zone]:
         path = self.folder / "zones.csv"
         path.write_bytes(text if isinstance(text, bytes) else text.encode())
-        return zones.read(str(path))
+        return zonefiles.read(str(path))
 
     def refused(self, text: str | bytes, place: int, code: str) -> None:
         with self.assertRaisesRegex(Refused, f"zones.csv record {place}: {code}: "):

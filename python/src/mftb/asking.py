@@ -111,6 +111,6 @@ class Store:
             script.write_bytes("".join(f"trajectory {name}\n" for name in lines).encode())
             out, _ = self.run(str(script), words=("-q",))
             with out:
-                for row in self.rows(out, str(script)):
+                for row in filter(None, self.rows(out, str(script))):
                     found[row.feature].append(row)
         return found

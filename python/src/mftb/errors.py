@@ -5,6 +5,7 @@ from __future__ import annotations
 import re
 
 REFUSAL = re.compile(r"refused ([FQZ][0-9]+)(?: at ([0-9]+))?")
+ZONES = re.compile(r"the zone file is refused: (Z[0-9]+) at record ([0-9]+)")
 DAMAGED = re.compile(r"page ([0-9]+) damaged")
 
 
@@ -114,7 +115,10 @@ def of_status(status: int, said: str) -> MftbError:
     if status < 0:
         return ProgramFailed(f"mftb was ended by signal {-status}", status=status)
     if status == 2:
-        return WrongWords(words, status=status)
+        zones = ZONES.search(words)
+        return (
+            ZonesRefused(words, status=2, code=zones[1], place=int(zones[2])) if zones else WrongWords(words, status=2)
+        )
     for line in words.splitlines():
         text = line.removeprefix("mftb: ")
         damaged = DAMAGED.fullmatch(text)

@@ -7,7 +7,7 @@ from collections.abc import Sequence
 from dataclasses import dataclass
 from datetime import datetime, timedelta, timezone
 from fractions import Fraction
-from typing import Generic, TypeVar
+from typing import Any, Generic, TypeVar
 
 from mftb.errors import ProgramFailed
 from mftb.records import Counts, Dwell, Feature, Info, Leg, Loaded, Stay, Visit
@@ -64,7 +64,8 @@ class LegForm(Form[Leg]):
 
 class FeatureForm(Form[Feature]):
     def record(self, fields: Sequence[str]) -> Feature:
-        return Feature(fields[0])
+        *zone, feature = fields
+        return Feature(feature, *zone)
 
 
 class CountForm(Form[Counts]):
@@ -97,15 +98,16 @@ class MomentForm(Form[Record]):
     def named(self, fields: Sequence[str]) -> dict[str, str]:
         return dict(zip(self.names or (), fields))
 
-    def stay(self, said: dict[str, str]) -> dict[str, object]:
+    def stay(self, said: dict[str, str]) -> dict[str, Any]:
         """The fields that stays and visits share."""
-        ends = {name: exact(said[name], self.start) for name in ("enters", "leaves")}
+        ends: dict[str, Any] = {name: exact(said[name], self.start) for name in ("enters", "leaves")}
         ends |= {name: instant(said[name]) for name in ("enters_at", "leaves_at")}
         for end in ("in", "out"):
             places = (said.get(f"{axis}_{end}") for axis in "xyz")
             ends[f"place_{end}"] = tuple(float(text) for text in places if text is not None)
         by = {name: said.get(name, "") for name in ("enters_by", "leaves_by")}
-        return {"feature": said["feature"], **ends, **by}
+        where = {name: said.get(name, "") for name in ("zone", "from_side", "to_side")}
+        return {"feature": said["feature"], **ends, **by, **where}
 
 
 class StayForm(MomentForm[Stay]):
@@ -116,7 +118,7 @@ class StayForm(MomentForm[Stay]):
 class VisitForm(MomentForm[Visit]):
     def record(self, fields: Sequence[str]) -> Visit:
         said = self.named(fields)
-        return Visit(**self.stay(said), legs=int(said["legs"]), zone=said.get("zone", ""))
+        return Visit(**self.stay(said), legs=int(said["legs"]))
 
 
 class DwellForm(MomentForm[Dwell]):
@@ -156,10 +158,11 @@ def info_of(text: str) -> Info:
     """What `mftb info --json` says."""
     try:
         said = json.loads(text)
-        moments = {name: said[name] and instant(said[name]) for name in ("start", "first", "last")}
+        moments: dict[str, Any] = {name: said[name] and instant(said[name]) for name in ("start", "first", "last")}
         columns = tuple((it["name"], it["type"]) for it in said["columns"] or ())
-        extent = said["extent"] and tuple(map(float, said["extent"]))
-        same = {name: said[name] for name in PLAIN}
+        left, low, right, top = map(float, said["extent"] or (0, 0, 0, 0))
+        extent = (left, low, right, top) if said["extent"] else None
+        same: dict[str, Any] = {name: said[name] for name in PLAIN}
     except (KeyError, TypeError, ValueError):
         raise ProgramFailed("mftb info does not say what the store holds; is it mftb?") from None
     return Info(columns=columns, extent=extent, **moments, **same)

@@ -129,7 +129,7 @@ def with_commas(data: bytes, count: int, commas: int, spaces: int) -> Any:
     signs = numpy.frombuffer(bytearray(data), numpy.uint8)
     third = numpy.flatnonzero(signs == COMMA).reshape(count, commas)[:, 2]
     blanks = numpy.flatnonzero(signs == SPACE)
-    first = numpy.searchsorted(blanks, third)
+    first: Any = numpy.searchsorted(blanks, third)
     signs[blanks[first[:, None] + numpy.arange(spaces)]] = COMMA
     return signs
 

@@ -6,9 +6,10 @@ import csv
 import io
 from collections.abc import Sequence
 from datetime import datetime
+from typing import Any
 
 from mftb import forms, lines, runs
-from mftb.forms import EPOCH, MILLISECOND, LegForm, milliseconds
+from mftb.forms import EPOCH, MILLISECOND, Form, LegForm, milliseconds
 from mftb.records import Gap, Leg
 from mftb.results import Answer
 
@@ -41,7 +42,8 @@ def between(legs: Answer[Leg], form: LegForm, period: lines.Period) -> Answer[Ga
                 count += 1
             ends[row[0]] = milliseconds(row[2]), places[form.dimension :]
     answer: Answer[Gap] = Answer(" ".join(["gaps", *map(lines.moment, period)]), legs.crs)
-    return answer.fill(runs.Printed(spool, 0, count), GapForm(start=form.start, dimension=form.dimension))
+    read: Form[Any] = GapForm(start=form.start, dimension=form.dimension)
+    return answer.fill(runs.Printed(spool, 0, count), read)
 
 
 def since_start(moment: lines.Moment, start: datetime) -> float:

@@ -10,7 +10,7 @@ from collections.abc import Iterator
 from contextlib import contextmanager, suppress
 from decimal import ROUND_HALF_EVEN, Decimal
 from itertools import chain
-from typing import IO
+from typing import Any
 
 from mftb.sources import as_text, opened
 from mftb.texts import PLAIN_DECIMAL, Refused, read_instant
@@ -90,9 +90,9 @@ class LegFile:
 
 
 @contextmanager
-def beside(path: str, mode: str = "w") -> Iterator[IO]:
+def beside(path: str, mode: str = "w") -> Iterator[Any]:
     """A file that takes its name when all of it is there; what is no plain file is just written."""
-    how = {} if "b" in mode else {"encoding": "utf-8", "newline": "\n"}
+    how: dict[str, Any] = {} if "b" in mode else {"encoding": "utf-8", "newline": "\n"}
     target = os.path.realpath(path)
     if os.path.exists(target) and not stat.S_ISREG(os.stat(target).st_mode):
         with open(target, mode, **how) as out:

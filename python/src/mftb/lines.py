@@ -45,13 +45,18 @@ def moment(value: Moment) -> str:
     return value.astimezone(timezone.utc).replace(tzinfo=None).isoformat() + "Z"
 
 
-def words(rectangle: Rectangle, period: Period) -> list[str]:
-    """The six words of a rectangle and a period."""
+def sides(rectangle: Rectangle) -> tuple[str, ...]:
+    """The sides of a rectangle as texts."""
     if len(rectangle) != 4:
         raise ValueError("a rectangle is x1, y1, x2, y2")
+    return tuple(map(number, rectangle))
+
+
+def words(rectangle: Rectangle, period: Period) -> list[str]:
+    """The six words of a rectangle and a period."""
     if len(period) != 2:
         raise ValueError("a period is its first and its last moment")
-    return [*map(number, rectangle), *map(moment, period)]
+    return [*sides(rectangle), *map(moment, period)]
 
 
 def line(command: str, *rest: str) -> str:

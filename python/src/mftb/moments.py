@@ -1,4 +1,4 @@
-"""The records of `mftb moments`: of one rectangle after another, and by what a visit begins and ends."""
+"""The records of `mftb moments` and `mftb zones`: their names, and those without a zone's name."""
 
 from __future__ import annotations
 
@@ -6,26 +6,11 @@ import csv
 import io
 from collections.abc import Iterable, Iterator
 from fractions import Fraction
-from typing import TypeAlias
 
 from mftb import forms, lines, runs
-from mftb.zones import Zones, named
 
-# The names of fields, and the records.
-Records: TypeAlias = tuple[list[str], Iterable[list[str]]]
-BY = "enters_by", "leaves_by"
-
-
-def questions(zones: Zones, period: lines.Period) -> list[tuple[str, list[str]]]:
-    """The words of each rectangle, by its name."""
-    return [(name, lines.words(rectangle, period)) for name, rectangle in named(zones).items()]
-
-
-def question(flag: str, zones: Zones, period: lines.Period) -> str:
-    """The question in one line."""
-    found = questions(zones, period)
-    places = [f"{name or ' '.join(words[:4])}" for name, words in found]
-    return " ".join(["moments", flag, ", ".join(places), *found[0][1][4:]])
+# What the program calls some fields, and what the library does.
+NAMES = {"rectangle": "zone", "from": "from_side", "to": "to_side"}
 
 
 def seconds(period: lines.Period) -> tuple[Fraction, Fraction]:
@@ -40,39 +25,36 @@ def rows_of(printed: runs.Printed) -> Iterator[list[str]]:
         yield from csv.reader(io.TextIOWrapper(file, encoding="utf-8", newline=""))
 
 
-def with_ends(names: list[str], visits: runs.Printed, stay_names: list[str], stays: runs.Printed) -> Records:
-    """The records of visits with `enters_by` of the first stay of each, and `leaves_by` of its last one."""
-    rows = list(rows_of(visits))
-    feature, *places = (names.index(name) for name in ("feature", "enters", "leaves"))
-    ends: list[dict[tuple[str, str], str]] = [{(row[feature], row[place]): "" for row in rows} for place in places]
-    of = [stay_names.index(name) for name in ("feature", "enters", "leaves", *BY)]
-    for row in rows_of(stays):
-        name, enters, leaves, *by = (row[place] for place in of)
-        if not ends[0].get((name, enters), "x"):
-            ends[0][name, enters] = by[0]
-        if (name, leaves) in ends[1]:
-            ends[1][name, leaves] = by[1]
-    by_ends = ([of_end[row[feature], row[place]] for of_end, place in zip(ends, places)] for row in rows)
-    return [*names, *BY], [row + by for row, by in zip(rows, by_ends)]
+def printed(rows: Iterable[list[str]]) -> runs.Printed:
+    """Records in a spool of their own."""
+    spool, count = runs.Spool(), 0
+    with open(spool.path, "w", encoding="utf-8", newline="") as out:
+        write = csv.writer(out, lineterminator="\n").writerow
+        for row in rows:
+            write(row)
+            count += 1
+    return runs.Printed(spool, 0, count)
 
 
-class Joined:
-    """The records of one rectangle after another, each with its name if it has one."""
+def named(names: list[str], found: runs.Printed, has_zones: bool) -> tuple[list[str], runs.Printed]:
+    """The names of the fields as the library has them, and the records, with a zone's name if it has one."""
+    own = [NAMES.get(name, name) for name in names]
+    if has_zones or own[0] != "zone":
+        return own, found
+    return own[1:], printed(row[1:] for row in rows_of(found))
 
-    def __init__(self) -> None:
-        self.names: list[str] = []
-        self.spool, self.count = runs.Spool(), 0
 
-    def add(self, name: str, records: Records) -> None:
-        """Adds the records of a rectangle."""
-        names, rows = records
-        first = [name] if name else []
-        self.names = [*(["zone"] if name else []), *names]
-        with open(self.spool.path, "a", encoding="utf-8", newline="") as out:
-            write = csv.writer(out, lineterminator="\n").writerow
-            for row in rows:
-                write(first + row)
-                self.count += 1
+def in_order(zones: list[str], names: list[str], rows: list[list[str]]) -> list[list[str]]:
+    """The records of several stores: those of each zone together, by their first moment, then by feature."""
+    places = {name: place for place, name in enumerate(zones)}
+    first = names[0] in ("rectangle", "zone")
+    if "enters" not in names:
+        return sorted(rows, key=lambda row: (places[row[0]] if first else 0, row))
+    feature, enters, leaves = (names.index(name) for name in ("feature", "enters", "leaves"))
 
-    def printed(self) -> runs.Printed:
-        return runs.Printed(self.spool, 0, self.count)
+    def key(row: list[str]) -> tuple[object, ...]:
+        ends = (forms.exact(row[end], Fraction(0)) for end in (enters, leaves))
+        begin, end = ends
+        return places[row[0]] if first else 0, begin, row[feature], end
+
+    return sorted(rows, key=key)

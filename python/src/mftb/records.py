@@ -25,14 +25,15 @@ class Leg:
 
 @dataclass(frozen=True, slots=True)
 class Feature:
-    """A feature that a question names."""
+    """A feature that a question names; `zone` is empty for a rectangle without a name."""
 
     feature: str
+    zone: str = ""
 
 
 @dataclass(frozen=True, slots=True)
 class Inside:
-    """A time inside a rectangle or a zone.
+    """A time inside a zone.
 
     `enters` and `leaves` are exact: seconds since 1970-01-01T00:00:00Z. `enters_at` is rounded down
     to the microsecond and `leaves_at` up, so that the true moments lie between. `enters_by` and
@@ -52,15 +53,25 @@ class Inside:
 
 @dataclass(frozen=True, slots=True)
 class Stay(Inside):
-    """A leg's time inside."""
+    """A leg's time inside.
+
+    `zone` is empty where the zone has no name. `from_side` and `to_side` say on which side of a gate the
+    feature is just before and just after: `left`, `right` or `none`; for other zones they are empty.
+    """
+
+    zone: str = ""
+    from_side: str = ""
+    to_side: str = ""
 
 
 @dataclass(frozen=True, slots=True)
 class Visit(Inside):
-    """A feature's time inside, over legs without a gap in time; `zone` is empty for a rectangle."""
+    """A feature's time inside, over legs without a gap in time; the last fields are those of a stay."""
 
     legs: int
     zone: str = ""
+    from_side: str = ""
+    to_side: str = ""
 
 
 @dataclass(frozen=True, slots=True)

@@ -2,6 +2,7 @@
 
 from __future__ import annotations
 
+import io
 import os
 import subprocess
 import tempfile
@@ -30,7 +31,7 @@ class Spool:
         os.close(handle)
         weakref.finalize(self, remove, self.path)
 
-    def open(self, place: int = 0) -> BinaryIO:
+    def open(self, place: int = 0) -> io.BufferedReader:
         """The file, from a place on."""
         file = open(self.path, "rb")
         file.seek(place)
@@ -52,7 +53,7 @@ class Printed:
     end: int | None = None
 
     @contextmanager
-    def opened(self) -> Iterator[BinaryIO]:
+    def opened(self) -> Iterator[io.BufferedReader]:
         with self.spool.open(self.place) as file:
             yield file
 

@@ -17,7 +17,7 @@ from contextlib import contextmanager
 from dataclasses import dataclass
 from itertools import chain, islice
 from operator import itemgetter
-from typing import IO, Any, BinaryIO, TextIO, TypeAlias
+from typing import IO, Any, TextIO, TypeAlias
 
 from mftb import apart
 from mftb.texts import BadLine, LeftOut, Refused, several, utf8
@@ -75,7 +75,7 @@ def are_wide(rows: list[Any], wide: int) -> bool:
 
 
 @contextmanager
-def opened(path: str) -> Iterator[BinaryIO]:
+def opened(path: str) -> Iterator[IO[bytes]]:
     """The bytes of a file, unpacked where it is packed; `-` is standard input."""
     with open(0 if path == "-" else path, "rb", closefd=path != "-") as raw:
         try:
@@ -86,15 +86,16 @@ def opened(path: str) -> Iterator[BinaryIO]:
             raise Refused(f"{path} is in another encoding (see --encoding): {why}") from None
 
 
-def unpacked(path: str, raw: BinaryIO) -> BinaryIO:
+def unpacked(path: str, raw: io.BufferedReader) -> IO[bytes]:
     """What is read of a file, by its first bytes."""
     start = raw.peek(4)[:4]
     if start[:2] == b"\x1f\x8b":
-        return gzip.open(raw)
+        found: Any = gzip.open(raw)
+        return found
     return only_file(path, raw) if start == b"PK\x03\x04" else raw
 
 
-def only_file(path: str, raw: BinaryIO) -> IO[bytes]:
+def only_file(path: str, raw: IO[bytes]) -> IO[bytes]:
     """The bytes of the one file of a .zip."""
     if not raw.seekable():
         whole = tempfile.TemporaryFile()
@@ -135,11 +136,12 @@ def read_table(path: str, layout: Callable[[list[str]], RowReader], work: Work, 
         table = csv.reader(text)
         try:
             header = first_row(table)
-            reader = layout(header) if header else None
+            if not header:
+                return
+            reader = layout(header)
         except (csv.Error, BadLine) as why:
             raise Refused(f"{path} line {max(table.line_num, 1)}: {why}") from None
-        if header:
-            yield from rows(text, table.line_num, Rows(len(header), reader), work)
+        yield from rows(text, table.line_num, Rows(len(header), reader), work)
 
 
 def first_row(table: Iterable[list[str]]) -> list[str]:
@@ -164,7 +166,7 @@ class Cut:
     """Rows that were cut from lines with quotes, and their line numbers; one that cannot be cut is why."""
 
     numbers: Sequence[int]
-    rows: list[list[str] | BadLine]
+    rows: list[Any]
 
 
 @dataclass(frozen=True)
@@ -179,8 +181,8 @@ class Rows:
         """Line numbers, and what is read of each row, or why nothing is; a blank line is no row."""
         if isinstance(part, Lines):
             # A row without a quote is its line, cut at the delimiters.
-            found = [line.rstrip("\r\n").split(self.delimiter) for line in part.lines]
-            part = Cut(range(part.before + 1, part.before + 1 + len(found)), found)
+            cut_rows = [line.rstrip("\r\n").split(self.delimiter) for line in part.lines]
+            part = Cut(range(part.before + 1, part.before + 1 + len(cut_rows)), cut_rows)
         numbers, found = part.numbers, part.rows
         if [""] in found:
             numbers = [number for number, row in zip(numbers, found) if row != [""]]
@@ -216,7 +218,9 @@ def quoted(lines: list[str], text: Iterator[str], line: int, delimiter: str) -> 
 
     The third value says how many lines that was. A row that cannot be read is why it cannot.
     """
-    source, numbers, found, count = iter(lines), [], [], 0
+    numbers: list[int] = []
+    found: list[Any] = []
+    source, count = iter(lines), 0
     for start in source:
         numbers.append(line + count + 1)
         if '"' not in start and len(start) < LONGEST:
@@ -273,7 +277,7 @@ class Values:
         # A place behind the row's end stands for a column that is not there.
         take = [wide if place is None else place for place in places]
         self.names, self.blank = names, [""] if None in places else []
-        self.take = itemgetter(*take) if len(take) > 1 else lambda row: tuple([row[place] for place in take])
+        self.take: Any = itemgetter(*take) if len(take) > 1 else lambda row: tuple([row[place] for place in take])
 
     def of(self, row: list[str]) -> tuple[str, ...]:
         """The values of a row."""
@@ -299,7 +303,7 @@ class Columns:
         self.names = [[name, *(old for old, new in options.rename if new == name)] for name, _ in self.pairs]
         self.missing = {names[0] for names in self.names}
         # In how many files a column is not, where there are several.
-        self.lacking = Counter()
+        self.lacking: Counter[str] = Counter()
 
     def reader(self, header: list[str]) -> Values:
         """What takes the attribute values from rows below this header line."""

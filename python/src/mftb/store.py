@@ -14,7 +14,7 @@ from mftb.lines import Path, Period, Predicate, Rectangle
 from mftb.records import Counts, Feature, Gap, Info, Leg, Loaded, Report, Stay
 from mftb.results import Answer
 from mftb.tallies import Dwells, Visits
-from mftb.zones import Zones, named
+from mftb.zones import Asked, Words, Zones, asked
 
 if TYPE_CHECKING:
     import pandas
@@ -36,9 +36,9 @@ class Questions:
         """The legs of which a predicate holds, each leg alone."""
         return self._ask(lines.line("legs", predicate, *lines.words(rectangle, period)))
 
-    def features(self, predicate: Predicate, rectangle: Rectangle, period: Period) -> Answer[Feature]:
+    def features(self, predicate: Predicate, zones: Rectangle, period: Period) -> Answer[Feature]:
         """The features of whose whole list of legs a predicate holds."""
-        return self._ask(lines.line("features", predicate, *lines.words(rectangle, period)))
+        return self._ask(lines.line("features", predicate, *lines.words(zones, period)))
 
     def box(self, rectangle: Rectangle, period: Period) -> Answer[Leg]:
         """The legs whose least box meets this one, in x, in y and in time."""
@@ -127,45 +127,64 @@ class Book(Questions):
         FilePath(file).write_bytes(printed.read())
 
     def page(
-        self, file: Path, *, rectangles: Zones | None = None, title: str | None = None, period: Period | None = None
+        self,
+        file: Path,
+        *,
+        rectangles: Zones | None = None,
+        zones: Zones | None = None,
+        title: str | None = None,
+        period: Period | None = None,
     ) -> str:
-        """Writes a page for a browser, a map that moves, with the crossings of rectangles; returns the file's name."""
+        """Writes a page for a browser, a map that moves, and returns the file's name.
+
+        It has the crossings of rectangles, and the outlines of zones.
+        """
         raise NotImplementedError
 
-    def moments(self, rectangle: Rectangle, period: Period) -> Answer[Stay]:
-        """When each leg is inside a rectangle."""
-        words = lines.words(rectangle, period)
-        info = self.info()
-        answer: Answer[Stay] = Answer(" ".join(["moments", *words]), info.crs)
-        names, printed = self._moment_records([], words)
+    def features(self, predicate: Predicate, zones: Zones, period: Period) -> Answer[Feature]:
+        """The features of whose whole list of legs a predicate holds, of each zone that has a name or is a polygon."""
+        given = asked(zones)
+        if given.are_rectangles and not given.has_names:
+            return super().features(predicate, given.shapes[""], period)
+        given, flags = given.as_polygons(), ["--features", predicate]
+        names, printed = self._inside(given, flags, period)
+        answer: Answer[Feature] = Answer(given.question(flags, period), self.info().crs)
+        return answer.fill(printed, forms.FeatureForm(names=names))
+
+    def moments(self, zones: Zones, period: Period) -> Answer[Stay]:
+        """When each leg is inside a zone; a leg may be inside a polygon several times."""
+        given, flags, info = asked(zones), ["--legs"], self.info()
+        answer: Answer[Stay] = Answer(given.question(flags, period), info.crs)
+        names, printed = self._inside(given, flags, period)
         return answer.fill(printed, forms.StayForm(names=names, start=forms.start_of(info)))
 
     def visits(self, zones: Zones, period: Period) -> Visits:
-        """When each feature is inside a rectangle, or inside each of some that have names.
+        """When each feature is inside a zone, or inside each of some that have names.
 
         A visit is stays joined over legs without a gap in time. Those of each zone stand together.
         """
-        info, found = self.info(), moments.Joined()
-        for name, words in moments.questions(zones, period):
-            names, visits = self._moment_records(["--visits"], words)
-            found.add(name, moments.with_ends(names, visits, *self._moment_records([], words)))
+        given, flags, info = asked(zones), ["--visits"], self.info()
+        names, printed = self._inside(given, flags, period)
         ends = moments.seconds(period)
-        answer = Visits(moments.question("--visits", zones, period), info.crs, list(named(zones)), ends)
-        answer.fill(found.printed(), forms.VisitForm(names=found.names, start=forms.start_of(info)))
+        answer = Visits(given.question(flags, period), info.crs, given.names(), ends)
+        answer.fill(printed, forms.VisitForm(names=names, start=forms.start_of(info)))
         return answer
 
     def dwell(self, zones: Zones, period: Period) -> Dwells:
-        """How long each feature is inside a rectangle, or inside each of some that have names, in all."""
-        info, found = self.info(), moments.Joined()
-        for name, words in moments.questions(zones, period):
-            names, printed = self._moment_records(["--dwell"], words)
-            found.add(name, (names, moments.rows_of(printed)))
-        answer = Dwells(moments.question("--dwell", zones, period), info.crs, partial(self.visits, zones, period))
-        answer.fill(found.printed(), forms.DwellForm(names=found.names, start=forms.start_of(info)))
+        """How long each feature is inside a zone, or inside each of some that have names, in all."""
+        given, flags, info = asked(zones), ["--dwell"], self.info()
+        names, printed = self._inside(given, flags, period)
+        answer = Dwells(given.question(flags, period), info.crs, partial(self.visits, zones, period))
+        answer.fill(printed, forms.DwellForm(names=names, start=forms.start_of(info)))
         return answer
 
-    def _moment_records(self, flags: list[str], words: list[str]) -> tuple[list[str], runs.Printed]:
-        """The names of the fields of `mftb moments`, and its records."""
+    def _inside(self, given: Asked, flags: list[str], period: Period) -> tuple[list[str], runs.Printed]:
+        """The names of the fields, and the records, of what the program says of zones."""
+        with given.words(flags, period) as words:
+            return moments.named(*self._told(words, given), given.has_names)
+
+    def _told(self, words: Words, given: Asked) -> tuple[list[str], runs.Printed]:
+        """The names of the fields of `mftb moments` or `mftb zones`, and the records."""
         raise NotImplementedError
 
 
@@ -201,13 +220,23 @@ class Store(Book):
         return Report(legs, features, pages)
 
     def page(
-        self, file: Path, *, rectangles: Zones | None = None, title: str | None = None, period: Period | None = None
+        self,
+        file: Path,
+        *,
+        rectangles: Zones | None = None,
+        zones: Zones | None = None,
+        title: str | None = None,
+        period: Period | None = None,
     ) -> str:
-        """Writes a page for a browser, a map that moves, with the crossings of rectangles; returns the file's name."""
+        """Writes a page for a browser, a map that moves, and returns the file's name.
+
+        It has the crossings of rectangles, and the outlines of zones.
+        """
         from mftb.page import store
 
-        places = {} if rectangles is None else named(rectangles)
-        store.save(self.path, self.program, os.fspath(file), places, title, period)
+        places = None if rectangles is None else asked(rectangles)
+        outlines = None if zones is None else asked(zones)
+        store.save(store.Wanted(self.path, self.program, os.fspath(file), title, period), places, outlines)
         return os.fspath(file)
 
     def _printed(self, *words: str) -> str:
@@ -231,9 +260,9 @@ class Store(Book):
         with runs.script_file(script) as name:
             return self._spooled(["run", *flags, self.path, name, "--", *files], spool).replace(name, "script")
 
-    def _moment_records(self, flags: list[str], words: list[str]) -> tuple[list[str], runs.Printed]:
+    def _told(self, words: Words, given: Asked) -> tuple[list[str], runs.Printed]:
         spool = runs.Spool()
-        self._spooled(["moments", *flags, *self._cache, self.path, *words], spool)
+        self._spooled([words.command, *words.before, *self._cache, self.path, *words.behind], spool)
         return runs.table(spool)
 
 

@@ -88,7 +88,7 @@ class Layout:
     def object(self, row: Row) -> dict[str, Any]:
         """A row as an object, without what it does not have."""
         texts = self.fields(row)
-        found = {"question": row.number}
+        found: dict[str, Any] = {"question": row.number}
         found |= {name: text for name, text in zip(self.names[1:5], texts[1:5]) if text}
         for name, text in zip(self.names[5 : self.values], texts[5:]):
             if text:
@@ -101,6 +101,8 @@ class Layout:
 
 class Number(float):
     """A number that is written with the digits that it was read with."""
+
+    text: str
 
     def __new__(cls, text: str) -> Number:
         made = super().__new__(cls, text)
@@ -178,7 +180,7 @@ def write_geojson(out: TextIO, store: Store, rows: Iterable[Row], tracks: Tracks
 
 def geometry(legs: Iterable[Row]) -> dict[str, Any] | None:
     """Legs as a line, or as several where there are gaps."""
-    lines = []
+    lines: list[list[list[Number]]] = []
     for leg in legs:
         first, last = ([Number(text) for text in place] for place in leg.places)
         if lines and lines[-1][-1] == first:
@@ -210,16 +212,16 @@ def features_of(rows: Iterable[Row | None]) -> list[str]:
 
 def write(options: Namespace, store: Store, rows: Iterable[Row | None], tracks: Tracks) -> None:
     """The table of all answers, or a file for each."""
-    rows = full_rows(rows, tracks)
+    full = full_rows(rows, tracks)
     if options.question:
-        rows = (row for row in rows if row.number == options.question)
+        full = (row for row in full if row.number == options.question)
     if not options.split:
         with beside(options.output, mode_of(options)) if options.output else nullcontext(sys.stdout) as out:
-            write_one(options, store, rows, tracks, out)
+            write_one(options, store, full, tracks, out)
         return
     kind = {"wkt": "csv", "trips": "geojson"}.get(options.format, options.format)
     Path(options.split).mkdir(exist_ok=True)
-    for number, own in groupby(rows, lambda row: row.number):
+    for number, own in groupby(full, lambda row: row.number):
         with beside(str(Path(options.split, f"question-{number}.{kind}")), mode_of(options)) as out:
             write_one(options, store, own, tracks, out)
 
@@ -228,7 +230,7 @@ def mode_of(options: Namespace) -> str:
     return "wb" if options.format == "gpkg" else "w"
 
 
-def write_one(options: Namespace, store: Store, rows: Iterable[Row], tracks: Tracks, out: IO[Any]) -> None:
+def write_one(options: Namespace, store: Store, rows: Iterable[Row], tracks: Tracks, out: Any) -> None:
     if options.format == "json":
         write_json(out, store, rows)
     elif options.format == "geojson":

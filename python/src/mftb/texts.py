@@ -54,6 +54,12 @@ class LeftOut(Exception):
 # Places and names
 
 
+def exact_units(text: str) -> int:
+    """Any plain decimal in units of 10^-7, rounded as the file format does."""
+    scaled = Decimal(text).scaleb(7)
+    return int(scaled.quantize(Decimal(1), rounding="ROUND_HALF_UP"))
+
+
 def plain_decimal(text: str, what: str) -> str:
     """The text of a coordinate, as it stands, where it is one that the profile reads."""
     text = text.strip(" \t")
@@ -155,7 +161,7 @@ def read_instant(text: str) -> int:
     return moment(day, clock) + (offset if sign == "-" else -offset)
 
 
-class Known(dict):
+class Known(dict[Any, str]):
     """What was made of texts or numbers that were met: of the last 20,000 or so."""
 
     def __init__(self, make: Callable[[Any], str]) -> None:
@@ -204,9 +210,9 @@ class Clock:
     def met(self, text: str) -> int:
         """The moment of an instant whose day may be new."""
         moment = self.read(text)
-        time = self.minutes.get(text[11:17]), self.seconds.get(text[17:])
-        if None not in time and len(self.days) < 1000:
-            self.days[text[:11]] = moment - sum(time)
+        minutes, seconds = self.minutes.get(text[11:17]), self.seconds.get(text[17:])
+        if minutes is not None and seconds is not None and len(self.days) < 1000:
+            self.days[text[:11]] = moment - minutes - seconds
         return moment
 
 

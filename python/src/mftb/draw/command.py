@@ -18,9 +18,9 @@ from collections.abc import Callable, Iterable, Iterator, Mapping, Sequence
 from pathlib import Path
 from typing import TypeAlias
 
-from mftb import answers, asking, texts
+from mftb import answers, asking, rectangles, texts
 from mftb.commands import ended, example, say
-from mftb.draw import coast, crossings, labels, stored, svg
+from mftb.draw import coast, crossings, labels, stored, svg, zones
 from mftb.draw.plot import MANY, WIDTH, Extent, Ink, Piece, Place, Seen, View, in_degrees, size
 from mftb.legfiles import LegFile, beside
 from mftb.program import NAMING
@@ -77,7 +77,9 @@ class Files:
         for count, row in enumerate(file, 1):
             if not step:
                 absolute, step, wide = file.unit == "absolute", file.dimension, 2 * file.dimension
-                moment: Callable[[str], float] = file.milliseconds if absolute else float
+                moment: Callable[[str], float] = float
+                if absolute:
+                    moment = file.milliseconds
                 if not file.head:
                     raise ValueError("a record before the header lines")
             begin, end = moment(row[1]), moment(row[2])
@@ -107,8 +109,8 @@ class Files:
     def bounds(self, shown: Shown | None, is_whole: bool) -> list[Place]:
         """Two corners of what is shown of features, or of all legs; nothing where there is none."""
         every = Extent()
-        for file, row, number, *ends in self.legs():
-            one, two = ends[:2], ends[2:]
+        for file, row, number, x, y, u, v in self.legs():
+            one, two = (x, y), (u, v)
             for piece in shown.pieces(file, row, number, one, two) if shown else [(one, two)]:
                 every.add(*piece[0])
                 every.add(*piece[1])
@@ -158,6 +160,7 @@ class Shown:
             raise texts.Refused(f"there is no column {options.label!r}")
         self.label = files.columns.index(options.label)
         self.crossings = crossings.read(options.moments) if options.moments else []
+        self.outlines = zones.wanted(options)
         # The offset of each leg, but of one that is there at several moments.
         self.legs: dict[tuple, float | None] = {}
         self.own = {hit.name for hit in self.hits}
@@ -217,6 +220,7 @@ def seen(options: Namespace, files: Source, shown: Shown) -> list[Place]:
             near.add(*place)
     for crossing in shown.crossings:
         near.add(*crossing.place)
+    zones.extend(near, shown.outlines)
     found, box = near.corners(), shown.box
     if box:
         wide = max(box[2] - box[0], box[3] - box[1]) if shown.names else 0
@@ -336,13 +340,14 @@ def picture(options: Namespace, files: Source, shown: Shown) -> Iterator[str]:
     scene = Scene(view, shown)
     scene.scan(files)
     groups, title = scene.by_label(), shown.title(files)
-    rows = svg.key(list(groups), shown.box, files.kind)
+    rows = svg.key(list(groups), shown.box, files.kind, bool(shown.outlines))
     longest = max(map(labels.text_width, ["the rectangle asked for", *list(groups)[: svg.ROWS]]))
     wide = max(LEFT + WIDTH + 24 + 32 + round(longest), LEFT + round(labels.text_width(title))) + 16
     high = max(TOP + view.height + BELOW, TOP + len(rows) * 20 + 20)
+    style = svg.style() + (zones.STYLE if shown.outlines else "")
     yield f'<svg xmlns="http://www.w3.org/2000/svg" viewBox="0 0 {wide} {high}"'
     yield f'  width="{wide}" height="{high}">'
-    yield f"<title>{svg.clean(title)}</title><style>{svg.style()}</style>"
+    yield f"<title>{svg.clean(title)}</title><style>{style}</style>"
     yield f'<rect class="paper" width="{wide}" height="{high}"/>'
     yield f'<text class="title" x="{LEFT}" y="24">{svg.clean(title)}</text>'
     yield f'<clipPath id="plot"><rect width="{WIDTH}" height="{view.height}"/></clipPath>'
@@ -363,11 +368,14 @@ def plotted(options: Namespace, scene: Scene, groups: Mapping[str, list[Piece]])
     yield svg.path("coast", coast.path(view, options.coast)) if options.coast else ""
     yield from svg.grey(scene.grey)
     yield svg.asked(view, box) if box else ""
+    outlines = scene.shown.outlines
+    yield from (zones.path(view, outline) for outline in outlines)
     yield from scene.coloured()
     others = [(one, two) for _, one, two in scene.grey.pieces[:600]]
     marks = list(scene.marks(list(groups)))
     yield from svg.rings(marks)
-    yield from labels.names(view, groups, others, box, marks)
+    sides = {outline.name: list(zones.edges(view, outline)) for outline in outlines if outline.name}
+    yield from labels.names(view, labels.Named(groups, marks, sides), others, box)
     yield f'</g><rect class="frame" width="{WIDTH}" height="{view.height}"/></g>'
 
 
@@ -395,6 +403,7 @@ def words() -> Namespace:
     parser.add_argument("files", metavar="FILE", nargs="*", help="files of legs")
     for name, what in ("box", "the rectangle of the question"), ("view", "what the picture shows"):
         parser.add_argument(f"--{name}", nargs=4, type=texts.number, metavar=("X1", "Y1", "X2", "Y2"), help=what)
+    rectangles.add_words(parser, " by its name")
     add_answer(parser)
     parser.add_argument(
         "--moments",

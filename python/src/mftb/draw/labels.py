@@ -3,7 +3,7 @@
 from __future__ import annotations
 
 import math
-from collections.abc import Iterable, Iterator, Mapping, Sequence
+from collections.abc import Iterator, Mapping, Sequence
 from typing import NamedTuple, TypeAlias
 
 from mftb.draw.plot import WIDTH, Piece, Place, View, pair, px
@@ -59,25 +59,33 @@ def spots(found: Sequence[Piece], width: float) -> Iterator[Spot]:
                 yield Spot((left, top, left + width, top + 15), (x, y), away)
 
 
-def names(
-    view: View,
-    groups: Mapping[str, Sequence[Piece]],
-    others: Sequence[Piece],
-    box: Sequence[float] | None,
-    marks: Iterable[Mark] = (),
-) -> Iterator[str]:
-    """A name beside each feature that is coloured, and each mark's words, where there is room."""
-    hits = [piece for found in groups.values() for piece in found] + edges(view, box)
+class Named(NamedTuple):
+    """What has a name in a picture: features, marks, and the edges of zones, all in pixels."""
+
+    groups: Mapping[str, Sequence[Piece]]
+    marks: Sequence[Mark] = ()
+    zones: Mapping[str, Sequence[Piece]] = {}
+
+    def wanted(self) -> Iterator[tuple[str, str, Sequence[Piece]]]:
+        """The words that are wanted, the class of each, and the lines that they may stand beside."""
+        features = [(name, colour(number), found) for number, (name, found) in enumerate(self.groups.items())]
+        yield from [(name, "zoned", found) for name, found in self.zones.items()][:ROWS]
+        yield from features[:ROWS]
+        yield from [(words, colour(number), [(place, place)]) for words, number, place in self.marks][:ROWS]
+
+
+def names(view: View, named: Named, others: Sequence[Piece], box: Sequence[float] | None) -> Iterator[str]:
+    """A name beside each zone and each feature that is coloured, and each mark's words, where there is room."""
+    hits = [piece for found in named.groups.values() for piece in found] + edges(view, box)
     # What a name had better not cover, and how bad it is.
     lines = [(piece, 10) for piece in hits[:600]] + [(piece, 3) for piece in others[:600]]
+    lines += [(piece, 5) for found in named.zones.values() for piece in found[:200]]
     taken: list[Box] = []
-    wanted = [(name, number, found) for number, (name, found) in enumerate(groups.items())][:ROWS]
-    wanted += [(words, number, [(place, place)]) for words, number, place in marks][:ROWS]
-    for name, number, found in wanted:
-        best = best_spot(view, found, text_width(name) + 4, lines, taken) if found else None
+    for words, kind, found in named.wanted():
+        best = best_spot(view, found, text_width(words) + 4, lines, taken) if found else None
         if best:
             taken.append(best.box)
-            yield name_at(name, number, best)
+            yield name_at(words, kind, best)
 
 
 def edges(view: View, box: Sequence[float] | None) -> list[Piece]:
@@ -114,10 +122,10 @@ def nearest(box: Box, point: Place) -> Place:
     return min(max(point[0], box[0]), box[2]), min(max(point[1], box[1]), box[3])
 
 
-def name_at(name: str, number: int, spot: Spot) -> str:
+def name_at(name: str, kind: str, spot: Spot) -> str:
     """A name in its box, with a thin line from its place where that is far."""
     box, anchor, _ = spot
     near = nearest(box, anchor)
     line = f'<path class="lead" d="M{pair(anchor)}L{pair(near)}"/>' if math.dist(anchor, near) > 12 else ""
     text = f'<text class="name" x="{px(box[0] + 2)}" y="{px(box[3] - 4)}">{clean(name)}</text>'
-    return f'<g class="{colour(number)}">{line}{text}</g>'
+    return f'<g class="{kind}">{line}{text}</g>'

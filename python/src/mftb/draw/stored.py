@@ -78,9 +78,9 @@ class Stored:
         begin, end = ((moment - self.start) / 1000 for moment in (self.first, self.last))
         # A name that no line can hold is passed over.
         lines = [f"trajectory {name}" for name in shown.names if not {"\n", "\r"} & {*name}]
-        for file, row, number, *ends in self.legs_of(lines):
+        for file, row, number, x, y, u, v in self.legs_of(lines):
             if float(row[1]) <= end and float(row[2]) >= begin:
-                for one, two in shown.pieces(file, row, number, ends[:2], ends[2:]):
+                for one, two in shown.pieces(file, row, number, (x, y), (u, v)):
                     every.add(*one)
                     every.add(*two)
         return every.corners()

@@ -126,13 +126,15 @@ def asked(view: View, box: Sequence[float]) -> str:
 # Beside the plot and below it
 
 
-def key(labels: Sequence[str], box: Sequence[float] | None, kind: str) -> list[str]:
-    """The list beside the plot: what is grey, what was asked for, and the features."""
+def key(labels: Sequence[str], box: Sequence[float] | None, kind: str, has_zones: bool = False) -> list[str]:
+    """The list beside the plot: what is grey, what was asked for, zones, and the features."""
     rows = [f'<path class="leg" d="M0 -4h24"/><text x="32">legs of the {kind}</text>']
     if box:
         flat = box[0] == box[2] or box[1] == box[3]
         sign = '<path class="flat" d="M0 -4h24"/>' if flat else '<rect class="box" y="-10" width="24" height="12"/>'
         rows.append(f'{sign}<text x="32">the {"line" if flat else "rectangle"} asked for</text>')
+    if has_zones:
+        rows.append('<rect class="zone" y="-10" width="24" height="12"/><text x="32">zones</text>')
     for number, name in enumerate(labels[:ROWS]):
         line = f'<path class="hit" d="M0 -4h24"{dash(number)}/>'
         rows.append(f'<g class="{colour(number)}">{line}<text x="32">{clean(name)}</text></g>')

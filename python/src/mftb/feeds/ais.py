@@ -104,7 +104,8 @@ class Reports:
         except ValueError:
             what = f"{self.header[self.at]} {row[self.at]!r}"
             raise texts.BadLine(f"{what} is no instant of the form {self.form}") from None
-        place = texts.degrees(*self.place_of(row), [self.header[axis] for axis in self.axes])
+        x, y = self.place_of(row)
+        place = texts.degrees(x, y, [self.header[axis] for axis in self.axes])
         return Position(self.features[row[self.mmsi]], when, place, self.values.of(row))
 
     def many(self, rows: list[list[str]]) -> list[Item] | None:

@@ -68,8 +68,8 @@ def pairs(text: str) -> list[tuple[str, str]]:
 class Words(argparse.ArgumentParser):
     """A parser whose options say further what follows from them."""
 
-    def parse_args(self, *words: Any) -> argparse.Namespace:
-        options = super().parse_args(*words)
+    def parse_args(self, *words: Any) -> argparse.Namespace:  # type: ignore[override]
+        options: argparse.Namespace = super().parse_args(*words)
         options.most = speed(options.max_speed)
         options.usual = speed(options.usual_speed)
         options.dimension, options.in_degrees = "2D", True

@@ -26,7 +26,7 @@ from argparse import Namespace
 from collections import Counter
 from collections.abc import Callable, Iterable, Iterator, Mapping
 from itertools import islice
-from typing import TextIO, TypeAlias
+from typing import Any, TextIO, TypeAlias
 
 from mftb.commands import ended, say
 from mftb.feeds import seams
@@ -55,7 +55,8 @@ class Spool:
     """Positions in a temporary file, in the order in which they came, and their bounds."""
 
     def __init__(self) -> None:
-        self.file, self.sizes, self.bounds = tempfile.TemporaryFile(), [], Bounds()
+        self.file, self.bounds = tempfile.TemporaryFile(), Bounds()
+        self.sizes: list[int] = []
 
     def add(self, batch: Batch) -> None:
         """Keeps the positions of a batch."""
@@ -97,12 +98,14 @@ class Feed:
     ) -> None:
         self.tool, self.reader, self.options, self.quiet = tool, reader, options, quiet
         self.begins, self.sieve = begins, Sieve(options, begins)
-        self.counts, self.spool = Counter(), Spool()
+        self.counts: Counter[str] = Counter()
+        self.spool = Spool()
         self.bounds = self.spool.bounds
         self.lines, self.features, self.bad = 0, 0, 0
         # The last moment so far, and the first feature that goes back in time.
-        self.latest, self.disorder = -math.inf, None
-        self.ordered, self.written = self.spool, 0
+        self.latest, self.disorder = -math.inf, ""
+        self.ordered: Iterable[Plain] = self.spool
+        self.written = 0
         self.legs = Legs(options, self.counts, begins)
 
     def survey(self) -> None:
@@ -145,6 +148,11 @@ class Feed:
         elif self.bad == NAMED + 1:
             self.say("further lines that cannot be read are only counted")
         self.counts["that cannot be read"] += 1
+
+    @property
+    def status(self) -> int:
+        """That of a conversion that ended well."""
+        return 0
 
     def say(self, what: object) -> None:
         if not self.quiet:
@@ -197,6 +205,14 @@ class Feed:
 
 # Legs
 
+# The last position of a feature that was kept, whether that is in a leg, and its x and y.
+Last: TypeAlias = tuple[Plain, bool, float, float]
+
+
+def last_of(begin: Position) -> Last:
+    """Where a feature ended before, in a leg."""
+    return begin, True, float(begin.place[0]), float(begin.place[1])
+
 
 class Legs:
     """Makes the legs of positions, where each feature's come in time order: pairs of positions.
@@ -212,16 +228,18 @@ class Legs:
         self.speed = Speed(options.most or options.usual, options.in_degrees)
         self.is_over = over_date_line if options.in_degrees else lambda one, two: False
         # Of each feature the last position that was kept, whether that is in a leg, and its x and y.
-        self.last = {name: (begin, True, *map(float, begin.place[:2])) for name, begin in begins.items()}
+        self.last: dict[str, Last] = {name: last_of(begin) for name, begin in begins.items()}
         # Of a feature whose first position is in no leg, one that was too fast from there.
-        self.doubts = {}
+        self.doubts: dict[str, Plain] = {}
 
     def ends(self) -> dict[str, Position]:
         """Where each feature ended."""
         return {name: position_of(end) for name, (end, *_) in self.last.items()}
 
     def of(self, positions: Iterable[Plain]) -> Iterator[tuple[Plain, Plain]]:
-        last, gap, nothing = self.last, self.gap, (None, True, 0.0, 0.0)
+        last, gap = self.last, self.gap
+        nothing: tuple[Any, bool, float, float] = (None, True, 0.0, 0.0)
+        before: Plain | None
         is_over, exceeded, glance = self.is_over, self.speed.exceeded, self.speed.glance
         for here in positions:
             feature, moment, place, _, segment = here
@@ -248,13 +266,13 @@ class Legs:
 
     def is_repeated(self, before: Plain, here: Plain) -> bool:
         """Counts why there is no leg between two positions; whether it is a repeated instant."""
-        before, here = position_of(before), position_of(here)
-        if before.segment != here.segment:
+        one, two = position_of(before), position_of(here)
+        if one.segment != two.segment:
             self.counts["between segments"] += 1
-        elif before.moment == here.moment:
+        elif one.moment == two.moment:
             self.counts["with a repeated instant"] += 1
             return True
-        elif here.moment - before.moment > self.gap:
+        elif two.moment - one.moment > self.gap:
             self.counts["gaps"] += 1
         else:
             self.counts["over the date line"] += 1
@@ -278,8 +296,8 @@ class Legs:
             self.doubts[feature] = here
         return None
 
-    def agree(self, one: Plain, two: Plain) -> bool:
-        one, two = position_of(one), position_of(two)
+    def agree(self, before: Plain, here: Plain) -> bool:
+        one, two = position_of(before), position_of(here)
         near = 0 < two.moment - one.moment <= self.gap and one.segment == two.segment
         apart = self.is_over(one.place[0], two.place[0]) or self.speed.exceeded(one, two)
         return near and not apart
@@ -304,12 +322,12 @@ def write(out: TextIO, feed: Feed) -> None:
     names = [text for pair in options.written for text in pair]
     for line in head, ["@columns", "mfidref", "trajectory", *names]:
         out.write(",".join(map(field, line)) + "\n")
-    legs, names, times, more = kept_legs(feed), Known(field), Known(seconds), Known(further_fields)
+    legs, known, times, more = kept_legs(feed), Known(field), Known(seconds), Known(further_fields)
     while found := list(islice(legs, BATCH)):
         feed.written += len(found)
         # A leg's times count from `start`.
         lines = [
-            f"{names[name]},{times[begin - start]},{times[two[1] - start]},{' '.join(place + two[2])}{more[values]}\n"
+            f"{known[name]},{times[begin - start]},{times[two[1] - start]},{' '.join(place + two[2])}{more[values]}\n"
             for (name, begin, place, values, _), two in found
         ]
         out.write("".join(lines))
@@ -337,6 +355,7 @@ def save(feed: Feed) -> None:
     with contextlib.ExitStack() as files:
         # What is entered last gets its name first: a state never stands for legs that do not.
         state = files.enter_context(beside(options.state)) if options.state else None
+        out: TextIO
         if options.output in (None, "-"):
             out = io.TextIOWrapper(sys.stdout.buffer, encoding="utf-8", newline="\n")
         else:
@@ -417,10 +436,10 @@ def run(tool: str, options: Namespace, reader: Reader, unit: str = "line") -> in
     if wrong:
         say(tool, wrong)
         return 2
-    return ended(tool, lambda: convert(tool, options, reader) and 0, "stopped; no file is written")
+    return ended(tool, lambda: convert(tool, options, reader).status, "stopped; no file is written")
 
 
-def convert(tool: str, options: Namespace, reader: Reader) -> None:
+def convert(tool: str, options: Namespace, reader: Reader) -> Feed:
     """Reads the files, writes the legs, and says what was made; gives what was seen."""
     # Batches are many objects and few cycles.
     gc.set_threshold(100_000, 50, 100)
@@ -428,7 +447,8 @@ def convert(tool: str, options: Namespace, reader: Reader) -> None:
     feed = Feed(tool, reader, options, begins_of(tool, reader, options))
     feed.survey()
     save(feed)
-    for said in filter(None, (remark() for remark in options.remarks)):
+    remarks: Iterator[str | None] = (remark() for remark in options.remarks)
+    for said in filter(None, remarks):
         say(tool, said)
     if not feed.written:
         say(tool, f"no leg is made: {why_no_leg(feed)}")

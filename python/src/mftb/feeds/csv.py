@@ -46,7 +46,7 @@ def layout(table: layouts.Table, options: Namespace, clock: layouts.Clock) -> Ro
             raise texts.BadLine(f"{time} {row[at]!r} is no moment: {why}") from None
         place = tuple([layouts.plain_number(row[it], table.header[it], comma) for it in (x, y)])
         if options.in_degrees:
-            place = texts.degrees(*place, axes)
+            place = texts.degrees(place[0], place[1], axes)
         if z is not None:
             place += (layouts.plain_number(row[z], table.header[z], comma),)
         place = tuple([texts.plain_decimal(text, "a coordinate") for text in place])

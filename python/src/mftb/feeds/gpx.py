@@ -9,7 +9,7 @@ from argparse import Namespace
 from collections import Counter
 from collections.abc import Iterator, Sequence
 from pathlib import Path
-from typing import BinaryIO
+from typing import IO
 from xml.parsers import expat
 
 from mftb import sources, texts
@@ -34,7 +34,8 @@ class Tracks:
     """The names of the tracks of all files, and the number of segments so far."""
 
     def __init__(self, options: Namespace) -> None:
-        self.options, self.taken, self.segments = options, Counter(), 0
+        self.options, self.segments = options, 0
+        self.taken: Counter[str] = Counter()
 
     def name(self, given: str, path: str, number: int) -> str:
         """The feature's name of a track, the file's `number`th."""
@@ -61,10 +62,13 @@ class File:
     """What is read of one file: after each piece, `found` has the points that ended in it."""
 
     def __init__(self, path: str, tracks: Tracks) -> None:
-        self.path, self.tracks, self.found = path, tracks, []
-        self.place, self.text = "", []
-        self.number, self.track, self.feature = 0, {}, None
-        self.point, self.line = {}, 0
+        self.path, self.tracks = path, tracks
+        self.found: list[tuple[int, Item]] = []
+        self.place, self.number, self.line = "", 0, 0
+        self.text: list[str] = []
+        self.track: dict[str, str] = {}
+        self.point: dict[str, str] = {}
+        self.feature: str | None = None
         self.parser = expat.ParserCreate(namespace_separator=" ")
         self.parser.buffer_text = True
         self.parser.StartElementHandler = self.start
@@ -124,7 +128,7 @@ class File:
         for name in names:
             if name in self.point or name in self.track:
                 self.tracks.options.kept.missing.discard(names[0])
-                return self.point.get(name, self.track.get(name))
+                return self.point.get(name, self.track.get(name, ""))
         return ""
 
     def own(self, name: str) -> str:
@@ -162,7 +166,7 @@ def read(path: str, tracks: Tracks, judge: Judge) -> Iterator[Batch]:
         file.parse(b"")
 
 
-def skip_blanks(source: BinaryIO) -> bytes:
+def skip_blanks(source: IO[bytes]) -> bytes:
     """The first piece that has more than blanks; nothing where there is none."""
     piece = source.read(1 << 16)
     while piece and not piece.strip(BLANKS):

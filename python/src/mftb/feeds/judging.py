@@ -27,7 +27,7 @@ class Position(NamedTuple):
     segment: int = 0
 
 
-position_of = partial(tuple.__new__, Position)
+position_of: Any = partial(tuple.__new__, Position)
 
 
 # A position as it is read, kept and made into legs: a plain tuple of its fields is as good, and faster.
@@ -43,21 +43,24 @@ class Bounds:
     """The first and the last moment of positions, and the corners of their places."""
 
     def __init__(self) -> None:
-        self.first = self.last = None
-        self.low, self.high = [], []
+        # Nothing is bounded so far.
+        self.first, self.last = 0, 0
+        self.low: list[str] = []
+        self.high: list[str] = []
 
     def join(self, others: Bounds) -> None:
         """Takes in what later positions are bounded by."""
-        if others.first is not None:
+        if others.low:
             self.cover([("", others.first, tuple(others.low)), ("", others.last, tuple(others.high))])
 
     def cover(self, positions: Sequence[tuple]) -> None:
         """Takes positions in, which are tuples; there is at least one."""
         moments = [it[1] for it in positions]
-        moments += [] if self.first is None else [self.first, self.last]
+        moments += [self.first, self.last] if self.low else []
         self.first, self.last = min(moments), max(moments)
         axes = [(texts, list(map(float, texts))) for texts in zip(*[it[2] for it in positions])]
-        lows, highs = (self.low, self.high) if self.low else ([None] * len(axes),) * 2
+        none: list[str | None] = [None] * len(axes)
+        lows, highs = self.low or none, self.high or none
         self.low = [corner(*axis, min, end) for axis, end in zip(axes, lows)]
         self.high = [corner(*axis, max, end) for axis, end in zip(axes, highs)]
 
@@ -95,22 +98,22 @@ class Sieve:
         options = self.options
         if isinstance(item, Exception):
             return item
-        item = position_of(item)
+        found = position_of(item)
         if options.prefix is not None:
             try:
-                item = item._replace(feature=feature_name(options.prefix + item.feature, "the name with --prefix"))
+                found = found._replace(feature=feature_name(options.prefix + found.feature, "the name with --prefix"))
             except BadLine as why:
                 return why
-        if options.start is not None and item.moment < options.start:
+        if options.start is not None and found.moment < options.start:
             return LeftOut("before --from")
-        if options.end is not None and item.moment > options.end:
+        if options.end is not None and found.moment > options.end:
             return LeftOut("after --to")
         if options.source is not None:
-            item = item._replace(values=(*item.values, f"{path}:{line}"))
-        begin = self.begins.get(item.feature)
-        if begin is None or item.moment > begin.moment:
-            return item
-        self.note(item.feature, item.moment, item.moment)
+            found = found._replace(values=(*found.values, f"{path}:{line}"))
+        begin = self.begins.get(found.feature)
+        if begin is None or found.moment > begin.moment:
+            return found
+        self.note(found.feature, found.moment, found.moment)
         return LeftOut(f"not later than {options.before}")
 
     def note(self, feature: str, first: int, last: int) -> None:
@@ -152,7 +155,7 @@ class Batch:
     early: dict[str, tuple[int, int]]
 
 
-def judge(lines: Sequence[int], items: list[Item]) -> Batch:
+def judge(lines: Sequence[int], items: list[Any]) -> Batch:
     """What the items of lines hold."""
     are_kept = [isinstance(item, tuple) for item in items]
     kept, numbers = list(compress(items, are_kept)), list(compress(lines, are_kept))

@@ -105,7 +105,7 @@ def moment(text: str, what: str, midnight: bool) -> int:
     try:
         if text[4:5] + text[7:8] + text[10:11] == "-- " and len(text) in (19, 23):
             return texts.moment((text[:4], text[5:7], text[8:10]), text[11:])
-        return (texts.instant_or_day if midnight else texts.read_instant)(text)
+        return texts.instant_or_day(text) if midnight else texts.read_instant(text)
     except ValueError:
         day = texts.DAY.fullmatch(text) and not midnight
         raise texts.BadLine(

@@ -40,7 +40,7 @@ def read_state(path: str, options: Namespace) -> Iterator[End]:
     try:
         with opened(path) as raw:
             state = json.loads(raw.read().decode())
-        agree(path, options, state["crs"], state["dimension"], map(tuple, state["columns"]))
+        agree(path, options, state["crs"], state["dimension"], ((name, kind) for name, kind in state["columns"]))
         for name, (moment, place, values) in state["features"].items():
             yield name, read_instant(moment), coordinates(place), tuple(map(str, values))
     except (ValueError, KeyError, TypeError, AttributeError, BadLine):
@@ -49,7 +49,8 @@ def read_state(path: str, options: Namespace) -> Iterator[End]:
 
 def read_legs(path: str, options: Namespace) -> Iterator[End]:
     """The last position of each feature of a file of legs."""
-    file, ends = LegFile(path), {}
+    file = LegFile(path)
+    ends: dict[str, tuple[int, tuple[str, ...], tuple[str, ...]]] = {}
     for name, _, last, trajectory, *values in file:
         try:
             moment = file.milliseconds(last)
@@ -66,7 +67,8 @@ def read_legs(path: str, options: Namespace) -> Iterator[End]:
 
 def read_store(path: str, options: Namespace) -> Iterator[tuple]:
     """The last position of each feature of a store: where its last leg ends."""
-    store, ends = Store(getattr(options, "program", None), path), {}
+    store = Store(getattr(options, "program", None), path)
+    ends: dict[str, tuple[int, tuple[str, ...], tuple[str, ...]]] = {}
     store.read_info()
     agree(path, options, store.crs, f"{store.dimension}D", store.columns)
     if not store.extent:
@@ -77,7 +79,7 @@ def read_store(path: str, options: Namespace) -> Iterator[tuple]:
         script.flush()
         out, _ = store.run(script.name, words=("-q", "--existing"))
         with out:
-            for row in store.rows(out, script.name):
+            for row in filter(None, store.rows(out, script.name)):
                 moment = read_instant(row.end)
                 if row.feature not in ends or ends[row.feature][0] < moment:
                     ends[row.feature] = moment, tuple(row.places[-1]), row.values

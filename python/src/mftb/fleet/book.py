@@ -2,7 +2,6 @@
 
 from __future__ import annotations
 
-import csv
 import os
 import re
 import subprocess
@@ -10,18 +9,16 @@ import sys
 import tempfile
 from collections.abc import Callable, Sequence
 from concurrent.futures import ThreadPoolExecutor
-from fractions import Fraction
 from pathlib import Path as FilePath
 from typing import TypeVar
 
-from mftb import errors, lines, runs
+from mftb import errors, lines, moments, runs
 from mftb.fleet import manifest
-from mftb.forms import LoadForm, exact
+from mftb.forms import LoadForm
 from mftb.lines import Path, Period
-from mftb.moments import rows_of
 from mftb.records import Info, Loaded, Report
 from mftb.store import Book, Store
-from mftb.zones import Zones
+from mftb.zones import NAMELESS, Asked, Words, Zones
 
 Value = TypeVar("Value")
 SOURCE = str(FilePath(__file__).resolve().parents[2])
@@ -81,7 +78,13 @@ class Fleet(Book):
         return Report(legs, features, pages)
 
     def page(
-        self, file: Path, *, rectangles: Zones | None = None, title: str | None = None, period: Period | None = None
+        self,
+        file: Path,
+        *,
+        rectangles: Zones | None = None,
+        zones: Zones | None = None,
+        title: str | None = None,
+        period: Period | None = None,
     ) -> str:
         """Writes a page of all parts, by way of one store of them."""
         with tempfile.TemporaryDirectory(prefix="mftb-") as folder:
@@ -89,7 +92,7 @@ class Fleet(Book):
             whole = Store(FilePath(folder, "whole"), program=self.program)
             whole.load(FilePath(folder, "all.csv"))
             title = title or FilePath(self.path).name
-            return whole.page(file, rectangles=rectangles, title=title, period=period)
+            return whole.page(file, rectangles=rectangles, zones=zones, title=title, period=period)
 
     def _each(self, work: Callable[[Store], Value]) -> list[Value]:
         """What is made of each part, some at once."""
@@ -119,20 +122,13 @@ class Fleet(Book):
             raise error_of(said.status, "", said.text)
         return said.text
 
-    def _moment_records(self, flags: list[str], words: list[str]) -> tuple[list[str], runs.Printed]:
+    def _told(self, words: Words, given: Asked) -> tuple[list[str], runs.Printed]:
         """The records of all parts, by their first moment and then by feature."""
-        found = self._each(lambda part: part._moment_records(flags, words))
+        found = self._each(lambda part: part._told(words, given))
         names = found[0][0]
-        rows = [row for _, printed in found for row in rows_of(printed)]
-        if "enters" in names:
-            place = names.index("enters"), names.index("feature")
-            rows.sort(key=lambda row: (exact(row[place[0]], Fraction(0)), row[place[1]]))
-        else:
-            rows.sort()
-        spool = runs.Spool()
-        with open(spool.path, "w", encoding="utf-8", newline="") as out:
-            csv.writer(out, lineterminator="\n").writerows(rows)
-        return names, runs.Printed(spool, 0, len(rows))
+        rows = [row for _, printed in found for row in moments.rows_of(printed)]
+        zones = [name or NAMELESS for name in given.names()]
+        return names, moments.printed(moments.in_order(zones, names, rows))
 
 
 SUMMED = ("legs", "features", "most_legs", "most_features", "pages", "bytes")

@@ -13,19 +13,19 @@ import os
 import shutil
 import subprocess
 import sys
-import tempfile
 from argparse import Namespace
-from collections.abc import Callable, Iterable, Iterator, Sequence
-from contextlib import contextmanager
+from collections.abc import Callable, Iterable, Sequence
 from pathlib import Path
 from typing import TypeAlias
 
 import mftb_fleetpart as fleetpart
 from mftb.commands import example
-from mftb.fleet import crew, manifest, merging
-from mftb.program import NAMING, find
+from mftb.fleet import crew, inside, manifest, merging
+from mftb.fleet.parts import parts_of
+from mftb.program import NAMING
 from mftb.texts import Refused, several
 
+Work: TypeAlias = Callable[[Namespace], int | None]
 Workers: TypeAlias = crew.Here | crew.There
 MOST_PARTS = 10_000
 # The faults of records and limits; each other code is a fault of the text.
@@ -33,16 +33,8 @@ JOINING = {"F9", "F10", "F18", "F19", "F20"}
 EXAMPLE = """example:
   tools/fleet new ships --parts 4
   tools/fleet load ships monday.csv tuesday.csv
-  tools/fleet ask ships script.txt > answers.txt"""
-
-
-@contextmanager
-def parts_of(folder: str | Path, held: list[manifest.Held], options: Namespace) -> Iterator[list[fleetpart.Part]]:
-    """The parts of a fleet, with a folder for what does not last."""
-    folder, program = os.path.abspath(folder), find(options.program)
-    with tempfile.TemporaryDirectory(prefix="work-", dir=folder, ignore_cleanup_errors=True) as work:
-        stores = [os.path.join(folder, one.store) for one in held]
-        yield [fleetpart.Part(number, len(held), store, work, program) for number, store in enumerate(stores)]
+  tools/fleet ask ships script.txt > answers.txt
+  tools/fleet moments ships --visits -70.02 43.5 -70.01 43.5 2024-06-03T09:00:00Z 2024-06-03T10:00:00Z"""
 
 
 def new(options: Namespace) -> None:
@@ -154,7 +146,7 @@ def ask(options: Namespace) -> None:
     with manifest.asking(options.folder):
         held = manifest.read(options.folder).parts
         goes = [asked_of(line, len(held)) for line in lines]
-        scripts = [[] for _ in held]
+        scripts: list[list[bytes]] = [[] for _ in held]
         for line, numbers in zip(lines, goes):
             for number in numbers:
                 scripts[number].append(line)
@@ -168,7 +160,7 @@ def ask(options: Namespace) -> None:
 def print_answers(lines: Iterable[tuple[bytes, Sequence[int]]], numbers: list[int], given: list) -> None:
     """Prints the answer to each line, which goes to some of the parts; what those with these numbers said is given."""
     places = {number: place for place, number in enumerate(numbers)}
-    with merging.opened(*map(list, zip(*given))) if given else merging.opened([], []) as asked:
+    with merging.opened([answers for answers, _ in given], [path for _, path in given]) as asked:
         for line, goes in lines:
             said, streams = asked.next_of([places[number] for number in goes])
             merging.put_together(fleetpart.words_of(line)[0], said, streams, sys.stdout.buffer)
@@ -225,39 +217,55 @@ def count_of(most: int) -> Callable[[str], int]:
     return read
 
 
+WORKS: dict[str, Work] = {
+    "new": new,
+    "load": load,
+    "ask": ask,
+    "moments": inside.moments_of,
+    "zones": inside.zones_of,
+    "check": check,
+    "status": status,
+}
+
+
 def words() -> argparse.ArgumentParser:
     """The words of the command line."""
     form = argparse.RawDescriptionHelpFormatter
     parser = argparse.ArgumentParser(description=__doc__, epilog=example(EXAMPLE), formatter_class=form)
     commands = parser.add_subparsers(metavar="COMMAND", required=True)
-    for work in (new, load, ask, check, status):
-        command = commands.add_parser(work.__name__, help=work.__doc__, description=work.__doc__)
+    for name, work in WORKS.items():
+        command = commands.add_parser(name, help=work.__doc__, description=work.__doc__)
         command.set_defaults(work=work)
         command.add_argument("folder", metavar="DIR", help="the folder of the fleet")
-        if work is new:
-            command.add_argument(
-                "--parts", type=count_of(MOST_PARTS), required=True, metavar="N", help="how many parts"
-            )
-        if work is load:
-            command.add_argument("files", nargs="+", metavar="FILE", help="a file of moving features")
-        if work is ask:
-            command.add_argument("script", metavar="SCRIPT", help="a file of questions (docs/user/SCRIPT.md)")
-        if work in (load, ask, check):
+        add_words(command, name)
+        if name not in ("new", "status"):
             command.add_argument(
                 "--scheduler", metavar="ADDRESS", help="a Dask cluster, as tcp://host:8786, in place of this machine"
             )
             command.add_argument(
                 "--workers", type=count_of(1000), metavar="N", help="how many parts at once here; else one a processor"
             )
-        if work is not status:
+        if name != "status":
             command.add_argument("--program", metavar="FILE", help=NAMING)
     return parser
+
+
+def add_words(command: argparse.ArgumentParser, name: str) -> None:
+    """The words that only one command takes."""
+    if name == "new":
+        command.add_argument("--parts", type=count_of(MOST_PARTS), required=True, metavar="N", help="how many parts")
+    elif name == "load":
+        command.add_argument("files", nargs="+", metavar="FILE", help="a file of moving features")
+    elif name == "ask":
+        command.add_argument("script", metavar="SCRIPT", help="a file of questions (docs/user/SCRIPT.md)")
+    elif name in inside.KINDS:
+        inside.add_words(command, name)
 
 
 def main() -> None:
     options = words().parse_args()
     try:
-        options.work(options)
+        sys.exit(options.work(options))
     except (Refused, fleetpart.Fault) as fault:
         sys.exit(f"fleet: {fault}")
     except BrokenPipeError:

@@ -99,8 +99,11 @@ class Progress:
 
     def __init__(self, crew: Here | There, title: str, count: int) -> None:
         self.crew, self.title, self.count = crew, title, count
-        self.bar, self.begun, self.took = sys.stderr.isatty(), time.monotonic(), []
-        self.slow, self.failed, self.workers = set(), {}, set()
+        self.bar, self.begun = sys.stderr.isatty(), time.monotonic()
+        self.took: list[float] = []
+        self.slow: set[int] = set()
+        self.failed: dict[int, BaseException] = {}
+        self.workers: set[str] = set()
 
     def say(self, text: str) -> None:
         print(("\r\033[K" if self.bar else "") + f"fleet: {text}", file=sys.stderr)
@@ -145,10 +148,11 @@ def gather(crew: Here | There, title: str, task: Callable, jobs: Sequence[tuple]
     """What a task gives for each job, whose words begin with a part. Refused where a part fails, when all ended."""
     futures = [crew.submit(task, *job) for job in jobs]
     numbers = {id(future): job[0].number for future, job in zip(futures, jobs)}
-    ended, waiting = queue.SimpleQueue(), set(numbers.values())
+    ended: queue.SimpleQueue[Any] = queue.SimpleQueue()
+    waiting = set(numbers.values())
     for future in futures:
         future.add_done_callback(ended.put)
-    progress, looked = Progress(crew, title, len(jobs)), 0
+    progress, looked = Progress(crew, title, len(jobs)), 0.0
     while waiting:
         if time.monotonic() - looked > STEP:
             progress.look(waiting)

@@ -84,7 +84,7 @@ def need_names(folder: Folder, said: dict[str, Any]) -> None:
 def is_held(held: Held) -> bool:
     """Whether what is said of a part can be so."""
     counts = all(type(count) is int and count >= 0 for count in held[1:])
-    return isinstance(held.store, str) and STORE.fullmatch(held.store) and counts
+    return isinstance(held.store, str) and bool(STORE.fullmatch(held.store)) and counts
 
 
 def write(folder: Folder, manifest: Manifest) -> None:

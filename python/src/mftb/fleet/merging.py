@@ -33,7 +33,7 @@ class Asked:
 def lines(file: BinaryIO, said: Said) -> Iterator[bytes]:
     """The lines of an answer."""
     file.seek(said.place)
-    return islice(file, said.count)
+    return islice(file, said.others)
 
 
 @contextmanager
@@ -61,7 +61,7 @@ def put_together(word: str, said: list[Said], streams: list[Iterator[bytes]], ou
         first = [",".join(map(str, sums)).encode()]
     elif word == "write":
         first = head_of(said)
-    count = len(first) + sum(one.count for one in said)
+    count = len(first) + sum(one.others for one in said)
     out.write(b"ok %d\n" % count)
     out.writelines(text + b"\n" for text in first)
     out.writelines(text_of(line) + b"\n" for line in heapq.merge(*streams))
@@ -72,7 +72,7 @@ def head_of(said: list[Said]) -> list[bytes]:
     if len({one.first[1] for one in said}) > 1:
         raise Refused("parts do not agree on their columns; is each loaded with the same files?")
     heads = [fields(one.first[0]) for one in said]
-    loaded = [head for head, one in zip(heads, said) if one.count] or heads
+    loaded = [head for head, one in zip(heads, said) if one.others] or heads
     whole = list(heads[0])
     whole[LOW] = corner((head[LOW] for head in loaded), min)
     whole[HIGH] = corner((head[HIGH] for head in loaded), max)

@@ -21,13 +21,13 @@ from typing import NamedTuple
 class Column(NamedTuple):
     """The shape of a column, and its planes of bytes."""
 
-    count: int
+    length: int
     unit: int
     planes: list[bytes]
 
     def shape(self) -> list[int]:
         """What the page is told: how many numbers, their unit, and how many planes."""
-        return [self.count, self.unit, len(self.planes)]
+        return [self.length, self.unit, len(self.planes)]
 
 
 def packed(numbers: array[int]) -> Column:

@@ -7,18 +7,18 @@ when it was there, and its attributes.
 
 import argparse
 import os
-import re
 from pathlib import Path
 
-from mftb import texts
+from mftb import rectangles, texts, zonefiles
 from mftb.commands import ended, example, say
 from mftb.legfiles import beside
-from mftb.page import layers, reading, zones
+from mftb.page import layers, reading
 from mftb.page.data import Legs
-from mftb.page.layers import Layer, Rectangle, Wanted
+from mftb.page.layers import Layer, Wanted
 from mftb.page.reading import Period
 from mftb.page.writing import Page, write
 from mftb.program import NAMING
+from mftb.rectangles import Rectangle, checked
 
 EXAMPLE = """example:
   tools/page harbour.mftb --rect mouth=-60.3,0,60.3,0 -o map.html
@@ -30,29 +30,7 @@ the exact moment of each crossing. An answer is what mftb run printed (legs, box
 features), or mftb moments (--visits too). Of several answers the first one is shown, and the page's
 list shows the others. Zones are CSV with the columns name and wkt: POLYGON, MULTIPOLYGON or
 LINESTRING. Open the page from its file, in a browser of 2023 or later. This tool is no part of any proof."""
-RECTANGLE = re.compile(r"(?:(.*)=)?([^=]*)", re.S)
 FAILED = 2
-
-
-def rectangle(text: str) -> Rectangle:
-    """A rectangle as --rect takes it."""
-    found = RECTANGLE.fullmatch(text)
-    assert found
-    sides = tuple(side.strip() for side in found[2].split(","))
-    if len(sides) != 4:
-        raise argparse.ArgumentTypeError(f"{text!r} is not NAME=X1,Y1,X2,Y2")
-    return checked(Rectangle((found[1] or "").strip(), sides))
-
-
-def checked(given: Rectangle) -> Rectangle:
-    """A rectangle whose sides are numbers in their order."""
-    for side in given.sides:
-        if not texts.PLAIN_DECIMAL.fullmatch(side):
-            raise argparse.ArgumentTypeError(f"{side!r} is no plain decimal")
-    left, bottom, right, top = map(float, given.sides)
-    if left > right or bottom > top:
-        raise argparse.ArgumentTypeError("X1 is above X2, or Y1 above Y2")
-    return given
 
 
 def words() -> argparse.ArgumentParser:
@@ -79,14 +57,7 @@ def words() -> argparse.ArgumentParser:
 
 def add_places(parser: argparse.ArgumentParser) -> None:
     """The words that name places."""
-    parser.add_argument(
-        "--rect",
-        action="append",
-        default=[],
-        type=rectangle,
-        metavar="NAME=X1,Y1,X2,Y2",
-        help="a rectangle, and the crossings of its edges; without width or height it is a line",
-    )
+    rectangles.add_words(parser, ", and the crossings of its edges; without width or height it is a line")
     parser.add_argument(
         "--box",
         action="append",
@@ -95,7 +66,6 @@ def add_places(parser: argparse.ArgumentParser) -> None:
         metavar=("X1", "Y1", "X2", "Y2"),
         help="a rectangle without a name",
     )
-    parser.add_argument("--zones", action="append", default=[], metavar="FILE", help="zones: CSV with name and wkt")
 
 
 def add_answers(parser: argparse.ArgumentParser) -> None:
@@ -122,8 +92,9 @@ def page_of(options: argparse.Namespace) -> Page:
     legs = reading.read(options.store, options.program, period)
     title = options.title or Path(options.store).name
     page = Page(title, legs, label=label_of(options.label, legs), units=options.units)
-    page.zones = [zone for path in options.zones for zone in zones.read(path)]
-    page.rectangles = [named(it, place) for place, it in enumerate(options.rect, 1)]
+    page.zones = [zone for path in options.zones for zone in zonefiles.read(path)]
+    given = [*options.rect, *(one for path in options.rects for one in rectangles.read(path))]
+    page.rectangles = [named(it, place) for place, it in enumerate(given, 1)]
     wanted = Wanted(options.script, options.question)
     for path in options.answers:
         page.layers += layers.read(path, legs, wanted)

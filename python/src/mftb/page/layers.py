@@ -18,17 +18,11 @@ from mftb import answers
 from mftb.page.data import Legs
 from mftb.page.reading import Period, units
 from mftb.program import find
+from mftb.rectangles import Rectangle
 from mftb.sources import as_text, opened
 from mftb.texts import Refused, instant, several
 
 MOMENTS = re.compile(r'^"?(?:zone"?,"?)?feature"?,')
-
-
-class Rectangle(NamedTuple):
-    """A rectangle that is shown: its name, and its sides as the texts that were given."""
-
-    name: str
-    sides: tuple[str, ...]
 
 
 class Span(NamedTuple):

@@ -5,7 +5,6 @@ import os
 import subprocess
 import tempfile
 from collections.abc import Iterable, Iterator
-from decimal import Decimal
 from io import TextIOWrapper
 from itertools import chain
 from typing import NamedTuple
@@ -114,9 +113,3 @@ def units(text: str) -> int:
 def milliseconds(text: str) -> int:
     """An offset in seconds, as milliseconds; as exact as `units`, for the same reason."""
     return round(float(text) * 1000)
-
-
-def exact_units(text: str) -> int:
-    """Any plain decimal in units of 10^-7, rounded as the file format does."""
-    scaled = Decimal(text).scaleb(7)
-    return int(scaled.quantize(Decimal(1), rounding="ROUND_HALF_UP"))

@@ -11,8 +11,9 @@ from mftb.draw.plot import METRES, in_degrees, in_words
 from mftb.draw.svg import DARK, LIGHT
 from mftb.page.columns import Column, block, columns_block, packed
 from mftb.page.data import Legs
-from mftb.page.layers import Layer, Rectangle
-from mftb.page.zones import Zone
+from mftb.page.layers import Layer
+from mftb.rectangles import Rectangle
+from mftb.zonefiles import Zone
 
 FOLDER = Path(__file__).resolve().parent
 SCRIPTS = ["columns.js", "tracks.js", "view.js", "painting.js", "panel.js", "timeline.js", "page.js"]

@@ -9,10 +9,10 @@ import re
 from collections.abc import Iterator
 from contextlib import contextmanager
 from dataclasses import dataclass
+from typing import Any, TypeAlias
 
-from mftb.page.reading import exact_units
 from mftb.sources import as_text, opened
-from mftb.texts import GREATEST, PLAIN_DECIMAL, Refused
+from mftb.texts import GREATEST, PLAIN_DECIMAL, Refused, exact_units
 
 REASONS = {
     "Z1": "the text is not UTF-8",
@@ -30,7 +30,7 @@ DEPTHS = {"LINESTRING": 1, "POLYGON": 2, "MULTIPOLYGON": 3}
 
 Ring = list[int]
 # A list of positions or of such lists; a position is a list of texts.
-Nested = list
+Nested: TypeAlias = list[Any]
 
 
 class Fault(Exception):
@@ -69,6 +69,14 @@ def read(path: str) -> list[Zone]:
     return list(zones.values())
 
 
+def names(path: str) -> list[str]:
+    """The names in a file of zones or of rectangles, in its order, without a look at the shapes."""
+    with opened(path) as raw, long_fields():
+        head, *rows = csv.reader(as_text(raw))
+    place = [name.strip(" \t").lower() for name in head].index("name")
+    return [row[place].strip(" \t") for row in rows if place < len(row)]
+
+
 @contextmanager
 def long_fields() -> Iterator[None]:
     """Lets a field be as long as the WKT of a coast."""
@@ -95,10 +103,14 @@ def zone_of(row: list[str], columns: dict[str, int]) -> Zone:
         raise Fault("Z1") from None
     last = max(columns["name"], columns["wkt"])
     row = row + [""] * (last + 1 - len(row))
-    name = row[columns["name"]].strip(" \t")
+    return named_shape(row[columns["name"]].strip(" \t"), row[columns["wkt"]])
+
+
+def named_shape(name: str, text: str) -> Zone:
+    """Reads a shape that has a name."""
     if not name or len(name.encode()) > 255:
         raise Fault("Z3")
-    return shape(name, row[columns["wkt"]])
+    return shape(name, text)
 
 
 def shape(name: str, text: str) -> Zone:
