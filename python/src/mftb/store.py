@@ -262,7 +262,10 @@ class Store(Book):
 
     def _told(self, words: Words, given: Asked) -> tuple[list[str], runs.Printed]:
         spool = runs.Spool()
-        self._spooled([words.command, *words.before, *self._cache, self.path, *words.behind], spool)
+        said = self._spooled(
+            [words.command, *words.before, "--explain", *self._cache, self.path, *words.behind], spool
+        )
+        runs.hint(Told(said).rest)
         return runs.table(spool)
 
 
