@@ -11,8 +11,9 @@ from collections.abc import Callable, Iterable, Sequence
 from datetime import date
 from decimal import Decimal
 from functools import lru_cache
-from typing import Any
+from typing import Any, TypeVar
 
+Made = TypeVar("Made")
 NEEDS_QUOTES = re.compile('[",\r\n]')
 PLAIN_DECIMAL = re.compile(r"[+-]?(?:[0-9]+\.?[0-9]*|\.[0-9]+)")
 # A decimal with an exponent, as pandas writes small ones.
@@ -164,32 +165,18 @@ def read_instant(text: str) -> int:
     return moment(day, clock) + (offset if sign == "-" else -offset)
 
 
-class Known(dict[Any, str]):
+class Known(dict[Any, Made]):
     """What was made of texts or numbers that were met: of the last 20,000 or so."""
 
-    def __init__(self, make: Callable[[Any], str]) -> None:
+    def __init__(self, make: Callable[[Any], Made]) -> None:
         super().__init__()
         self.make = make
 
-    def __missing__(self, given: Any) -> str:
+    def __missing__(self, given: Any) -> Made:
         if len(self) >= 20_000:
             self.clear()
         self[given] = made = self.make(given)
         return made
-
-
-class Moments(dict[str, int]):
-    """The moments of texts that were met: of the last 20,000 or so."""
-
-    def __init__(self, read: Callable[[str], int]) -> None:
-        super().__init__()
-        self.read = read
-
-    def __missing__(self, text: str) -> int:
-        if len(self) >= 20_000:
-            self.clear()
-        self[text] = moment = self.read(text)
-        return moment
 
 
 class Clock:
@@ -201,7 +188,7 @@ class Clock:
     def __init__(self, read: Callable[[str], int]) -> None:
         self.read = read
         # Few seconds of a feed are new, since its lines are mostly in the order of time.
-        self.known = Moments(self.moment)
+        self.known = Known(self.moment)
         self.days: dict[str, int] = {}
         pairs = [f"{number:02}" for number in range(60)]
         self.minutes = {

@@ -191,8 +191,8 @@ def batch_of(
     # What stands first in time order is kept last.
     firsts = dict(zip(reversed(features), zip(reversed(moments), reversed(numbers))))
     disorder = None if moments == sorted(moments) else first_back(numbers, features, moments)
-    packed, lasts = marshal.dumps(columns, PLAIN), dict(zip(features, moments))
-    return Batch(len(numbers) + len(faults), lines[-1], len(numbers), packed, bounds, firsts, lasts, disorder, faults, {})
+    packed, lasts, count = marshal.dumps(columns, PLAIN), dict(zip(features, moments)), len(numbers)
+    return Batch(count + len(faults), lines[-1], count, packed, bounds, firsts, lasts, disorder, faults, {})
 
 
 def first_back(lines: Sequence[int], features: Sequence[str], moments: Sequence[int]) -> tuple[int, str] | None:
