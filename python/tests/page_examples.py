@@ -10,7 +10,7 @@ from mftb.page import layers
 from mftb.page.data import Head, Legs
 from mftb.page.layers import Wanted
 from mftb.rectangles import Rectangle
-from mftb.page.reading import exact_units
+from mftb.texts import exact_units
 from mftb.page.writing import Page, write
 
 EXAMPLES = ROOT / "examples"

@@ -10,7 +10,14 @@ import mftb
 from common import StandIn
 from mftb.clocks import Clock
 
-STAND_IN = '#!/bin/sh\ncase "$2" in --json) cat {0}/info ;; --*) cat {0}/"$1$2-$5" ;; *) cat {0}/"$1-$4" ;; esac\n'
+STAND_IN = """#!/bin/sh
+case "$2$3" in
+--json*) cat {0}/info ;;
+--*--rects) cat {0}/"rects$2" ;;
+--*) cat {0}/"$1$2-$6" ;;
+*) cat {0}/"$1-$4" ;;
+esac
+"""
 INFO = common.INFO | {"start": "2024-10-26T22:00:00.000Z"}
 NAMES = "feature,enters,leaves,enters_at,leaves_at,x_in,y_in,x_out,y_out"
 # The night in which Berlin's clocks go back: from 02:00 to 03:00 they show each minute twice, from 00:00Z and from 01:00Z.
@@ -83,14 +90,14 @@ class By(StandIn):
         super().setUp()
         self.store = self.stand_in(STAND_IN, INFO)
 
-    def answer(self, y, *visits):
-        """What the program prints of a rectangle: visits with what begins and ends each."""
-        stays = [row(*visit) for visit in visits]
-        joined = [row(*visit[:3], 1) for visit in visits]
-        self.write(f"moments-{y}", "\n".join([f"{NAMES},enters_by,leaves_by", *stays]) + "\n")
-        self.write(f"moments--visits-{y}", "\n".join([f"{NAMES},legs", *joined]) + "\n")
-        dwell = "".join(f"{visit[0]},1,1,1\n" for visit in visits)
-        self.write(f"moments--dwell-{y}", f"feature,visits,least,most\n{dwell}")
+    def answer(self, y, *visits, zone=""):
+        """What the program prints of a rectangle, or of one that has a name: visits with what begins and ends each."""
+        of, end, first, names = ("rects", "", f"{zone},", "rectangle,") if zone else ("moments", f"-{y}", "", "")
+        joined = [first + row(*visit, 1) for visit in visits]
+        head = f"{names}{NAMES},enters_by,leaves_by,legs"
+        self.write(f"{of}--visits{end}", "\n".join([head, *joined]) + "\n")
+        dwell = "".join(f"{first}{visit[0]},1,1,1\n" for visit in visits)
+        self.write(f"{of}--dwell{end}", f"{names}feature,visits,least,most\n{dwell}")
 
     def test_visits_know_what_begins_and_ends_them(self):
         self.answer(1, ("a", (0, 0), (1, 0), "period", "edge"), ("b", (2, 0), (3, 0), "edge", "leg"))
@@ -98,13 +105,6 @@ class By(StandIn):
         self.assertEqual(
             [(it.enters_by, it.leaves_by, it.zone) for it in found], [("period", "edge", ""), ("edge", "leg", "")]
         )
-
-    def test_two_stays_of_one_visit(self):
-        self.answer(1, ("a", (1, 0), (3, 0), "edge", "edge"))
-        stays = [row("a", (1, 0), (2, 0), "edge", "leg"), row("a", (2, 0), (3, 0), "leg", "edge")]
-        self.write("moments-1", "\n".join([f"{NAMES},enters_by,leaves_by", *stays]) + "\n")
-        (visit,) = self.store.visits((0, 1, 9, 9), NIGHT)
-        self.assertEqual((visit.enters_by, visit.leaves_by), ("edge", "edge"))
 
     def test_counts_of_an_hour_that_is_shown_twice(self):
         # 02:10 in summer time, 02:10 in winter time, and one that is inside as the period begins.
@@ -117,8 +117,7 @@ class By(StandIn):
                                 ("02:00 CET", 1, 0, 1), ("03:00 CET", 0, 1, 1), ("04:00 CET", 0, 0, 0)])  # fmt: skip
 
     def test_zones_and_keys(self):
-        self.answer(1, ("a", (0, 5), (0, 10), "edge", "edge"))
-        self.answer(2)
+        self.answer(1, ("a", (0, 5), (0, 10), "edge", "edge"), zone="one")
         zones = {"one": (0, 1, 9, 9), "two": (0, 2, 9, 9)}
         period = NIGHT[0], "2024-10-26T22:15:00Z"
         visits = self.store.visits(zones, period)
@@ -152,7 +151,7 @@ class By(StandIn):
 
     @unittest.skipUnless(importlib.util.find_spec("pandas"), "pandas is not there")
     def test_frames(self):
-        self.answer(1, ("a", (2, 10), (2, 20), "edge", "edge"))
+        self.answer(1, ("a", (2, 10), (2, 20), "edge", "edge"), zone="one")
         found = self.store.visits({"one": (0, 1, 9, 9)}, NIGHT)
         self.assertEqual(found.to_pandas()["zone"].tolist(), ["one"])
         counts = found.by("1h", tz="Europe/Berlin").to_pandas()

@@ -39,10 +39,12 @@ class Words(Case):
         return said
 
     def test_wrong_words_are_named(self) -> None:
+        self.write("rects.csv", "name,x1,y1,x2,y2\na,0,0,1,1\nb,1,0,0,1\n")
         wrong = [
             (["--rect", "a=1,2,3"], "argument --rect: 'a=1,2,3' is not NAME=X1,Y1,X2,Y2"),
             (["--rect", "a=1,2,x,4"], "argument --rect: 'x' is no plain decimal"),
             (["--rect", "a=1,2,0,4"], "argument --rect: X1 is above X2, or Y1 above Y2"),
+            (["--rects", "rects.csv"], "page: rects.csv record 3: X1 is above X2, or Y1 above Y2"),
             (["--box", "1", "5", "2", "4"], "argument --box: X1 is above X2, or Y1 above Y2"),
             (["--period", "noon", "midnight"], "argument --period: 'noon' is no instant"),
             (["--period", "2024-06-04", "2024-06-03"], "argument --period: T1 is after T2"),

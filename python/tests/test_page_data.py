@@ -7,6 +7,7 @@ from fractions import Fraction
 
 from common import Case
 
+from mftb import texts
 from mftb.page import reading
 from mftb.page.columns import packed
 from mftb.page.data import Head, Legs
@@ -91,8 +92,8 @@ class Reading(Case):
         self.assertEqual(reading.units("-60.3000001"), -603_000_001)
         self.assertEqual(reading.milliseconds("999999999999.999"), 10**15 - 1)
         # Half a unit goes away from zero, as in a file.
-        self.assertEqual(reading.exact_units("0.00000005"), 1)
-        self.assertEqual(reading.exact_units("-0.00000005"), -1)
+        self.assertEqual(texts.exact_units("0.00000005"), 1)
+        self.assertEqual(texts.exact_units("-0.00000005"), -1)
 
     def test_a_period_has_both_of_its_moments(self) -> None:
         legs = read(WRITTEN, Period(START + 150_000, START + 150_000))

@@ -10,7 +10,7 @@ import warnings
 from unittest import mock
 
 import notebooks
-from common import BUILT, FEEDS, ROOT, Case, has_info
+from common import BUILT, FEEDS, ROOT, Case, has_info, has_zones
 
 PAGE = notebooks.PAGE.read_text()
 FOLDER = ROOT / "python" / "notebooks"
@@ -31,7 +31,7 @@ class Recipes(Case):
         self.assertEqual(notebooks.NOTEBOOK.read_text(), made, "python/dev/notebooks.py makes it anew")
         self.assertLessEqual(len(PAGE.split()), 900)
 
-    @unittest.skipUnless(has_info(), "tools/unproved has made no build yet")
+    @unittest.skipUnless(has_zones(), "there is no build that knows zones")
     def test_the_code_of_the_page_prints_what_stands_below_it(self):
         shutil.copy(FOLDER / "ferries.csv", self.folder)
         self.addCleanup(os.chdir, os.getcwd())
@@ -65,6 +65,7 @@ class Notebooks(Case):
             nbclient.NotebookClient(book, timeout=300, resources={"metadata": {"path": str(place)}}).execute()
         return place, [cell for cell in book.cells if cell.cell_type == "code"]
 
+    @unittest.skipUnless(has_zones(), "there is no build that knows zones")
     def test_recipes(self):
         _, found = self.ran("recipes.ipynb")
         wanted = [cell for cell in notebooks.cells(PAGE) if cell["cell_type"] == "code"]

@@ -2,6 +2,7 @@
 import ast
 import shutil
 import subprocess
+import tempfile
 import unittest
 
 from common import ROOT
@@ -21,6 +22,11 @@ class Style(unittest.TestCase):
     @unittest.skipUnless(shutil.which("flake8"), "flake8 (Debian's package flake8) is not there")
     def test_flake8(self):
         self.passes("flake8", ".")
+
+    @unittest.skipUnless(shutil.which("mypy"), "mypy (Debian's package mypy) is not there")
+    def test_mypy(self):
+        with tempfile.TemporaryDirectory() as folder:
+            self.passes("mypy", "--cache-dir", folder)
 
     def test_each_function_of_the_package_has_types(self):
         without = []

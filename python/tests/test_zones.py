@@ -5,6 +5,7 @@ import json
 import shutil
 import subprocess
 import unittest
+import warnings
 from fractions import Fraction
 
 import mftb
@@ -114,10 +115,24 @@ class Answers(Case):
         path = self.folder / self.write(
             "zones.csv", f'name,wkt\nnorth,"{WKT}"\nfar,"POLYGON((900 0,901 0,901 1,900 0))"\n'
         )
-        found = self.store.visits(path, DAY).by("day", tz="Europe/Berlin")
+        with self.assertWarnsRegex(mftb.MftbWarning, "^far: "):
+            found = self.store.visits(path, DAY).by("day", tz="Europe/Berlin")
         self.assertEqual([(it.zone, it.features) for it in found], [("north", 6), ("far", 0)])
-        (part,) = [it for it in self.store.dwell(path, DAY).by("day", tz="Europe/Berlin") if it.feature == "Gull"]
-        self.assertTrue(part.is_whole)
+        dwells = self.store.dwell({"north": WKT}, DAY).by("day", tz="Europe/Berlin")
+        self.assertEqual([it.feature for it in dwells if it.is_whole], ["Gull"])
+
+    def test_a_page_shows_zones(self):
+        file = self.store.page(self.folder / "map.html", zones={"north": WKT}, rectangles={"south": SOUTH})
+        self.assertGreater(len(self.read("map.html")), len(self.read(self.store.page(self.folder / "bare.html"))))
+        self.assertRaisesRegex(ValueError, "polygons are zones=", self.store.page, file, rectangles={"north": WKT})
+
+    def test_a_zone_beside_all_legs_is_warned_of(self):
+        with self.assertWarnsRegex(mftb.MftbWarning, "does not meet") as warned:
+            self.store.visits({"far": (900, 900, 901, 901)}, DAY)
+        self.assertEqual(warned.filename, __file__)
+        with warnings.catch_warnings():
+            warnings.simplefilter("error")
+            self.fleet.visits({"far": (900, 900, 901, 901)}, DAY)
 
     def test_a_file_that_is_refused(self):
         path = self.folder / self.write("zones.csv", f'name,wkt\nnorth,"{WKT}"\nfar,"POLYGON((900 0))"\n')

@@ -5,6 +5,7 @@ from __future__ import annotations
 import io
 import os
 import subprocess
+import sys
 import tempfile
 import warnings
 import weakref
@@ -141,4 +142,12 @@ def answers(spool: Spool, count: int) -> Iterator[Printed | str]:
 def hint(lines: Sequence[str]) -> None:
     """Warns of what the program said beside its answers."""
     for line in lines:
-        warnings.warn(line.removeprefix("mftb: "), MftbWarning, stacklevel=4)
+        warnings.warn(line.removeprefix("mftb: "), MftbWarning, stacklevel=depth())
+
+
+def depth() -> int:
+    """How many calls lie between here and who called the library."""
+    frame, count = sys._getframe(), 0
+    while frame.f_back and frame.f_globals.get("__name__", "").partition(".")[0] == "mftb":
+        frame, count = frame.f_back, count + 1
+    return count

@@ -15,8 +15,8 @@ from collections import Counter
 from collections.abc import Callable, Iterable, Iterator, Sequence
 from contextlib import contextmanager
 from dataclasses import dataclass
-from itertools import chain, islice
-from operator import itemgetter
+from itertools import chain, compress, islice, repeat
+from operator import itemgetter, methodcaller
 from typing import IO, Any, TextIO, TypeAlias
 
 from mftb import apart
@@ -36,20 +36,40 @@ NOT_A_LETTER = re.compile("[^0-9a-z]")
 
 
 @dataclass(frozen=True)
+class Table:
+    """What is read of lines of the usual form, column by column: a position of each line that has one.
+
+    `faults` are the places of the lines that have none, and why.
+    """
+
+    features: list[str]
+    moments: list[int]
+    places: list[tuple[str, ...]]
+    values: list[tuple[str, ...]]
+    faults: list[tuple[int, Exception]]
+
+    def items(self) -> list[Item]:
+        """The same line by line."""
+        found: list[Item] = list(zip(self.features, self.moments, self.places, self.values, repeat(0)))
+        for place, why in self.faults:
+            found.insert(place, why)
+        return found
+
+
+@dataclass(frozen=True)
 class RowReader:
     """What reads the rows below a header line.
 
-    `one` gives the position of a row, or says why there is none. `many` reads rows of the usual form at once, column
-    by column, and gives what is read of each; or nothing, where they are to be read one by one.
+    `one` gives the position of a row, or says why there is none. `table` reads the fields of lines of the usual form
+    at once, column by column; or gives nothing, where they are to be read one by one.
     """
 
     one: Callable[[list[str]], Item]
-    many: Callable[[list[list[str]]], list[Item] | None] = lambda rows: None
+    table: Callable[[list[str]], Table | None] = lambda fields: None
 
     def items(self, rows: list[Any], wide: int) -> list[Item]:
         """What is read of rows, which ought to have `wide` fields; a row that could not be cut is why."""
-        found = self.many(rows) if are_wide(rows, wide) else None
-        return [self.item(row, wide) for row in rows] if found is None else found
+        return [self.item(row, wide) for row in rows]
 
     def item(self, row: Any, wide: int) -> Item:
         """What is read of one row."""
@@ -63,15 +83,6 @@ class RowReader:
             # What raised it would keep the rows beside this one.
             why.__context__ = None
             return why.with_traceback(None)
-
-
-def are_wide(rows: list[Any], wide: int) -> bool:
-    """Whether all rows were cut, and have so many fields."""
-    try:
-        return set(map(len, rows)) == {wide}
-    except TypeError:
-        # What says why a row could not be cut has no length.
-        return False
 
 
 @contextmanager
@@ -122,7 +133,7 @@ def as_text(raw: IO[bytes], encoding: str = UTF_8) -> TextIO:
 class Work:
     """What is done with the rows of some lines, and in how many processes."""
 
-    judge: Callable[[Sequence[int], list[Item]], Any]
+    judge: Callable[[Sequence[int], list[Item] | Table], Any]
     jobs: int = 1
 
 
@@ -177,9 +188,12 @@ class Rows:
     reader: RowReader
     delimiter: str = ","
 
-    def read(self, part: Lines | Cut) -> tuple[Sequence[int], list[Item]]:
+    def read(self, part: Lines | Cut) -> tuple[Sequence[int], list[Item] | Table]:
         """Line numbers, and what is read of each row, or why nothing is; a blank line is no row."""
         if isinstance(part, Lines):
+            table = self.table(part.lines)
+            if table:
+                return range(part.before + 1, part.before + 1 + len(part.lines)), table
             # A row without a quote is its line, cut at the delimiters.
             cut_rows = [line.rstrip("\r\n").split(self.delimiter) for line in part.lines]
             part = Cut(range(part.before + 1, part.before + 1 + len(cut_rows)), cut_rows)
@@ -188,6 +202,13 @@ class Rows:
             numbers = [number for number, row in zip(numbers, found) if row != [""]]
             found = [row for row in found if row != [""]]
         return numbers, self.reader.items(found, self.wide)
+
+    def table(self, lines: list[str]) -> Table | None:
+        """What is read of lines that all have as many fields as the header line, and are of the usual form."""
+        if set(map(methodcaller("count", self.delimiter), lines)) != {self.wide - 1}:
+            return None
+        text = "".join(lines).replace("\r\n", "\n").removesuffix("\n")
+        return None if "\r" in text else self.reader.table(text.replace("\n", self.delimiter).split(self.delimiter))
 
 
 def rows(text: Iterator[str], line: int, how: Rows, work: Work) -> Iterator[Any]:
@@ -277,6 +298,7 @@ class Values:
         # A place behind the row's end stands for a column that is not there.
         take = [wide if place is None else place for place in places]
         self.names, self.blank = names, [""] if None in places else []
+        self.places, self.wide = take, wide
         self.take: Any = itemgetter(*take) if len(take) > 1 else lambda row: tuple([row[place] for place in take])
 
     def of(self, row: list[str]) -> tuple[str, ...]:
@@ -287,12 +309,13 @@ class Values:
                 utf8(value, name)
         return values
 
-    def of_all(self, rows: list[list[str]]) -> list[tuple[str, ...]]:
-        """The values of rows."""
-        if self.blank:
-            return list(map(self.of, rows))
-        found = list(map(self.take, rows))
-        return found if "".join(chain.from_iterable(found)).isascii() else list(map(self.of, rows))
+    def of_all(self, fields: list[str], kept: Sequence[bool]) -> list[tuple[str, ...]] | None:
+        """The values of the rows that are kept, out of the fields of all; nothing where one may be no text."""
+        count = len(kept)
+        columns = [fields[at :: self.wide] if at < self.wide else [""] * count for at in self.places]
+        if not all("".join(column).isascii() for column in columns):
+            return None
+        return list(compress(zip(*columns), kept)) if columns else [()] * sum(kept)
 
 
 class Columns:

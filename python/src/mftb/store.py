@@ -7,7 +7,7 @@ from collections.abc import Iterable, Sequence
 from functools import partial
 from pathlib import Path as FilePath
 from types import TracebackType
-from typing import TYPE_CHECKING, Any, TypeVar
+from typing import TYPE_CHECKING, Any, TypeAlias, TypeVar
 
 from mftb import errors, forms, gaps, lines, moments, runs
 from mftb.lines import Path, Period, Predicate, Rectangle
@@ -20,6 +20,8 @@ if TYPE_CHECKING:
     import pandas
 
 Record = TypeVar("Record")
+# The rectangles and the zones of a page.
+Shown: TypeAlias = tuple[Asked | None, Asked | None]
 
 
 class Questions:
@@ -139,6 +141,13 @@ class Book(Questions):
 
         It has the crossings of rectangles, and the outlines of zones.
         """
+        places = None if rectangles is None else asked(rectangles)
+        outlines = None if zones is None else asked(zones)
+        self._page(os.fspath(file), (places, outlines), title, period)
+        return os.fspath(file)
+
+    def _page(self, file: str, shown: Shown, title: str | None, period: Period | None) -> None:
+        """Writes a page with rectangles and zones."""
         raise NotImplementedError
 
     def features(self, predicate: Predicate, zones: Zones, period: Period) -> Answer[Feature]:
@@ -219,25 +228,10 @@ class Store(Book):
         pages, legs, features = map(int, text.split("\n")[1].split(","))
         return Report(legs, features, pages)
 
-    def page(
-        self,
-        file: Path,
-        *,
-        rectangles: Zones | None = None,
-        zones: Zones | None = None,
-        title: str | None = None,
-        period: Period | None = None,
-    ) -> str:
-        """Writes a page for a browser, a map that moves, and returns the file's name.
-
-        It has the crossings of rectangles, and the outlines of zones.
-        """
+    def _page(self, file: str, shown: Shown, title: str | None, period: Period | None) -> None:
         from mftb.page import store
 
-        places = None if rectangles is None else asked(rectangles)
-        outlines = None if zones is None else asked(zones)
-        store.save(store.Wanted(self.path, self.program, os.fspath(file), title, period), places, outlines)
-        return os.fspath(file)
+        store.save(store.Wanted(self.path, self.program, file, title, period), *shown)
 
     def _printed(self, *words: str) -> str:
         """What the program prints, if it ends well."""
@@ -261,9 +255,15 @@ class Store(Book):
             return self._spooled(["run", *flags, self.path, name, "--", *files], spool).replace(name, "script")
 
     def _told(self, words: Words, given: Asked) -> tuple[list[str], runs.Printed]:
-        spool = runs.Spool()
-        self._spooled([words.command, *words.before, *self._cache, self.path, *words.behind], spool)
+        said, spool = self._said(words)
+        runs.hint(Told(said).rest)
         return runs.table(spool)
+
+    def _said(self, words: Words) -> tuple[str, runs.Spool]:
+        """What the program says of zones on standard error, and what it prints."""
+        spool = runs.Spool()
+        command = [words.command, *words.before, "--explain", *self._cache, self.path, *words.behind]
+        return self._spooled(command, spool), spool
 
 
 class Batch(Questions):

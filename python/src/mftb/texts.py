@@ -7,12 +7,13 @@ from __future__ import annotations
 
 import argparse
 import re
-from collections.abc import Callable, Sequence
+from collections.abc import Callable, Iterable, Sequence
 from datetime import date
 from decimal import Decimal
 from functools import lru_cache
-from typing import Any
+from typing import Any, TypeVar
 
+Made = TypeVar("Made")
 NEEDS_QUOTES = re.compile('[",\r\n]')
 PLAIN_DECIMAL = re.compile(r"[+-]?(?:[0-9]+\.?[0-9]*|\.[0-9]+)")
 # A decimal with an exponent, as pandas writes small ones.
@@ -21,7 +22,10 @@ EXPONENT = re.compile(r"[+-]?(?:[0-9]{1,20}\.?[0-9]{0,20}|\.[0-9]{1,20})[eE][+-]
 LONGITUDE = re.compile(r"-?(?:[0-9]{1,2}|1[0-7][0-9])(?:\.[0-9]{1,20})?")
 LATITUDE = re.compile(r"-?[0-8]?[0-9](?:\.[0-9]{1,20})?")
 # Both with a blank between them, where a digit is not 0.
-USUAL_PLACE = re.compile(f"(?=[^1-9]*[1-9]){LONGITUDE.pattern} {LATITUDE.pattern}").fullmatch
+USUAL = f"(?=[^1-9\n]*[1-9]){LONGITUDE.pattern} {LATITUDE.pattern}"
+USUAL_PLACE = re.compile(USUAL).fullmatch
+# Several such places, a line each.
+USUAL_PLACES = re.compile(f"{USUAL}(?:\n{USUAL})*+").fullmatch
 # What stands for a longitude or a latitude that is not known.
 NO_LONGITUDE = re.compile(r"181(?:\.0*)?")
 NO_LATITUDE = re.compile(r"91(?:\.0*)?")
@@ -161,14 +165,14 @@ def read_instant(text: str) -> int:
     return moment(day, clock) + (offset if sign == "-" else -offset)
 
 
-class Known(dict[Any, str]):
+class Known(dict[Any, Made]):
     """What was made of texts or numbers that were met: of the last 20,000 or so."""
 
-    def __init__(self, make: Callable[[Any], str]) -> None:
+    def __init__(self, make: Callable[[Any], Made]) -> None:
         super().__init__()
         self.make = make
 
-    def __missing__(self, given: Any) -> str:
+    def __missing__(self, given: Any) -> Made:
         if len(self) >= 20_000:
             self.clear()
         self[given] = made = self.make(given)
@@ -183,6 +187,8 @@ class Clock:
 
     def __init__(self, read: Callable[[str], int]) -> None:
         self.read = read
+        # Few seconds of a feed are new, since its lines are mostly in the order of time.
+        self.known = Known(self.moment)
         self.days: dict[str, int] = {}
         pairs = [f"{number:02}" for number in range(60)]
         self.minutes = {
@@ -199,13 +205,9 @@ class Clock:
         except KeyError:
             return self.met(text)
 
-    def moments(self, texts: Sequence[str]) -> list[int]:
+    def moments(self, texts: Iterable[str]) -> list[int]:
         """The moments of instants."""
-        days, minutes, seconds = self.days, self.minutes, self.seconds
-        try:
-            return [days[text[:11]] + minutes[text[11:17]] + seconds[text[17:]] for text in texts]
-        except KeyError:
-            return list(map(self.moment, texts))
+        return list(map(self.known.__getitem__, texts))
 
     def met(self, text: str) -> int:
         """The moment of an instant whose day may be new."""

@@ -9,12 +9,12 @@ from argparse import Namespace
 from collections.abc import Callable, Iterator, Sequence
 from dataclasses import dataclass
 from functools import lru_cache
-from itertools import compress, repeat
+from itertools import compress
 from operator import and_, itemgetter
 
 from mftb import sources, texts
 from mftb.feeds import arguments, conversion
-from mftb.feeds.judging import Batch, Item, Judge, Position
+from mftb.feeds.judging import Batch, Judge, Position
 
 EXAMPLE = """example:
   tools/from_ais --columns VesselName --skip-bad positions.csv -o ships.csv
@@ -75,7 +75,7 @@ def row_reader(
 ) -> sources.RowReader:
     at, mmsi, x, y = (sources.column(header, *own) for own in names)
     reader = Reports(header, at, mmsi, (x, y), kept.reader(header), texts.Clock(moment), form)
-    return sources.RowReader(reader.one, reader.many)
+    return sources.RowReader(reader.one, reader.table)
 
 
 @dataclass
@@ -108,29 +108,42 @@ class Reports:
         place = texts.degrees(x, y, [self.header[axis] for axis in self.axes])
         return Position(self.features[row[self.mmsi]], when, place, self.values.of(row))
 
-    def many(self, rows: list[list[str]]) -> list[Item] | None:
-        """The positions of reports, column by column; those of another form than the usual one are read one by one."""
-        are_usual = self.are_usual(rows)
-        usual = list(compress(rows, are_usual))
+    def table(self, fields: list[str]) -> sources.Table | None:
+        """What is read of the fields of reports; nothing where one of an unusual form has a position."""
+        wide = len(self.header)
+        x, y = self.axes
+        places = list(zip(fields[x::wide], fields[y::wide]))
+        kept = self.are_usual(fields, places)
         try:
-            moments = self.clock.moments(list(map(itemgetter(self.at), usual)))
-            features = [self.features[name] for name in map(itemgetter(self.mmsi), usual)]
-            places, values = map(self.place_of, usual), self.values.of_all(usual)
+            faults = [] if all(kept) else list(self.faults(fields, kept))
+            moments = self.clock.moments(compress(fields[self.at :: wide], kept))
+            features = list(map(self.features.__getitem__, compress(fields[self.mmsi :: wide], kept)))
         except (ValueError, texts.BadLine):
             return None
-        found: list[Item] = list(zip(features, moments, places, values, repeat(0)))
-        if len(usual) < len(rows):
-            item, wide = sources.RowReader(self.one).item, len(self.header)
-            for place in (place for place, is_usual in enumerate(are_usual) if not is_usual):
-                found.insert(place, item(rows[place], wide))
-        return found
+        values = self.values.of_all(fields, kept)
+        if values is None:
+            return None
+        return sources.Table(features, moments, list(compress(places, kept)), values, faults)
 
-    def are_usual(self, rows: list[list[str]]) -> list[bool]:
+    def faults(self, fields: list[str], kept: list[bool]) -> Iterator[tuple[int, Exception]]:
+        """The places of the reports that are not kept, and why."""
+        item, wide = sources.RowReader(self.one).item, len(self.header)
+        for place in (place for place, is_kept in enumerate(kept) if not is_kept):
+            why = item(fields[place * wide : (place + 1) * wide], wide)
+            if not isinstance(why, Exception):
+                raise ValueError("a position in another form")
+            yield place, why
+
+    def are_usual(self, fields: list[str], places: list[tuple[str, str]]) -> list[bool]:
         """Of each report whether it is one of a ship, with a position in its usual form."""
-        found = map(bool, map(texts.USUAL_PLACE, map(" ".join, map(self.place_of, rows))))
+        shown = list(map(" ".join, places))
+        if texts.USUAL_PLACES("\n".join(shown)):
+            found = [True] * len(shown)
+        else:
+            found = list(map(bool, map(texts.USUAL_PLACE, shown)))
         if self.kind is None:
-            return list(found)
-        kinds = list(map(itemgetter(self.kind), rows))
+            return found
+        kinds = fields[self.kind :: len(self.header)]
         ships = {kind for kind in set(kinds) if not is_no_ship(kind)}
         return list(map(and_, found, map(ships.__contains__, kinds)))
 

@@ -67,7 +67,7 @@ class Spool:
     def __iter__(self) -> Iterator[Plain]:
         self.file.seek(0)
         for size in self.sizes:
-            yield from marshal.loads(self.file.read(size))
+            yield from zip(*marshal.loads(self.file.read(size)))
 
 
 class Sorted:

@@ -4,13 +4,14 @@ from __future__ import annotations
 
 import marshal
 from argparse import Namespace
-from collections.abc import Callable, Mapping, Sequence
+from collections.abc import Callable, Iterable, Mapping, Sequence
 from dataclasses import dataclass
 from decimal import Decimal
 from functools import partial
 from itertools import compress
 from typing import Any, NamedTuple, TypeAlias
 
+from mftb.sources import Table
 from mftb.texts import BadLine, LeftOut, feature_name, instant
 
 # The form of marshal that looks for no value that stands twice.
@@ -55,23 +56,29 @@ class Bounds:
 
     def cover(self, positions: Sequence[tuple]) -> None:
         """Takes positions in, which are tuples; there is at least one."""
-        moments = [it[1] for it in positions]
-        moments += [self.first, self.last] if self.low else []
-        self.first, self.last = min(moments), max(moments)
-        axes = [(texts, list(map(float, texts))) for texts in zip(*[it[2] for it in positions])]
+        self.widen([it[1] for it in positions], [it[2] for it in positions])
+
+    def widen(self, moments: list[int], places: Iterable[tuple[str, ...]]) -> None:
+        """Takes in moments and places, of which there is at least one."""
+        ends = [self.first, self.last] if self.low else moments
+        self.first, self.last = min(min(moments), ends[0]), max(max(moments), ends[-1])
+        axes = [(texts, list(map(float, texts))) for texts in zip(*places)]
         none: list[str | None] = [None] * len(axes)
         lows, highs = self.low or none, self.high or none
         self.low = [corner(*axis, min, end) for axis, end in zip(axes, lows)]
         self.high = [corner(*axis, max, end) for axis, end in zip(axes, highs)]
 
 
-def corner(texts: Sequence[str], numbers: Sequence[float], most: Callable[..., Any], end: str | None) -> str:
+def corner(texts: Sequence[str], numbers: list[float], most: Callable[..., Any], end: str | None) -> str:
     """The first of the least texts of numbers, or of the greatest, where `end` was that so far."""
     # As floats keep the order, they only spare most comparisons of the decimals.
     found = most(numbers)
     if end is not None and most(found, float(end)) != found:
         return end
-    ties = dict.fromkeys(text for text, number in zip(texts, numbers) if number == found)
+    if numbers.count(found) == 1:
+        ties = {texts[numbers.index(found)]: None}
+    else:
+        ties = dict.fromkeys(text for text, number in zip(texts, numbers) if number == found)
     if end is not None and float(end) == found:
         ties = {end: None, **ties}
     return most(ties, key=Decimal) if len(ties) > 1 else next(iter(ties))
@@ -158,18 +165,34 @@ class Batch:
 def judge(lines: Sequence[int], items: list[Any]) -> Batch:
     """What the items of lines hold."""
     are_kept = [isinstance(item, tuple) for item in items]
-    kept, numbers = list(compress(items, are_kept)), list(compress(lines, are_kept))
+    numbers = list(compress(lines, are_kept))
     faults = [(lines[place], items[place]) for place, is_kept in enumerate(are_kept) if not is_kept]
+    columns = [list(column) for column in zip(*compress(items, are_kept))] or [[], [], [], [], []]
+    return batch_of(lines, numbers, columns, faults)
+
+
+def judge_table(lines: Sequence[int], table: Table) -> Batch:
+    """What lines hold that were read column by column."""
+    without = {place for place, _ in table.faults}
+    numbers = lines if not without else [line for place, line in enumerate(lines) if place not in without]
+    columns: list[list[Any]] = [table.features, table.moments, table.places, table.values]
+    faults = [(lines[place], why) for place, why in table.faults]
+    return batch_of(lines, numbers, [*columns, [0] * len(table.features)], faults)
+
+
+def batch_of(
+    lines: Sequence[int], numbers: Sequence[int], columns: list[list[Any]], faults: list[tuple[int, Exception]]
+) -> Batch:
+    """What lines hold, of which those with these numbers have positions, whose fields stand in columns."""
+    features, moments, places, *_ = columns
     bounds = Bounds()
-    if kept:
-        bounds.cover(kept)
-    features, moments = [it[0] for it in kept], [it[1] for it in kept]
+    if moments:
+        bounds.widen(moments, places)
     # What stands first in time order is kept last.
     firsts = dict(zip(reversed(features), zip(reversed(moments), reversed(numbers))))
     disorder = None if moments == sorted(moments) else first_back(numbers, features, moments)
-    packed = marshal.dumps(list(map(tuple, kept)), PLAIN)
-    lasts = dict(zip(features, moments))
-    return Batch(len(items), lines[-1], len(kept), packed, bounds, firsts, lasts, disorder, faults, {})
+    packed, lasts, count = marshal.dumps(columns, PLAIN), dict(zip(features, moments)), len(numbers)
+    return Batch(count + len(faults), lines[-1], count, packed, bounds, firsts, lasts, disorder, faults, {})
 
 
 def first_back(lines: Sequence[int], features: Sequence[str], moments: Sequence[int]) -> tuple[int, str] | None:
@@ -189,7 +212,11 @@ class Judge:
     path: str
     sieve: Sieve
 
-    def __call__(self, lines: Sequence[int], items: list[Item]) -> Batch:
+    def __call__(self, lines: Sequence[int], items: list[Item] | Table) -> Batch:
+        if isinstance(items, Table):
+            if not self.sieve:
+                return judge_table(lines, items)
+            items = items.items()
         if not self.sieve:
             return judge(lines, items)
         found = judge(lines, [self.sieve.take(self.path, line, item) for line, item in zip(lines, items)])

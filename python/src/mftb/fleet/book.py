@@ -17,8 +17,8 @@ from mftb.fleet import manifest
 from mftb.forms import LoadForm
 from mftb.lines import Path, Period
 from mftb.records import Info, Loaded, Report
-from mftb.store import Book, Store
-from mftb.zones import NAMELESS, Asked, Words, Zones
+from mftb.store import Book, Shown, Store
+from mftb.zones import NAMELESS, Asked, Words
 
 Value = TypeVar("Value")
 SOURCE = str(FilePath(__file__).resolve().parents[2])
@@ -77,22 +77,13 @@ class Fleet(Book):
         pages, legs, features = map(int, self._printed("check", *self._where).splitlines()[1].split(","))
         return Report(legs, features, pages)
 
-    def page(
-        self,
-        file: Path,
-        *,
-        rectangles: Zones | None = None,
-        zones: Zones | None = None,
-        title: str | None = None,
-        period: Period | None = None,
-    ) -> str:
+    def _page(self, file: str, shown: Shown, title: str | None, period: Period | None) -> None:
         """Writes a page of all parts, by way of one store of them."""
         with tempfile.TemporaryDirectory(prefix="mftb-") as folder:
             self.write(FilePath(folder, "all.csv"))
             whole = Store(FilePath(folder, "whole"), program=self.program)
             whole.load(FilePath(folder, "all.csv"))
-            title = title or FilePath(self.path).name
-            return whole.page(file, rectangles=rectangles, zones=zones, title=title, period=period)
+            whole._page(file, shown, title or FilePath(self.path).name, period)
 
     def _each(self, work: Callable[[Store], Value]) -> list[Value]:
         """What is made of each part, some at once."""
@@ -124,7 +115,8 @@ class Fleet(Book):
 
     def _told(self, words: Words, given: Asked) -> tuple[list[str], runs.Printed]:
         """The records of all parts, by their first moment and then by feature."""
-        found = self._each(lambda part: part._told(words, given))
+        # A part does not know whether another one has what it lacks: its hints are passed over.
+        found = self._each(lambda part: runs.table(part._said(words)[1]))
         names = found[0][0]
         rows = [row for _, printed in found for row in moments.rows_of(printed)]
         zones = [name or NAMELESS for name in given.names()]
