@@ -384,27 +384,6 @@ fn over_damaged(alloc: Global, capacity: usize) -> Result<PageCache<MemStore>, M
     cache_over(alloc, store, capacity)
 }
 
-#[test]
-fn pages_are_brought_at_once(rt: HostRuntime) -> Result<(), Fail> {
-    let mut cache = over_damaged(rt.alloc(), 64)?;
-    assert!(rt; cache.bring(&[2, 3, 4, 5, 5, 6, 99]) == Ok(()));
-    assert!(rt; cache.held() == 4 && cache.asked() == 0);
-    assert!(rt; byte(&mut cache, 3, PLACE) == Err(CacheFault::Damaged(3)));
-    assert!(rt; byte(&mut cache, 6, PLACE) == Ok(6));
-    assert!(rt; cache.held() == 4 && cache.asked() == 2);
-    assert!(rt; cache.bring(&[7, 8, 9]) == Ok(()));
-    assert!(rt; cache.held() == 4);
-    Ok(())
-}
-
-#[test]
-fn a_small_cache_is_brought_nothing(rt: HostRuntime) -> Result<(), Fail> {
-    let mut cache = over_damaged(rt.alloc(), 15)?;
-    assert!(rt; cache.bring(&[4, 5, 6, 7, 8, 9, 10, 11]) == Ok(()));
-    assert!(rt; cache.held() == 0);
-    Ok(())
-}
-
 /// The byte of a page, which is asked for with those that are asked for next.
 fn byte_ahead<S: PageStore>(
     cache: &mut PageCache<S>,
@@ -412,6 +391,27 @@ fn byte_ahead<S: PageStore>(
     next: &[u32],
 ) -> Result<u8, CacheFault> {
     Ok(cache.page_ahead(number, next)?.bytes[PLACE])
+}
+
+#[test]
+fn sealed_pages_come_along_where_they_are_not_few(rt: HostRuntime) -> Result<(), Fail> {
+    let mut cache = over_damaged(rt.alloc(), 64)?;
+    assert!(rt; byte_ahead(&mut cache, 2, &[3, 4, 5, 5, 6, 99]) == Ok(2));
+    assert!(rt; cache.held() == 4 && cache.asked() == 1);
+    assert!(rt; byte(&mut cache, 3, PLACE) == Err(CacheFault::Damaged(3)));
+    assert!(rt; byte(&mut cache, 6, PLACE) == Ok(6));
+    assert!(rt; cache.held() == 4 && cache.asked() == 3);
+    assert!(rt; byte_ahead(&mut cache, 7, &[8, 9]) == Ok(7));
+    assert!(rt; cache.held() == 5 && cache.asked() == 4);
+    Ok(())
+}
+
+#[test]
+fn in_a_small_cache_no_page_comes_along(rt: HostRuntime) -> Result<(), Fail> {
+    let mut cache = over_damaged(rt.alloc(), 15)?;
+    assert!(rt; byte_ahead(&mut cache, 4, &[5, 6, 7, 8, 9, 10, 11]) == Ok(4));
+    assert!(rt; cache.held() == 1 && cache.asked() == 1);
+    Ok(())
 }
 
 /// The numbers of 24 pages.

@@ -5,10 +5,8 @@ use Rattle.std.proofs.lemmas.List.{get_or-set_other, get_or-set_same}
 use Rattle.pages.specs.Store as store
 use Rattle.pages.specs.Unsealed.{unsealed}
 use Rattle.pages.specs.declared.payload.Payload.{Payload}
-use Rattle.pagecache.specs.Cache.{Cache, in_memory, sealed_payload, IsStopped}
-use Rattle.pagecache.specs.Slots.{AreRead, HasFailed, IsRead, Steps}
-use Rattle.pagecache.specs.declared.fault.CacheFault.{CacheFault}
-use Rattle.pagecache.specs.declared.fault.CacheFault.TheVariants as fault
+use Rattle.pagecache.specs.Cache.{Cache, in_memory, sealed_payload}
+use Rattle.pagecache.specs.Slots.{AreRead, IsRead, Steps}
 use Rattle.pagecache.proofs.CacheLemmas.{is_changed-none, page_of-below, sealed_payload-at}
 
 -- a page that was read just now
@@ -53,20 +51,3 @@ one_read_more d ns fs ps k b page lf lp r here = record {
 pub read_payload : (c : Cache) (n : ℕ) (page : List ℕ) (p : Payload) → IsRead c n page → unsealed n page ≡ Some p
     → IsTrue c.store.is_faithful → sealed_payload c n ≡ Some p
 read_payload c n page p r u f = sealed_payload-at c n page p (r.written f) u
-
--- a step is refused since the store failed, or memory was wanted
-pub failed_stopped : (a b c : Cache) (e : CacheFault) → Steps a b → HasFailed e b c → IsStopped e a c
-failed_stopped a b c e s h =
-    let l = s.stays.keeps.store.faults in
-    let r = h.1 in
-    subst (λ x. IsStopped x a c) (sym h.0) (omega (arith, l, r))
-
-pub memory_stopped : (a c : Cache) (e : CacheFault) → e ≡ fault.Memory → IsStopped e a c
-memory_stopped a c e h = subst (λ x. IsStopped x a c) (sym h) tt
-
-pub stopped_after : (a b c : Cache) (e : CacheFault) → Steps a b → IsStopped e b c → IsStopped e a c
-stopped_after a b c fault.NoPage s h = h
-stopped_after a b c fault.Store s h = let l = s.stays.keeps.store.faults in omega (arith, l, h)
-stopped_after a b c (fault.Damaged m) s h = h
-stopped_after a b c fault.StoreFull s h = h
-stopped_after a b c fault.Memory s h = tt

@@ -1,8 +1,8 @@
 //! Several pages are brought into memory at once: eight digests cost less than four one by one.
-ghost use Rattle.std.specs.Prelude.{ℕ, ◌≡◌, ◌<◌, ◌^◌, [], None, IsTrue, IfOk, IfErr, slice_index_or};
+ghost use Rattle.std.specs.Prelude.{ℕ, ◌≡◌, ◌<◌, [], None, IsTrue, IfOk, slice_index_or};
 ghost use Rattle.digests.specs.Pages.{digest_of};
-ghost use Rattle.pagecache.specs.Cache.{SameLength, IsStopped, in_memory};
-ghost use Rattle.pagecache.specs.Slots.{AreRead, HasFailed, IsRead, IsSound, Steps, seen_of};
+ghost use Rattle.pagecache.specs.Cache.{SameLength, in_memory};
+ghost use Rattle.pagecache.specs.Slots.{AreRead, IsRead, IsSound, Steps, seen_of};
 
 use crate::fault::CacheFault;
 use crate::slots::{Slots, blank};
@@ -31,32 +31,6 @@ pub fn behind(page: u32) -> [u32; 7] {
 /// Eight pages of zero bytes.
 fn blanks() -> [[u8; 4096]; 8] {
     [[0; 4096]; 8]
-}
-
-/// A number; where there is none, one that no page has.
-fn number_at(numbers: &[u32], place: usize) -> u32 {
-    if place < numbers.len() {
-        numbers[place]
-    } else {
-        u32::MAX
-    }
-}
-
-/// The eight numbers from a place on. Behind the last number stands one that no page has.
-fn eight_at(numbers: &[u32], group: usize) -> [u32; 8]
-    requires { group < 2 ^ 32 }
-{
-    let at = 8 * group;
-    [
-        number_at(numbers, at),
-        number_at(numbers, at + 1),
-        number_at(numbers, at + 2),
-        number_at(numbers, at + 3),
-        number_at(numbers, at + 4),
-        number_at(numbers, at + 5),
-        number_at(numbers, at + 6),
-        number_at(numbers, at + 7),
-    ]
 }
 
 /// The digests of eight pages.
@@ -102,8 +76,6 @@ impl<S: PageStore> Slots<S> {
         ensures length { SameLength (seen_of S.seen self.old) (seen_of S.seen self.new) }
         ensures read { IfOk result
             (λ is_read. IsTrue is_read → IsRead (seen_of S.seen self.new) number page.new) }
-        ensures cause { IfErr result
-            (λ fault. HasFailed fault (seen_of S.seen self.old) (seen_of S.seen self.new)) }
     {
         if !self.is_absent(number) {
             return Ok(false);
@@ -123,8 +95,6 @@ impl<S: PageStore> Slots<S> {
         ensures length { SameLength (seen_of S.seen self.old) (seen_of S.seen self.new) }
         ensures read { IfOk result
             (λ found. AreRead (seen_of S.seen self.new) numbers.now found pages.new 8) }
-        ensures cause { IfErr result
-            (λ fault. HasFailed fault (seen_of S.seen self.old) (seen_of S.seen self.new)) }
     {
         let mut found = [false; 8];
         'places: for place in 0..8 {
@@ -149,8 +119,6 @@ impl<S: PageStore> Slots<S> {
         requires digest { digest.now ≡ digest_of page.now }
         ensures steps { Steps (seen_of S.seen self.old) (seen_of S.seen self.new) }
         ensures length { SameLength (seen_of S.seen self.old) (seen_of S.seen self.new) }
-        ensures cause { IfErr result
-            (λ fault. IsStopped fault (seen_of S.seen self.old) (seen_of S.seen self.new)) }
     {
         if !found {
             return Ok(());
@@ -185,8 +153,6 @@ impl<S: PageStore> Slots<S> {
         requires read { AreRead (seen_of S.seen self.old) numbers.now found pages.now 8 }
         ensures steps { Steps (seen_of S.seen self.old) (seen_of S.seen self.new) }
         ensures length { SameLength (seen_of S.seen self.old) (seen_of S.seen self.new) }
-        ensures cause { IfErr result
-            (λ fault. IsStopped fault (seen_of S.seen self.old) (seen_of S.seen self.new)) }
     {
         let all = digests_of(pages);
         'places: for place in 0..8 {
@@ -204,8 +170,6 @@ impl<S: PageStore> Slots<S> {
         requires { IsSound (seen_of S.seen self.old) }
         ensures steps { Steps (seen_of S.seen self.old) (seen_of S.seen self.new) }
         ensures length { SameLength (seen_of S.seen self.old) (seen_of S.seen self.new) }
-        ensures cause { IfErr result
-            (λ fault. IsStopped fault (seen_of S.seen self.old) (seen_of S.seen self.new)) }
     {
         if self.absent(numbers) < FEW {
             return Ok(());
@@ -284,25 +248,5 @@ impl<S: PageStore> Slots<S> {
         }
         let numbers = self.absent_from(number, next);
         let _ = self.bring_eight(&numbers);
-    }
-
-    /// Brings those of some pages into memory that are there and not in memory, eight at a time,
-    /// as far as they fill half of it at most.
-    pub(crate) fn bring(&mut self, numbers: &[u32]) -> Result<(), CacheFault>
-        requires { IsSound (seen_of S.seen self.old) }
-        ensures steps { Steps (seen_of S.seen self.old) (seen_of S.seen self.new) }
-        ensures length { SameLength (seen_of S.seen self.old) (seen_of S.seen self.new) }
-        ensures cause { IfErr result
-            (λ fault. IsStopped fault (seen_of S.seen self.old) (seen_of S.seen self.new)) }
-    {
-        let most = self.held.cap().get() / 16;
-        let groups = most.min(numbers.len().div_ceil(8)).min(1 << 16);
-        'groups: for group in 0..groups {
-            match self.bring_eight(&eight_at(numbers, group)) {
-                Ok(()) => {}
-                Err(fault) => return Err(fault),
-            }
-        }
-        Ok(())
     }
 }

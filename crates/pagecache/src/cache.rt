@@ -211,24 +211,6 @@ impl<S: PageStore> PageCache<S> {
         self.slots.flush()
     }
 
-    /// Brings those of some pages into memory that are not there, so that to ask for them costs
-    /// less. They fill half of it at most. A page that is not sealed stays for `page` to name, and a
-    /// number that no page has is passed over.
-    pub fn bring(&mut self, numbers: &[u32]) -> Result<(), CacheFault>
-        // No page has another payload, and none more is changed.
-        ensures stays { KeepsPayloads self.old self.new }
-        // Where no page is changed, none more is unsynced.
-        ensures unsynced { UnsyncsNone self.old self.new }
-        // The store has as many pages as before.
-        ensures length { SameLength self.old self.new }
-        // No ask is counted.
-        ensures asked { self.new.asked ≡ self.old.asked }
-        // It fails only where the store failed or memory ran out.
-        ensures cause { IfErr result (λ fault. IsStopped fault self.old self.new) }
-    {
-        self.slots.bring(numbers)
-    }
-
     /// Notes that `next` is likely to be asked for after a page, for `noted_after`. No contract says
     /// what was noted.
     pub fn note_next(&mut self, number: u32, next: u32)

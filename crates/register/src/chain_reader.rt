@@ -5,7 +5,7 @@ ghost use Rattle.register.specs.Chain.{is_part};
 ghost use Rattle.register.specs.ChainReader.{fault_of};
 
 use crate::fault::CatalogueFault;
-use pagecache::{CacheFault, PageCache};
+use pagecache::{CacheFault, PageCache, behind};
 use pages::{Kind, PageStore, Payload};
 use std::alloc::Global;
 use std::marker::Model;
@@ -137,7 +137,16 @@ impl ChainReader {
         Ok(())
     }
 
-    /// Reads the next page of the chain.
+    /// How many pages the chain has behind the next one, as far as they are up to seven.
+    fn pages_behind(&self) -> usize
+        ensures { result ≤ 7 }
+    {
+        let pages = self.left.div_ceil(MOST_USED).saturating_sub(1);
+        pages.min(7) as usize
+    }
+
+    /// Reads the next page of the chain. Those behind it may come into memory with it, since the
+    /// pages of most chains follow one another.
     fn load<S: PageStore>(&mut self, cache: &mut PageCache<S>) -> Result<(), CatalogueFault>
         requires { 0 < self.old.left }
         ensures same { OnOk result ((at : ℕ → Option Payload) → Shows cache.old at
@@ -148,7 +157,8 @@ impl ChainReader {
         ensures reads { OnlyReads cache.old cache.new }
         ensures caused { IfErr result (IsReadFault cache.old cache.new) }
     {
-        match cache.page(self.next) {
+        let next = behind(self.next);
+        match cache.page_ahead(self.next, &next[..self.pages_behind()]) {
             Ok(payload) => self.take_page(payload),
             Err(fault) => Err(fault_of(fault)),
         }

@@ -1,2 +1,3 @@
 mod GrowingLemmas
+mod PlaceLemmas
 mod RowLemmas

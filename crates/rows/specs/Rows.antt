@@ -1,5 +1,5 @@
 -- How rows stand in one list of values.
-use Rattle.std.specs.Prelude.{ℕ, List, ◌≤◌, ◌+◌, ◌++◌, ◌∷◌, [], length, map, take, drop, replicate, IsUtf8}
+use Rattle.std.specs.Prelude.{ℕ, List, ◌≤◌, ◌+◌, ◌++◌, ◌∷◌, [], length, map, take, drop, get_or, replicate, IsUtf8}
 use Rattle.std.specs.List.{All}
 use Rattle.rows.specs.declared.row.Place.{Place}
 
@@ -11,9 +11,9 @@ row_of values place = take place.count (drop place.first values) ++ replicate pl
 abbrev pub rows_of : List (List ℕ) → List Place → List (List (List ℕ))
 rows_of values places = map (row_of values) places
 
--- the place of the same values behind so many others
-abbrev pub moved : ℕ → Place → Place
-moved before place = record place { first = before + place.first }
+-- the places of those numbers; equal rows have one place
+abbrev pub places_of : List Place → List ℕ → List Place
+places_of kept numbers = map (λ n. get_or kept n (record { first = 0; count = 0; blanks = 0 })) numbers
 
 -- all values of a place are there, and are texts
 pub record IsIn (values : List (List ℕ)) (place : Place) : Type 0 where
@@ -29,13 +29,13 @@ pub record Grown : Type 0 where
   pub rows : List (List (List ℕ))
   pub row : List (List ℕ)
 
--- those at places, and the values from a number on
+-- those at places among the values before a number, and the values from it on
 abbrev pub grown : List (List ℕ) → List Place → ℕ → Grown
-grown values places first = record { rows = rows_of values places; row = drop first values }
+grown values places first = record { rows = rows_of (take first values) places; row = drop first values }
 
 -- all of them are there, and are texts
 pub record AreGrown (values : List (List ℕ)) (places : List Place) (first : ℕ) : Type 0 where
-  pub rows : AreIn values places
+  pub rows : AreIn (take first values) places
   pub begins : first ≤ length values
   pub texts : All IsUtf8 (drop first values)
 

@@ -1,7 +1,9 @@
-//! Rows of attribute values, kept close together: all values of all rows stand in one text.
+//! Rows of attribute values, kept close together: the values of equal rows stand once, all in one text.
 #![tactic(auto)]
 
 mod growing;
+mod guesses;
+mod places;
 mod row;
 mod rows;
 

@@ -1,5 +1,5 @@
 //! A row of values, borrowed.
-ghost use Rattle.std.specs.Prelude.{◌≡◌, length, get_or, []};
+ghost use Rattle.std.specs.Prelude.{◌≡◌, ◌≤◌, ◌++◌, length, take, get_or, replicate, []};
 
 use csv::ByteRecord;
 use std::marker::Model;
@@ -41,6 +41,14 @@ impl<'a> Row<'a> {
         ensures { result ≡ length self.now }
     {
         self.place.count as usize + self.place.blanks as usize
+    }
+
+    /// How many values are kept, and how many blank ones stand behind them.
+    pub(crate) fn parts(&self) -> (usize, u32)
+        ensures row { take result.0 self.now ++ replicate result.1 [] ≡ self.now }
+        ensures kept { result.0 ≤ length self.now }
+    {
+        (self.place.count as usize, self.place.blanks)
     }
 
     /// The value of that number, counted from 0; no character for a number that is too great.

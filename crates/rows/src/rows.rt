@@ -1,135 +1,43 @@
 //! The rows.
-ghost use Rattle.std.specs.Prelude.{ℕ, List, ◌≡◌, ◌+◌, ◌<◌, ◌^◌, ◌++◌, ◌∷◌, [], map, OnOk, OnErr, IsTrue, IsUtf8, All};
-ghost use Rattle.rows.specs.Rows.{moved};
-ghost use Rattle.rows.specs.declared.row.Place.{Place};
-ghost use Rattle.csv.specs.Records.{fields_of, partial_of};
-
-use crate::row::{Place, Row};
-use csv::ByteRecord;
-use mfcsv::{Text, Values};
+use crate::growing::GrowingRows;
+use crate::row::Row;
+use mfcsv::Values;
 use std::alloc::{AllocError, Global};
 use std::marker::Model;
 
 /// Rows of attribute values, seen by contracts as the list of these rows.
 ///
-/// All values stand in one text, one after another, with 8 bytes for each value and 16 for each row
-/// beside it. Blank values that `Values` counts at a row's end are counted here too, not kept.
+/// The values of equal rows are kept once, all in one text, one after another. Beside it there are 4
+/// bytes for each row, and for each that differs 16 bytes, and 8 for each of its values. Blank values
+/// that `Values` counts at a row's end are counted here too, not kept.
 pub struct Rows {
-    values: ByteRecord,
-    places: Vec<Place>,
-    /// Whether no value was left half written, for want of memory.
-    is_whole: bool,
+    pub(crate) rows: GrowingRows,
 }
 
 // In one place, and not at each end of what owns it.
 impl Drop for Rows {
     fn drop(self) {
-        let Rows {
-            values,
-            places,
-            is_whole,
-        } = self;
+        let Rows { rows } = self;
     }
 }
 
 impl Model for Rows {
-    ghost use Rattle.std.specs.Prelude.{ℕ, List, ◌≡◌, [], IsTrue};
-    ghost use Rattle.csv.specs.Records.{fields_of, partial_of};
-    ghost use Rattle.rows.specs.Rows.{rows_of, AreIn};
+    ghost use Rattle.std.specs.Prelude.{ℕ, List};
 
     ghost Value = { List (List (List ℕ)) };
 
-    ghost view = { λ a. rows_of (fields_of a.values) a.places.items };
-
-    ghost invariant = { λ a. AreIn (fields_of a.values) a.places.items
-        × (IsTrue a.is_whole → partial_of a.values ≡ []) };
-}
-
-/// Makes a value that was left half written one that no row has.
-fn close(values: &mut ByteRecord, is_whole: bool) -> Result<(), AllocError>
-    ensures more { (some : List (List ℕ)) × (fields_of values.new ≡ fields_of values.old ++ some) }
-    ensures whole { OnOk result ((IsTrue is_whole → partial_of values.old ≡ [])
-        → partial_of values.new ≡ []) }
-{
-    if is_whole {
-        return Ok(());
-    }
-    values.push_field(&[])
-}
-
-/// Puts values behind the others.
-fn push_values(values: &mut ByteRecord, texts: &[Text]) -> Result<(), AllocError>
-    ensures fields { OnOk result (partial_of values.old ≡ []
-        → fields_of values.new ≡ fields_of values.old ++ texts.now) }
-    ensures partial { OnOk result (partial_of values.old ≡ [] → partial_of values.new ≡ []) }
-    ensures more { (some : List (List ℕ)) × (fields_of values.new ≡ fields_of values.old ++ some) }
-    ensures texts { OnOk result (All IsUtf8 texts.now) }
-{
-    for text in texts {
-        values.push_field(text.as_str().as_bytes())?;
-    }
-    Ok(())
-}
-
-/// Puts all values of one text behind those of another.
-fn push_fields(values: &mut ByteRecord, others: &ByteRecord) -> Result<(), AllocError>
-    ensures fields { OnOk result (partial_of values.old ≡ []
-        → fields_of values.new ≡ fields_of values.old ++ fields_of others.now) }
-    ensures partial { OnOk result (partial_of values.old ≡ [] → partial_of values.new ≡ []) }
-    ensures more { (some : List (List ℕ)) × (fields_of values.new ≡ fields_of values.old ++ some) }
-{
-    for i in 0..others.len() {
-        match others.get(i) {
-            Some(value) => values.push_field(value)?,
-            None => unreachable!(),
-        }
-    }
-    Ok(())
-}
-
-/// Puts places behind others, where that many values stand before theirs.
-fn push_places(places: &mut Vec<Place>, others: &[Place], before: usize) -> Result<(), AllocError>
-    requires { All (λ (place : Place). before + place.first < 2 ^ 64) others.now }
-    ensures pushed { OnOk result
-        (places.new.items ≡ places.old.items ++ map (moved before) others.now) }
-    ensures more { (some : List Place) × (places.new.items ≡ places.old.items ++ some) }
-{
-    for place in others {
-        places.push(Place {
-            first: before + place.first,
-            count: place.count,
-            blanks: place.blanks,
-        })?;
-    }
-    Ok(())
+    ghost view = { λ a. a.rows.rows };
 }
 
 impl Rows {
-    ghost use Rattle.std.specs.Prelude.{ℕ, ◌≡◌, ◌↔◌, ◌++◌, ◌∷◌, [], length, slice_get, OnOk, OnErr, IsTrue, All};
-    ghost use Rattle.csv.specs.Records.{fields_of, partial_of};
-    ghost use Rattle.rows.specs.Rows.{rows_of, AreIn};
+    ghost use Rattle.std.specs.Prelude.{ℕ, List, ◌≡◌, ◌↔◌, ◌++◌, ◌∷◌, [], length, slice_get, OnOk, OnErr, IsTrue, All};
 
     /// No row.
     pub fn new(alloc: Global) -> Rows
         ensures { result ≡ [] }
     {
         Rows {
-            values: ByteRecord::new(alloc),
-            places: Vec::new(alloc),
-            is_whole: true,
-        }
-    }
-
-    /// The rows at these places among values.
-    pub(crate) fn from_parts(values: ByteRecord, places: Vec<Place>, is_whole: bool) -> Rows
-        requires inside { AreIn (fields_of values) places.items }
-        requires whole { IsTrue is_whole → partial_of values ≡ [] }
-        ensures { result ≡ rows_of (fields_of values) places.items }
-    {
-        Rows {
-            values,
-            places,
-            is_whole,
+            rows: GrowingRows::new(alloc),
         }
     }
 
@@ -137,18 +45,14 @@ impl Rows {
     pub fn len(&self) -> usize
         ensures { result ≡ length self.now }
     {
-        self.places.len()
+        self.rows.len()
     }
 
     /// The row of that number, counted from 0.
     pub fn row(&self, i: usize) -> Option<Row<'_>>
         ensures { result ≡ slice_get self.now i }
     {
-        let place = self.places.get(i).copied()?;
-        Some(Row {
-            values: &self.values,
-            place,
-        })
+        self.rows.row(i)
     }
 
     /// Puts a row behind the others. It is refused where memory runs out, and where the row has 2^32
@@ -160,20 +64,36 @@ impl Rows {
         ensures stays { OnErr result (self.new ≡ self.old) }
     {
         let (texts, blanks) = row.parts();
-        let (Ok(count), Ok(blanks)) = (u32::try_from(texts.len()), u32::try_from(blanks)) else {
+        let Ok(blanks) = u32::try_from(blanks) else {
             return Err(AllocError);
         };
-        let is_whole = self.is_whole;
-        self.is_whole = false;
-        close(&mut self.values, is_whole)?;
-        let first = self.values.len();
-        push_values(&mut self.values, texts)?;
-        self.is_whole = true;
-        self.places.push(Place {
-            first,
-            count,
-            blanks,
-        })?;
+        self.rows.begin_row()?;
+        self.rows.push_texts(texts)?;
+        self.rows.end_row_with(blanks)
+    }
+
+    /// Puts a row of others behind the others.
+    fn push_row(&mut self, row: &Row<'_>) -> Result<(), AllocError>
+        ensures pushed { OnOk result (self.new ≡ self.old ++ row.now ∷ []) }
+        ensures stays { OnErr result (self.new ≡ self.old) }
+    {
+        let (kept, blanks) = row.parts();
+        self.rows.begin_row()?;
+        self.rows.push_first(row, kept)?;
+        self.rows.end_row_with(blanks)
+    }
+
+    /// Puts other rows behind these; where memory runs out only some of them.
+    fn push_rows(&mut self, others: &Rows) -> Result<(), AllocError>
+        ensures pushed { OnOk result (self.new ≡ self.old ++ others.now) }
+        ensures more { (some : List (List (List ℕ))) × (self.new ≡ self.old ++ some) }
+    {
+        for i in 0..others.len() {
+            match others.row(i) {
+                Some(row) => self.push_row(&row)?,
+                None => unreachable!(),
+            }
+        }
         Ok(())
     }
 
@@ -185,22 +105,15 @@ impl Rows {
         // After an error the rows are as before.
         ensures stays { OnErr result (self.new ≡ self.old) }
     {
-        if self.places.is_empty() {
+        let known = self.len();
+        if known == 0 {
             *self = other;
             return Ok(());
         }
-        let was_whole = self.is_whole;
-        self.is_whole = false;
-        close(&mut self.values, was_whole)?;
-        push_fields(&mut self.values, &other.values)?;
-        self.is_whole = true;
-        let all = self.values.len();
-        let own = other.values.len();
-        let known = self.places.len();
-        match push_places(&mut self.places, other.places.as_slice(), all - own) {
+        match self.push_rows(&other) {
             Ok(()) => Ok(()),
             Err(memory) => {
-                self.places.truncate(known);
+                self.rows.truncate(known);
                 Err(memory)
             }
         }
@@ -210,10 +123,14 @@ impl Rows {
     pub fn have(&self, count: usize) -> bool
         ensures { IsTrue result ↔ All (λ row. length row ≡ count) self.now }
     {
-        for i in 0..self.places.len() {
-            let place = self.places[i];
-            if place.count as usize + place.blanks as usize != count {
-                return false;
+        for i in 0..self.len() {
+            match self.row(i) {
+                Some(row) => {
+                    if row.len() != count {
+                        return false;
+                    }
+                }
+                None => unreachable!(),
             }
         }
         true

@@ -1,5 +1,5 @@
 use Rattle.std.proofs.Common.{refl, arith, ◌∙◌}
-use Rattle.pagecache.proofs.BringLemmas.{all_read_after, stopped_after}
+use Rattle.pagecache.proofs.BringLemmas.{all_read_after}
 use Rattle.pagecache.proofs.CacheLemmas.{rests, steps-trans}
 use Rattle.pagecache.proofs.slots.Slots.take_eight.Goals as goal
 
@@ -19,6 +19,3 @@ places-preserved g c =
 
 pub returns-in-Err-clause-steps : goal.returns-in-Err-clause-steps
 returns-in-Err-clause-steps g c = steps-trans _ _ _ c.places.invariant.steps c.take_in.ensures.steps
-
-pub returns-in-Err-clause-cause : goal.returns-in-Err-clause-cause
-returns-in-Err-clause-cause g c = stopped_after _ _ _ c.in-Err.fault c.places.invariant.steps c.in-Err.ensures.cause
