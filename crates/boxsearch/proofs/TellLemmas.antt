@@ -24,7 +24,6 @@ use Rattle.boxsearch.specs.Index.{IndexView, words, tells}
 use Rattle.boxsearch.specs.Telling.{TellsTrack, DeniesTrack}
 use Rattle.boxsearch.specs.Way.{meets, IsWay, IsOffWay}
 
-module _ (old new : Cache) (page : ℕ) where
 -- of a search
 module _ (i : IndexView) (c : Cache) (query : BoxView) where
   search_denies : (fault : TreeFault)

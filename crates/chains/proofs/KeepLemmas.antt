@@ -1,5 +1,5 @@
--- The kept legs of a leaf, taken from its end.
-use Rattle.std.proofs.Common.{ℕ, zero, suc, ◌≡◌, Bool, List, [], ◌∷◌, drop, sym, ap, Some, slice_get}
+-- What is dropped of a list before one of its elements.
+use Rattle.std.proofs.Common.{ℕ, zero, suc, ◌≡◌, List, [], ◌∷◌, drop, sym, ap, Some, slice_get}
 use Rattle.legs.proofs.GroupLemmas.{some_none, some_same}
 
 module _ {X : Type 0} where
@@ -8,5 +8,3 @@ module _ {X : Type 0} where
   drop_at [] i x e = absurd (some_none x (sym e))
   drop_at (y ∷ xs) zero x e = ap (λ z. z ∷ xs) (some_same y x e)
   drop_at (y ∷ xs) (suc i) x e = drop_at xs i x e
-
-  module _ (keep : X → Bool) where
