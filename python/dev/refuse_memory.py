@@ -3,8 +3,8 @@
 tools/refuse-memory [--sample N] [--built] [CRATE[::TESTS] | examples]...
 
 TESTS is how the names of the tests begin that are run. These tests take want of memory for an outcome, and most ask
-once more, so each run is to pass; `db_tests` and `program_tests` have others besides. All worked scripts over worked
-files are `db_tests::run_tests`, over a list and over pages. The tests of a crate are proved and built first, which
+once more, so each run is to pass; `tests_database` and `tests_program` have others besides. All worked scripts over worked
+files are `tests_database::run_tests`, over a list and over pages. The tests of a crate are proved and built first, which
 takes minutes; with --built they are those that stand there. An example is run by the program, each time with a new
 store: it is to answer all, or to say that memory ran out and to have sent whole answers. All run under a small library
 that refuses the allocation of one number. With --sample N so many numbers are refused of each test and example, all
@@ -22,15 +22,15 @@ from compiling import proved
 
 ROOT = pathlib.Path(__file__).resolve().parents[2]
 WORDS = (
-    "value_tests::fixedpoint_tests",
-    "value_tests::mfcsv_tests",
-    "value_tests::legs_tests",
-    "page_tests::pagecache_tests::no_wrong_answer_without_memory",
-    "store_tests::search_tests::no_wrong_legs_without_memory",
-    "db_tests::failing_tests::no_wrong_answer_without_memory",
-    "db_tests::lasting_tests::no_wrong_book_without_memory",
-    "db_tests::migrating_tests::no_wrong_store_without_memory",
-    "db_tests::run_tests",
+    "tests_values::fixedpoint_tests",
+    "tests_values::mfcsv_tests",
+    "tests_values::legs_tests",
+    "tests_pages::pagecache_tests::no_wrong_answer_without_memory",
+    "tests_store::search_tests::no_wrong_legs_without_memory",
+    "tests_database::failing_tests::no_wrong_answer_without_memory",
+    "tests_database::lasting_tests::no_wrong_book_without_memory",
+    "tests_database::migrating_tests::no_wrong_store_without_memory",
+    "tests_database::run_tests",
     "examples",
 )
 EXAMPLES = ("standard", "harbour", "junction", "reserve", "drones")

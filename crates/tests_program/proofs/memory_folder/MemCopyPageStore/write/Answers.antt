@@ -1,6 +1,6 @@
 use Rattle.std.proofs.Common.{arith, ap, ◌∙◌, sym, add-one, take, drop, ◌++◌, ◌∷◌, ◌<◌, length, refl}
 use Rattle.std.proofs.lemmas.List.{set_split}
-use Rattle.program_tests.proofs.memory_folder.MemCopyPageStore.write.Goals as goal
+use Rattle.tests_program.proofs.memory_folder.MemCopyPageStore.write.Goals as goal
 
 pub returns-then-place-len-clause-written : goal.returns-then-place-len-clause-written
 returns-then-place-len-clause-written c =

@@ -1,7 +1,7 @@
 //! What callers write. Each function is proved from the contracts of the cache alone.
 ghost use Rattle.std.specs.Prelude.{◌<◌, OnOk, OnErr, IfOk, IfErr};
 ghost use Rattle.pagecache.specs.Cache.{Rests, IsRefused};
-ghost use Rattle.page_tests.specs.CachedBytes.{ReadsByte, WritesByte};
+ghost use Rattle.tests_pages.specs.CachedBytes.{ReadsByte, WritesByte};
 
 use pagecache::{CacheFault, PageCache};
 use pages::PageStore;
