@@ -1,4 +1,5 @@
 //! What the words of the command line ask for.
+use predicates::Predicate;
 
 /// When it is said in words what went wrong.
 #[derive(Clone, Copy, PartialEq, Eq, Debug)]
@@ -168,6 +169,36 @@ pub struct Moments<'a> {
     pub telling: Telling,
 }
 
+/// What is printed of zones.
+#[derive(Clone, Copy)]
+pub enum ZoneRowKind {
+    /// A record a visit.
+    Visits,
+    /// A record a stay of a leg.
+    Legs,
+    /// A record a feature: how long it stays.
+    Dwell,
+    /// A record a feature of which the predicate holds.
+    Features(Predicate),
+}
+
+/// What `mftb zones` is asked to do.
+#[derive(Clone, Copy)]
+pub struct Zones<'a> {
+    /// The name of the file that keeps the database.
+    pub store: &'a str,
+    /// How many pages its cache holds at most, at least 1.
+    pub cache_pages: u32,
+    /// The name of the zone file.
+    pub zones: &'a str,
+    /// T1 and T2, as they were written.
+    pub times: [&'a str; 2],
+    /// What is printed.
+    pub rows: ZoneRowKind,
+    /// When it is said why nothing is printed.
+    pub telling: Telling,
+}
+
 /// What `mftb gaps` is asked to do.
 #[derive(Clone, Copy)]
 pub struct Gaps<'a> {
@@ -205,6 +236,8 @@ pub enum Task<'a> {
     Parts(Parts<'a>),
     /// To say when legs are inside a rectangle.
     Moments(Moments<'a>),
+    /// To say who is in which zone.
+    Zones(Zones<'a>),
     /// To say when features have no position.
     Gaps(Gaps<'a>),
     /// To say what a store holds.

@@ -1,158 +1,16 @@
 //! The words of the command line.
+use crate::forms::{Form, Word, command, with_words};
 use crate::task::{
     Check, Corners, Gaps, Info, InfoForm, Migrate, Moments, Part, Parts, RowKind, Run, StoreMode,
-    Task, Telling, Where, WriteMode,
+    Task, Telling, Where, WriteMode, ZoneRowKind, Zones,
 };
-use clap::builder::ValueParser;
 use clap::error::ErrorKind;
-use clap::{Arg, ArgAction, ArgMatches, Command, Error};
+use clap::{ArgMatches, Command, Error};
+use predicates::Predicate;
 use std::alloc::{AllocError, Global};
 
 /// How many pages a cache holds where no word says it.
 const CACHE_PAGES: u32 = 256;
-
-/// What a word of a command is.
-#[derive(Clone, Copy)]
-enum Form<'a> {
-    /// It has to be there.
-    Required,
-    /// It has to be there, and is a number of that at least.
-    Count(u32),
-    /// It has to be there, and may be a number below 0.
-    Bound,
-    /// As many words as there are.
-    Names,
-    /// `--NAME`, without a value.
-    Flag,
-    /// `--NAME`, without a value, and that letter for it.
-    FlagOrLetter(char),
-    /// `--NAME VALUE`.
-    Value(&'a str),
-    /// `--NAME VALUE`, a number.
-    Number(&'a str),
-    /// `--NAME N`, a number from 1 to 2^31.
-    Limit,
-    /// `--NAME N`, a number of 1 at least, and that where it is not there.
-    CountOr(&'a str),
-}
-
-/// A word of a command: its name, what it is, and what is said of it.
-#[derive(Clone, Copy)]
-struct Word<'a> {
-    name: &'a str,
-    form: Form<'a>,
-    help: &'a str,
-}
-
-impl<'a> Word<'a> {
-    fn new(form: Form<'a>, name: &'a str, help: &'a str) -> Word<'a> {
-        Word { name, form, help }
-    }
-}
-
-/// A number between two others.
-fn between<'a>(least: u32, most: u32) -> ValueParser<'a> {
-    ValueParser::signed(i64::from(least), i64::from(most))
-}
-
-/// A word that has to be there.
-fn required<'a>(alloc: Global, word: Word<'a>) -> Arg<'a> {
-    Arg::new(alloc, word.name)
-        .help(word.help)
-        .required(true)
-        .action(ArgAction::Set)
-}
-
-/// A word that has to be there, and is a number of that at least.
-fn count<'a>(alloc: Global, word: Word<'a>, least: u32) -> Arg<'a> {
-    required(alloc, word).value_parser(between(least, u32::MAX))
-}
-
-/// A word that has to be there, and may begin with a minus.
-fn bound<'a>(alloc: Global, word: Word<'a>) -> Arg<'a> {
-    required(alloc, word).allow_negative_numbers(true)
-}
-
-/// As many words as there are.
-fn names<'a>(alloc: Global, word: Word<'a>) -> Arg<'a> {
-    Arg::new(alloc, word.name).help(word.help).num_args(0..)
-}
-
-/// A word `--NAME` without a value.
-fn flag<'a>(alloc: Global, word: Word<'a>) -> Arg<'a> {
-    Arg::new(alloc, word.name)
-        .long(word.name)
-        .help(word.help)
-        .action(ArgAction::SetTrue)
-}
-
-/// A word `--NAME` without a value, and that letter for it.
-fn letter_flag<'a>(alloc: Global, word: Word<'a>, letter: char) -> Arg<'a> {
-    flag(alloc, word).short(letter)
-}
-
-/// A word `--NAME VALUE`.
-fn option<'a>(alloc: Global, word: Word<'a>, value: &'a str) -> Arg<'a> {
-    Arg::new(alloc, word.name)
-        .long(word.name)
-        .value_name(value)
-        .help(word.help)
-}
-
-/// A word `--NAME VALUE`, a number.
-fn number<'a>(alloc: Global, word: Word<'a>, value: &'a str) -> Arg<'a> {
-    option(alloc, word, value).value_parser(between(0, u32::MAX))
-}
-
-/// A word `--NAME N`, a number from 1 to 2^31.
-fn limit<'a>(alloc: Global, word: Word<'a>) -> Arg<'a> {
-    option(alloc, word, "N").value_parser(between(1, 1 << 31))
-}
-
-/// A word `--NAME N`, a number of 1 at least, and that where it is not there.
-fn count_or<'a>(alloc: Global, word: Word<'a>, default: &'a str) -> Arg<'a> {
-    option(alloc, word, "N")
-        .value_parser(between(1, u32::MAX))
-        .default_value(default)
-}
-
-/// What `clap` is told of a word.
-fn arg_of<'a>(alloc: Global, word: Word<'a>) -> Arg<'a> {
-    match word.form {
-        Form::Required => required(alloc, word),
-        Form::Count(least) => count(alloc, word, least),
-        Form::Bound => bound(alloc, word),
-        Form::Names => names(alloc, word),
-        Form::Flag => flag(alloc, word),
-        Form::FlagOrLetter(letter) => letter_flag(alloc, word, letter),
-        Form::Value(value) => option(alloc, word, value),
-        Form::Number(value) => number(alloc, word, value),
-        Form::Limit => limit(alloc, word),
-        Form::CountOr(default) => count_or(alloc, word, default),
-    }
-}
-
-/// The command of that name, with these words in their order.
-fn command<'a>(
-    alloc: Global,
-    name: &'a str,
-    about: &'a str,
-    words: &[Word<'a>],
-) -> Result<Command<'a>, AllocError> {
-    with_words(alloc, Command::new(alloc, name).about(about), words)
-}
-
-/// A command with more words, in their order.
-fn with_words<'a>(
-    alloc: Global,
-    mut command: Command<'a>,
-    words: &[Word<'a>],
-) -> Result<Command<'a>, AllocError> {
-    for word in words {
-        command = command.arg(arg_of(alloc, *word))?;
-    }
-    Ok(command)
-}
 
 /// The word `--cache-pages N`.
 fn cache_pages<'a>() -> Word<'a> {
@@ -412,6 +270,45 @@ fn moments_command<'a>(alloc: Global, reading: Reading) -> Result<Command<'a>, A
     with_words(alloc, command, &moments_words(bound))
 }
 
+/// The words of `mftb zones`.
+fn zones_command<'a>(alloc: Global) -> Result<Command<'a>, AllocError> {
+    let words = [
+        Word::new(Form::Required, "STORE", "The file that keeps the database"),
+        Word::new(
+            Form::Required,
+            "ZONES",
+            "The file of zones (CSV: name,wkt): polygons, and lines of two positions",
+        ),
+        Word::new(
+            Form::Required,
+            "T1",
+            "The first moment, as 2012-01-17T12:33:41Z",
+        ),
+        Word::new(Form::Required, "T2", "The last moment"),
+        Word::new(
+            Form::Flag,
+            "visits",
+            "Print a record a visit, as where no other of these is given",
+        ),
+        Word::new(Form::Flag, "legs", "Print a record a stay of a leg"),
+        Word::new(
+            Form::Flag,
+            "dwell",
+            "Print a record a feature: how long it stays in all",
+        ),
+        Word::new(
+            Form::Predicate,
+            "features",
+            "Print the features of which a predicate holds, with the zone as its rectangle",
+        ),
+        cache_pages(),
+        explain(),
+        quiet(),
+    ];
+    let about = "Prints who is in which zone of a file, from when to when, exactly";
+    command(alloc, "zones", about, &words)
+}
+
 /// The words of `mftb gaps`.
 fn gaps_command<'a>(alloc: Global) -> Result<Command<'a>, AllocError> {
     let words = [
@@ -461,6 +358,7 @@ fn mftb<'a>(alloc: Global, reading: Reading) -> Result<Command<'a>, AllocError> 
         .subcommand(part_command(alloc)?)?
         .subcommand(parts_command(alloc)?)?
         .subcommand(moments_command(alloc, reading)?)?
+        .subcommand(zones_command(alloc)?)?
         .subcommand(gaps_command(alloc)?)?
         .subcommand(info_command(alloc)?)
 }
@@ -579,6 +477,43 @@ fn moments_of<'a>(matches: &ArgMatches<'a>) -> Moments<'a> {
     }
 }
 
+/// The predicate of a word.
+fn predicate_of(word: &str) -> Predicate {
+    match word {
+        "always" => Predicate::Always,
+        "enters" => Predicate::Enters,
+        "leaves" => Predicate::Leaves,
+        "crosses" => Predicate::Crosses,
+        "bypasses" => Predicate::Bypasses,
+        _ => Predicate::Ever,
+    }
+}
+
+/// What is printed of zones.
+fn zone_rows_of(matches: &ArgMatches) -> ZoneRowKind {
+    if let Some(word) = matches.get_str("features") {
+        ZoneRowKind::Features(predicate_of(word))
+    } else if flag_of(matches, "legs") {
+        ZoneRowKind::Legs
+    } else if flag_of(matches, "dwell") {
+        ZoneRowKind::Dwell
+    } else {
+        ZoneRowKind::Visits
+    }
+}
+
+/// What `mftb zones` is asked to do.
+fn zones_of<'a>(matches: &ArgMatches<'a>) -> Zones<'a> {
+    Zones {
+        store: word_of(matches, "STORE"),
+        cache_pages: number_of(matches, "cache-pages", CACHE_PAGES),
+        zones: word_of(matches, "ZONES"),
+        times: [word_of(matches, "T1"), word_of(matches, "T2")],
+        rows: zone_rows_of(matches),
+        telling: telling_of(matches),
+    }
+}
+
 /// What `mftb check` is asked to do.
 fn check_of<'a>(matches: &ArgMatches<'a>) -> Check<'a> {
     Check {
@@ -655,6 +590,24 @@ fn clash_of(matches: &ArgMatches) -> Option<&'static str> {
     if is_said(matches, "dwell") && is_said(matches, "visits") {
         return Some("the argument '--dwell' cannot be used with '--visits'");
     }
+    zone_clash_of(matches)
+}
+
+/// The same of the flags that `mftb zones` has alone.
+fn zone_clash_of(matches: &ArgMatches) -> Option<&'static str> {
+    let (is_legs, is_dwell) = (is_said(matches, "legs"), is_said(matches, "dwell"));
+    let is_visits = is_said(matches, "visits");
+    if matches.get_str("features").is_some() && (is_visits || is_legs || is_dwell) {
+        return Some(
+            "the argument '--features' cannot be used with '--visits', '--legs' or '--dwell'",
+        );
+    }
+    if is_legs && is_visits {
+        return Some("the argument '--legs' cannot be used with '--visits'");
+    }
+    if is_legs && is_dwell {
+        return Some("the argument '--legs' cannot be used with '--dwell'");
+    }
     None
 }
 
@@ -693,6 +646,7 @@ fn task_of<'a>(alloc: Global, name: &str, matches: &ArgMatches<'a>) -> Result<Ta
         "part" => Task::Part(part_of(matches)),
         "parts" => Task::Parts(parts_of(matches)),
         "moments" => Task::Moments(moments_of(matches)),
+        "zones" => Task::Zones(zones_of(matches)),
         "gaps" => Task::Gaps(gaps_of(matches)),
         "info" => Task::Info(info_of(matches)),
         _ => Task::Run(run_of(alloc, matches)?),

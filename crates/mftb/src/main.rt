@@ -1,6 +1,7 @@
 //! A trajectory database on the command line: `mftb run STORE SCRIPT [FILES]...`, `mftb check STORE`,
 //! `mftb migrate OLD NEW`, `mftb part K N FILE`, `mftb parts N FILE DIR`,
-//! `mftb moments STORE X1 Y1 X2 Y2 T1 T2`, `mftb gaps STORE T1 T2`, `mftb info STORE`.
+//! `mftb moments STORE X1 Y1 X2 Y2 T1 T2`, `mftb zones STORE ZONES T1 T2`, `mftb gaps STORE T1 T2`,
+//! `mftb info STORE`.
 #![tactic(auto)]
 
 mod commands;

@@ -7,4 +7,6 @@ pub(crate) enum Outcome {
     Done,
     /// A line or a file was refused, and that was asked for.
     Refused,
+    /// The zone file was refused, and that was said.
+    ZonesRefused,
 }

@@ -7,6 +7,7 @@ use crate::commands::moments_command::print_moments;
 use crate::commands::part::print_part;
 use crate::commands::parts_command::write_parts;
 use crate::commands::run::run;
+use crate::commands::zones_command::print_zones;
 use crate::explain::faults::Before;
 use crate::outcome::Outcome;
 use arguments::{Task, read_words};
@@ -40,6 +41,10 @@ fn perform<
         Task::Part(task) => print_part(rt, task, &mut out),
         Task::Parts(task) => write_parts(rt, task),
         Task::Moments(task) => print_moments(rt, task, &mut out, is_terminal),
+        Task::Zones(task) => {
+            let ended = print_zones(rt, task, &mut out, is_terminal);
+            return (out, ended);
+        }
         Task::Gaps(task) => print_gaps(rt, task, &mut out),
         Task::Info(task) => print_info(rt, task, &mut out),
     };
@@ -69,6 +74,7 @@ fn answer_words<W: Write, V: Write>(error: &Error, out: &mut W, faults: &mut V) 
 fn status_of(ended: &Result<Outcome, Fault<'_>>, is_strict: bool) -> u8 {
     match ended {
         Ok(Outcome::Refused) if is_strict => 3,
+        Ok(Outcome::ZonesRefused) => 2,
         Ok(_) => 0,
         Err(fault) => fault.status(),
     }
@@ -94,7 +100,7 @@ fn answer_task<
 /// out.
 ///
 /// Of a task it is 0, or 3 where a line or a file was refused and `--strict` is among the words, or
-/// 2 for bounds or a part that are wrong, or 1 for any other fault.
+/// 2 for bounds, a part or a zone file that are wrong, or 1 for any other fault.
 ///
 /// `words` has the program's name first. Answers and help go to `out`, faults to `faults`.
 /// What a long run is doing, and in words what went wrong, is said on standard error, which may be a

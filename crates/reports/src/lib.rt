@@ -6,10 +6,14 @@ mod info_json;
 mod info_text;
 mod moments_text;
 mod pushed;
+mod zones_text;
 
 pub use gaps_text::{push_gap, push_gap_fields};
 pub use info_json::push_json;
 pub use info_text::{StoreReport, push_lines};
 pub use moments_text::{
     Frame, push_dwell_fields, push_dwells, push_fields, push_label, push_stays, push_visits,
+};
+pub use zones_text::{
+    ZoneFrame, push_zone_dwells, push_zone_features, push_zone_stays, push_zone_visits,
 };

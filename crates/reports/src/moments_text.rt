@@ -40,7 +40,7 @@ fn push_number(text: &mut Vec<u8>, number: u64) -> Result<(), AllocError>
 }
 
 /// Appends a number that may be below 0.
-fn push_signed(text: &mut Vec<u8>, number: i128) -> Result<(), AllocError>
+pub(crate) fn push_signed(text: &mut Vec<u8>, number: i128) -> Result<(), AllocError>
     ensures { OnOk result (text.new.items ≡ text.old.items ++ signed_decimal number) }
 {
     let mut buffer = Buffer::new();
@@ -66,7 +66,7 @@ pub(crate) fn push_word(text: &mut Vec<u8>, word: &str) -> Result<(), AllocError
 }
 
 /// Appends a comma and a number.
-fn push_count(text: &mut Vec<u8>, number: u64) -> Result<(), AllocError>
+pub(crate) fn push_count(text: &mut Vec<u8>, number: u64) -> Result<(), AllocError>
     ensures { OnOk result (text.new.items ≡ text.old.items ++ next_field (decimal number)) }
 {
     text.push(b',')?;
@@ -104,7 +104,7 @@ pub fn push_label(alloc: Global, text: &mut Vec<u8>, name: &str) -> Result<(), R
 }
 
 /// Appends what stands before a record, and the name of a feature.
-fn push_labelled<S: PageStore>(
+pub(crate) fn push_labelled<S: PageStore>(
     alloc: Global,
     text: &mut Vec<u8>,
     database: &Db<S>,
@@ -163,7 +163,7 @@ fn push_millis(text: &mut Vec<u8>, at: Ms) -> Result<(), AllocError>
 }
 
 /// Appends a comma and an instant to the microsecond.
-fn push_micros(text: &mut Vec<u8>, micros: i64) -> Result<(), RunFault>
+pub(crate) fn push_micros(text: &mut Vec<u8>, micros: i64) -> Result<(), RunFault>
     ensures fault { IfErr result (IsPrintFault (IsMoment (int_div_euclid micros (pos 1000)))) }
     ensures text { OnOk result (text.new.items
         ≡ text.old.items ++ next_field (micros_text micros)) }
@@ -355,7 +355,7 @@ pub fn push_visits<S: PageStore>(
 
 /// Appends a comma and microseconds as seconds.
 #[tactic(auto, unfolding(crate::specs::StayTexts::seconds_text))]
-fn push_seconds(text: &mut Vec<u8>, micros: u64) -> Result<(), RunFault>
+pub(crate) fn push_seconds(text: &mut Vec<u8>, micros: u64) -> Result<(), RunFault>
     ensures fault { IfErr result (λ fault. fault ≡ RunFault.Memory) }
     ensures text { OnOk result (text.new.items
         ≡ text.old.items ++ next_field (seconds_text micros)) }

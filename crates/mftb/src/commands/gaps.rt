@@ -27,7 +27,7 @@ const FIRST: i64 = -62_135_596_800_000;
 const LAST: i64 = 253_370_764_799_999;
 
 /// The rectangle and the period in which each leg is.
-fn everywhere() -> Option<(Rect, Period)> {
+pub(crate) fn everywhere() -> Option<(Rect, Period)> {
     let (least, most) = (Coord::new(-MOST)?, Coord::new(MOST)?);
     let rect = Rect::new(least, least, most, most)?;
     Some((rect, Period::new(Ms::new(FIRST)?, Ms::new(LAST)?)?))

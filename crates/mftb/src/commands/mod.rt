@@ -11,3 +11,4 @@ pub(crate) mod parts_command;
 pub(crate) mod reading;
 pub(crate) mod rectangles;
 pub(crate) mod run;
+pub(crate) mod zones_command;

@@ -21,7 +21,7 @@ use timebase::{Ms, Period};
 use trajdb::{Db, RunFault};
 
 /// How a database's stays are written, behind a label.
-fn frame_of<'l, S: PageStore>(database: &Db<S>, label: &'l [u8]) -> Frame<'l> {
+pub(crate) fn frame_of<'l, S: PageStore>(database: &Db<S>, label: &'l [u8]) -> Frame<'l> {
     match database.head() {
         Some(head) => Frame {
             base: head.base,

@@ -19,6 +19,7 @@ fn store_of<'a>(task: &Task<'a>) -> (&'a str, Telling) {
         Task::Part(part) => (part.file, Telling::OnTerminal),
         Task::Parts(parts) => (parts.file, Telling::OnTerminal),
         Task::Moments(moments) => (moments.store, moments.telling),
+        Task::Zones(zones) => (zones.store, zones.telling),
         Task::Gaps(gaps) => (gaps.store, gaps.telling),
         Task::Info(info) => (info.store, Telling::OnTerminal),
     }

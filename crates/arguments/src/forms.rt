@@ -1,0 +1,158 @@
+//! What a word of a command is, and what `clap` is told of it.
+use clap::builder::ValueParser;
+use clap::{Arg, ArgAction, Command};
+use std::alloc::{AllocError, Global};
+
+/// The words of predicates.
+const PREDICATES: [&str; 6] = ["ever", "always", "enters", "leaves", "crosses", "bypasses"];
+
+/// What a word of a command is.
+#[derive(Clone, Copy)]
+pub(crate) enum Form<'a> {
+    /// It has to be there.
+    Required,
+    /// It has to be there, and is a number of that at least.
+    Count(u32),
+    /// It has to be there, and may be a number below 0.
+    Bound,
+    /// As many words as there are.
+    Names,
+    /// `--NAME`, without a value.
+    Flag,
+    /// `--NAME`, without a value, and that letter for it.
+    FlagOrLetter(char),
+    /// `--NAME VALUE`.
+    Value(&'a str),
+    /// `--NAME PRED`, the word of a predicate.
+    Predicate,
+    /// `--NAME VALUE`, a number.
+    Number(&'a str),
+    /// `--NAME N`, a number from 1 to 2^31.
+    Limit,
+    /// `--NAME N`, a number of 1 at least, and that where it is not there.
+    CountOr(&'a str),
+}
+
+/// A word of a command: its name, what it is, and what is said of it.
+#[derive(Clone, Copy)]
+pub(crate) struct Word<'a> {
+    name: &'a str,
+    form: Form<'a>,
+    help: &'a str,
+}
+
+impl<'a> Word<'a> {
+    pub(crate) fn new(form: Form<'a>, name: &'a str, help: &'a str) -> Word<'a> {
+        Word { name, form, help }
+    }
+}
+
+/// A number between two others.
+fn between<'a>(least: u32, most: u32) -> ValueParser<'a> {
+    ValueParser::signed(i64::from(least), i64::from(most))
+}
+
+/// A word that has to be there.
+fn required<'a>(alloc: Global, word: Word<'a>) -> Arg<'a> {
+    Arg::new(alloc, word.name)
+        .help(word.help)
+        .required(true)
+        .action(ArgAction::Set)
+}
+
+/// A word that has to be there, and is a number of that at least.
+fn count<'a>(alloc: Global, word: Word<'a>, least: u32) -> Arg<'a> {
+    required(alloc, word).value_parser(between(least, u32::MAX))
+}
+
+/// A word that has to be there, and may begin with a minus.
+fn bound<'a>(alloc: Global, word: Word<'a>) -> Arg<'a> {
+    required(alloc, word).allow_negative_numbers(true)
+}
+
+/// As many words as there are.
+fn names<'a>(alloc: Global, word: Word<'a>) -> Arg<'a> {
+    Arg::new(alloc, word.name).help(word.help).num_args(0..)
+}
+
+/// A word `--NAME` without a value.
+fn flag<'a>(alloc: Global, word: Word<'a>) -> Arg<'a> {
+    Arg::new(alloc, word.name)
+        .long(word.name)
+        .help(word.help)
+        .action(ArgAction::SetTrue)
+}
+
+/// A word `--NAME` without a value, and that letter for it.
+fn letter_flag<'a>(alloc: Global, word: Word<'a>, letter: char) -> Arg<'a> {
+    flag(alloc, word).short(letter)
+}
+
+/// A word `--NAME VALUE`.
+fn option<'a>(alloc: Global, word: Word<'a>, value: &'a str) -> Arg<'a> {
+    Arg::new(alloc, word.name)
+        .long(word.name)
+        .value_name(value)
+        .help(word.help)
+}
+
+/// A word `--NAME PRED`, the word of a predicate.
+fn predicate<'a>(alloc: Global, word: Word<'a>) -> Arg<'a> {
+    option(alloc, word, "PRED").value_parser(ValueParser::Names(&PREDICATES))
+}
+
+/// A word `--NAME VALUE`, a number.
+fn number<'a>(alloc: Global, word: Word<'a>, value: &'a str) -> Arg<'a> {
+    option(alloc, word, value).value_parser(between(0, u32::MAX))
+}
+
+/// A word `--NAME N`, a number from 1 to 2^31.
+fn limit<'a>(alloc: Global, word: Word<'a>) -> Arg<'a> {
+    option(alloc, word, "N").value_parser(between(1, 1 << 31))
+}
+
+/// A word `--NAME N`, a number of 1 at least, and that where it is not there.
+fn count_or<'a>(alloc: Global, word: Word<'a>, default: &'a str) -> Arg<'a> {
+    option(alloc, word, "N")
+        .value_parser(between(1, u32::MAX))
+        .default_value(default)
+}
+
+/// What `clap` is told of a word.
+fn arg_of<'a>(alloc: Global, word: Word<'a>) -> Arg<'a> {
+    match word.form {
+        Form::Required => required(alloc, word),
+        Form::Count(least) => count(alloc, word, least),
+        Form::Bound => bound(alloc, word),
+        Form::Names => names(alloc, word),
+        Form::Flag => flag(alloc, word),
+        Form::FlagOrLetter(letter) => letter_flag(alloc, word, letter),
+        Form::Value(value) => option(alloc, word, value),
+        Form::Predicate => predicate(alloc, word),
+        Form::Number(value) => number(alloc, word, value),
+        Form::Limit => limit(alloc, word),
+        Form::CountOr(default) => count_or(alloc, word, default),
+    }
+}
+
+/// The command of that name, with these words in their order.
+pub(crate) fn command<'a>(
+    alloc: Global,
+    name: &'a str,
+    about: &'a str,
+    words: &[Word<'a>],
+) -> Result<Command<'a>, AllocError> {
+    with_words(alloc, Command::new(alloc, name).about(about), words)
+}
+
+/// A command with more words, in their order.
+pub(crate) fn with_words<'a>(
+    alloc: Global,
+    mut command: Command<'a>,
+    words: &[Word<'a>],
+) -> Result<Command<'a>, AllocError> {
+    for word in words {
+        command = command.arg(arg_of(alloc, *word))?;
+    }
+    Ok(command)
+}

@@ -1,0 +1,177 @@
+//! The texts of stays, visits and dwells in zones: records of CSV.
+use crate::moments_text::{
+    Frame, push_count, push_labelled, push_micros, push_position, push_seconds, push_signed,
+    push_word,
+};
+use mfcsv::Position;
+use pages::PageStore;
+use std::alloc::{AllocError, Global};
+use timebase::Ms;
+use trajdb::{Db, RunFault};
+use zoning::{Dwell, Moment, Side, Stay, Visit};
+
+/// How the records of a zone are written.
+#[derive(Clone, Copy)]
+pub struct ZoneFrame<'a> {
+    pub frame: Frame<'a>,
+    /// Whether the zone is a gate, which has sides.
+    pub is_gate: bool,
+}
+
+/// Appends a comma and a moment: the whole milliseconds since a base, and the part of one more.
+fn push_moment(text: &mut Vec<u8>, base: Ms, moment: &Moment) -> Result<(), AllocError> {
+    text.push(b',')?;
+    push_signed(text, (moment.whole.millis() - base.millis()) as i128)?;
+    if moment.rest > 0 {
+        text.push(b'+')?;
+        push_signed(text, moment.rest as i128)?;
+        text.push(b'/')?;
+        push_signed(text, moment.den as i128)?;
+    }
+    Ok(())
+}
+
+/// Appends a first and a last moment: exactly, and as instants, the first rounded down and the last up.
+fn push_times(
+    text: &mut Vec<u8>,
+    base: Ms,
+    enters: &Moment,
+    leaves: &Moment,
+) -> Result<(), RunFault> {
+    push_moment(text, base, enters)?;
+    push_moment(text, base, leaves)?;
+    push_micros(text, enters.micros_down())?;
+    push_micros(text, leaves.micros_up())
+}
+
+/// Appends where a feature is at a first and a last moment.
+fn push_places(
+    text: &mut Vec<u8>,
+    frame: &Frame<'_>,
+    entry: Position,
+    exit: Position,
+) -> Result<(), AllocError> {
+    push_position(text, frame.dimension, entry)?;
+    push_position(text, frame.dimension, exit)
+}
+
+impl ZoneFrame<'_> {
+    /// A side as it is printed: blank for a polygon.
+    fn side_text(&self, side: Option<Side>) -> &'static str {
+        match side {
+            Some(side) => side.as_str(),
+            None if self.is_gate => "none",
+            None => "",
+        }
+    }
+
+    /// Appends both sides, each behind a comma, and ends the record.
+    fn push_sides(
+        &self,
+        text: &mut Vec<u8>,
+        from: Option<Side>,
+        to: Option<Side>,
+    ) -> Result<(), AllocError> {
+        push_word(text, self.side_text(from))?;
+        push_word(text, self.side_text(to))?;
+        Ok(text.push(b'\n')?)
+    }
+}
+
+/// Appends the record of a stay.
+fn push_stay<S: PageStore>(
+    alloc: Global,
+    text: &mut Vec<u8>,
+    database: &Db<S>,
+    zone: &ZoneFrame<'_>,
+    stay: &Stay,
+) -> Result<(), RunFault> {
+    let frame = &zone.frame;
+    push_labelled(alloc, text, database, frame.label, stay.leg.feature)?;
+    push_times(text, frame.base, &stay.enters, &stay.leaves)?;
+    push_places(text, frame, stay.entry, stay.exit)?;
+    push_word(text, stay.enters_by.as_str())?;
+    push_word(text, stay.leaves_by.as_str())?;
+    Ok(zone.push_sides(text, stay.from, stay.to)?)
+}
+
+/// Appends a record for each stay in a zone. Refused for want of memory, and with page 0 where a feature is not in the
+/// book.
+pub fn push_zone_stays<S: PageStore>(
+    alloc: Global,
+    text: &mut Vec<u8>,
+    database: &Db<S>,
+    zone: &ZoneFrame<'_>,
+    stays: &[Stay],
+) -> Result<(), RunFault> {
+    for stay in stays {
+        push_stay(alloc, text, database, zone, stay)?;
+    }
+    Ok(())
+}
+
+/// Appends the record of a visit.
+fn push_visit<S: PageStore>(
+    alloc: Global,
+    text: &mut Vec<u8>,
+    database: &Db<S>,
+    zone: &ZoneFrame<'_>,
+    visit: &Visit,
+) -> Result<(), RunFault> {
+    let frame = &zone.frame;
+    push_labelled(alloc, text, database, frame.label, visit.feature)?;
+    push_times(text, frame.base, &visit.enters, &visit.leaves)?;
+    push_places(text, frame, visit.entry, visit.exit)?;
+    push_word(text, visit.enters_by.as_str())?;
+    push_word(text, visit.leaves_by.as_str())?;
+    push_count(text, visit.legs)?;
+    Ok(zone.push_sides(text, visit.from, visit.to)?)
+}
+
+/// Appends a record for each visit of a zone, and is refused as `push_zone_stays` is.
+pub fn push_zone_visits<S: PageStore>(
+    alloc: Global,
+    text: &mut Vec<u8>,
+    database: &Db<S>,
+    zone: &ZoneFrame<'_>,
+    visits: &[Visit],
+) -> Result<(), RunFault> {
+    for visit in visits {
+        push_visit(alloc, text, database, zone, visit)?;
+    }
+    Ok(())
+}
+
+/// Appends a record for each feature that visits a zone: how many visits it pays, and for how many seconds it stays at
+/// least and at most. Refused likewise.
+pub fn push_zone_dwells<S: PageStore>(
+    alloc: Global,
+    text: &mut Vec<u8>,
+    database: &Db<S>,
+    label: &[u8],
+    dwells: &[Dwell],
+) -> Result<(), RunFault> {
+    for dwell in dwells {
+        push_labelled(alloc, text, database, label, dwell.feature)?;
+        push_count(text, dwell.visits)?;
+        push_seconds(text, dwell.least)?;
+        push_seconds(text, dwell.most)?;
+        text.push(b'\n')?;
+    }
+    Ok(())
+}
+
+/// Appends a record for each feature, and is refused likewise.
+pub fn push_zone_features<S: PageStore>(
+    alloc: Global,
+    text: &mut Vec<u8>,
+    database: &Db<S>,
+    label: &[u8],
+    features: &[u32],
+) -> Result<(), RunFault> {
+    for feature in features {
+        push_labelled(alloc, text, database, label, *feature)?;
+        text.push(b'\n')?;
+    }
+    Ok(())
+}
