@@ -207,7 +207,11 @@ class Moments(Asked):
     def test_rectangles_of_a_file(self):
         """Each answers as alone, behind its name, in the order of the file."""
         self.load(HARBOUR.read_text())
-        rects = {"mouth": MOUTH[:4], 'the "east", far': ["400", "-500", "500", "500"], "all": ["-500", "-500", "500", "500"]}
+        rects = {
+            "mouth": MOUTH[:4],
+            'the "east", far': ["400", "-500", "500", "500"],
+            "all": ["-500", "-500", "500", "500"],
+        }
         lines = ["Y2,x1,note,y1,X2,Name"]
         for name, (x1, y1, x2, y2) in rects.items():
             quoted = '"' + name.replace('"', '""') + '"'
