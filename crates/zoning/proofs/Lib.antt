@@ -3,3 +3,4 @@ pub mod Terms
 pub mod PartLemmas
 pub mod HeldLemmas
 pub mod LiveLemmas
+pub mod WindowLemmas

@@ -1,3 +1,4 @@
 pub mod Parts
 pub mod Stays
 pub mod Asking
+pub mod Windows

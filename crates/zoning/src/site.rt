@@ -1,18 +1,31 @@
 //! Sites: zones made ready for legs.
+ghost use Rattle.std.specs.Prelude.{◌≡◌, ◌<ℤ◌};
+ghost use Rattle.zoning.specs.Windows.{window_of};
+
 use crate::stay::{Stay, stays_of};
 use fixedpoint::Coord;
 use legs::{Leg, Rect};
 use std::alloc::{AllocError, Global};
+use std::marker::Model;
 use timebase::Period;
-use zone_bands::Bands;
+use zone_windows::{Window, Windows};
 use zones::{Gate, Position, Ring};
 
-/// A zone made ready for legs: its rings in bands of heights, and its least box.
+/// A zone made ready for legs: its rings in windows, and its least box.
 #[derive(Drop)]
 pub struct Site {
-    bands: Bands,
+    windows: Windows,
     gate: Option<Gate>,
     bounds: Option<Rect>,
+}
+
+impl Model for Site {
+    ghost use Rattle.std.specs.Prelude.{List};
+    ghost use Rattle.zones.specs.Places.{Corner};
+
+    ghost Value = { List (List Corner) };
+
+    ghost view = { λ a. a.windows };
 }
 
 /// The least box of positions so far.
@@ -60,19 +73,43 @@ fn bounds_of(rings: &[Ring]) -> Option<Rect> {
     bounds.rect()
 }
 
+/// The least window with the leg.
+fn window_of(leg: &Leg) -> Window
+    ensures window { result ≡ window_of leg.now }
+    ensures rises { leg.now.t0 <ℤ leg.now.t1 }
+{
+    let (x0, x1) = (leg.x0.units(), leg.x1.units());
+    let (y0, y1) = (leg.y0.units(), leg.y1.units());
+    Window {
+        left: x0.min(x1),
+        right: x0.max(x1),
+        low: y0.min(y1),
+        high: y0.max(y1),
+    }
+}
+
 impl Site {
+    ghost use Rattle.std.specs.Prelude.{◌≡◌, IfOk, [], ◌∷◌};
+    ghost use Rattle.zoning.specs.Stays.{AreStays};
+
     /// The site of a polygon's rings.
-    pub fn of_rings(alloc: Global, rings: Vec<Ring>) -> Result<Site, AllocError> {
+    pub fn of_rings(alloc: Global, rings: Vec<Ring>) -> Result<Site, AllocError>
+        // Its zone is that of these rings.
+        ensures { IfOk result (λ site. site ≡ rings.items) }
+    {
         let bounds = bounds_of(&rings);
         Ok(Site {
-            bands: Bands::of(alloc, rings)?,
+            windows: Windows::of(alloc, rings)?,
             gate: None,
             bounds,
         })
     }
 
     /// The site of a gate: the zone of a ring of its two positions, of which each point is on an edge.
-    pub fn of_gate(alloc: Global, gate: Gate) -> Result<Site, AllocError> {
+    pub fn of_gate(alloc: Global, gate: Gate) -> Result<Site, AllocError>
+        // Its zone is that of one ring of two corners.
+        ensures { IfOk result (λ site. site ≡ (gate.from ∷ gate.to ∷ []) ∷ []) }
+    {
         let mut corners = Vec::new(alloc);
         corners.push(gate.from)?;
         corners.push(gate.to)?;
@@ -80,7 +117,7 @@ impl Site {
         rings.push(Ring::new(corners))?;
         let bounds = bounds_of(&rings);
         Ok(Site {
-            bands: Bands::of(alloc, rings)?,
+            windows: Windows::of(alloc, rings)?,
             gate: Some(gate),
             bounds,
         })
@@ -92,10 +129,12 @@ impl Site {
         alloc: Global,
         leg: &Leg,
         period: &Period,
-    ) -> Result<Vec<Stay>, AllocError> {
-        let (y0, y1) = (leg.y0.units(), leg.y1.units());
-        let rings = self.bands.near(y0.min(y1), y0.max(y1));
-        stays_of(alloc, rings, self.gate.as_ref(), leg, period)
+    ) -> Result<Vec<Stay>, AllocError>
+        // At each moment of the leg in the period, the leg is in the site's zone exactly if one of the stays holds the moment.
+        ensures { IfOk result (λ stays. AreStays self.now leg.now period.now stays.items) }
+    {
+        let rings = self.windows.near(alloc, window_of(leg))?;
+        stays_of(alloc, &rings, self.gate.as_ref(), leg, period)
     }
 
     /// Whether the zone is a gate.
