@@ -173,7 +173,9 @@ class ZonesFrom(Case):
         words = ["--circle", "10", "-20.5", "0.5", "4", "--name", "berth"]
         wanted = 'name,wkt\nberth,"POLYGON ((10.5 -20.5, 10 -20, 9.5 -20.5, 10 -21, 10.5 -20.5))"\n'
         self.assertEqual(self.made("zones_from", *words), wanted)
-        (ring,) = zones.zonefiles.shape("a", self.made("zones_from", "--circle", "0", "0", "1", "360").split('"')[1]).rings
+        (ring,) = zones.zonefiles.shape(
+            "a", self.made("zones_from", "--circle", "0", "0", "1", "360").split('"')[1]
+        ).rings
         lengths = [Fraction(x, 10**7) ** 2 + Fraction(y, 10**7) ** 2 for x, y in zip(ring[::2], ring[1::2])]
         self.assertLess(max(abs(1 - it) for it in lengths), Fraction(1, 10**6))
 
