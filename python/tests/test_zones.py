@@ -50,6 +50,8 @@ class Forms(Case):
         self.assertEqual((found.path, found.names()), (str(path), ["north"]))
         with found.words(["--legs"], DAY) as words:
             self.assertEqual(words, ("zones", ["--legs"], [str(path), *DAY]))
+        copy = shutil.copy(path, self.folder / "zones (1).csv")
+        self.assertEqual(zones.asked(str(copy)).names(), ["north"])
 
     def test_numbers_of_geojson_stay_texts(self):
         text = '{"type": "Polygon", "coordinates": [[[0.10, 80], [2e1, 80], [123456789012345678901.5, 1], [0.10, 80]]]}'
@@ -64,6 +66,7 @@ class Forms(Case):
             (point, "Point is no Polygon"),
             ({"a": point}, "Point is no Polygon"),
             ({"a": "POINT (1 2)"}, "is no WKT"),
+            ("POINT (1 2)", "is no WKT"),
             ({"type": "Polygon"}, "has no coordinates"),
             (nameless, "feature 1 has no property 'name'"),
             ({"type": "FeatureCollection", "features": [FEATURE, FEATURE]}, "feature 2: 'north' stands a second time"),
