@@ -127,6 +127,7 @@ class By(StandIn):
         found = visits.by("15min", key=lambda visit: "north" if visit.place_out > visit.place_in else None)
         self.assertEqual([(it.zone, it.key, it.entered) for it in found], [("one", "north", 1)])
         self.assertEqual(visits.by("15min", key=lambda visit: None), [])
+        self.assertRegex(repr(visits.by("15min")), r"^<2 records: VisitCount\(.*\), \.\.>$")
         dwells = self.store.dwell(zones, period)
         self.assertEqual(dwells.one(), mftb.Dwell("a", 1, Fraction(1), Fraction(1), "one"))
         (part,) = dwells.by("15min")

@@ -17,7 +17,11 @@ class Zones(Drawn):
         found = {}
         for path in whole.iter(SVG + "path"):
             if path.get("class") in ("zone", "gate"):
-                found[path.find(SVG + "title").text] = path.get("class"), path.get("d").count("M"), path.get("d").count("Z")
+                found[path.find(SVG + "title").text] = (
+                    path.get("class"),
+                    path.get("d").count("M"),
+                    path.get("d").count("Z"),
+                )
         return found
 
     def test_each_is_outlined_and_named(self):

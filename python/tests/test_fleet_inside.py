@@ -50,13 +50,17 @@ class Inside(Asked):
             self.assertGreater(len(self.check("moments", *flags, *YARD, *TIMES)), 3)
 
     def test_rectangles_of_a_file(self):
-        self.write("rects.csv", 'name,x1,y1,x2,y2\nyard,-40,-30,40,30\n"east, far",40,-99,99,99\nall,-999,-999,999,999\n')
+        self.write(
+            "rects.csv", 'name,x1,y1,x2,y2\nyard,-40,-30,40,30\n"east, far",40,-99,99,99\nall,-999,-999,999,999\n'
+        )
         for flags in [], ["--visits"], ["--dwell"]:
             self.assertGreater(len(self.check("moments", *flags, "--rects", "rects.csv", *TIMES)), 9)
 
     @unittest.skipUnless(has_zones(), "this program has no zones")
     def test_zones(self):
-        self.write("zones.csv", 'name,wkt\nyard,"POLYGON((-40 -30,40 -30,0 30,-40 -30))"\nall,"LINESTRING(-99 -1,99 1)"\n')
+        self.write(
+            "zones.csv", 'name,wkt\nyard,"POLYGON((-40 -30,40 -30,0 30,-40 -30))"\nall,"LINESTRING(-99 -1,99 1)"\n'
+        )
         for flags in [], ["--visits"], ["--legs"], ["--dwell"], ["--features", "crosses"]:
             self.check("zones", *flags, "zones.csv", *TIMES)
 

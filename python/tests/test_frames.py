@@ -35,8 +35,8 @@ BOX = (0, 0, 1, 1)
 MOMENTS = """feature,enters,leaves,enters_at,leaves_at,x_in,y_in,x_out,y_out,enters_by,leaves_by
 Castor,1000/3,500/1,2024-06-03T08:50:00.333333Z,2024-06-03T08:50:00.500000Z,1.5,2,3,4,edge,leg
 """
-VISITS = """feature,enters,leaves,enters_at,leaves_at,x_in,y_in,x_out,y_out,legs
-Castor,1000/3,500/1,2024-06-03T08:50:00.333333Z,2024-06-03T08:50:00.500000Z,1.5,2,3,4,12
+VISITS = """feature,enters,leaves,enters_at,leaves_at,x_in,y_in,x_out,y_out,enters_by,leaves_by,legs
+Castor,1000/3,500/1,2024-06-03T08:50:00.333333Z,2024-06-03T08:50:00.500000Z,1.5,2,3,4,edge,leg,12
 """
 
 

@@ -1,4 +1,5 @@
 """The library over a store: what it answers is what the pages work out by hand, and errors have the program's words."""
+import importlib.util
 import unittest
 import warnings
 from datetime import datetime, timedelta, timezone
@@ -8,7 +9,7 @@ from pathlib import Path
 
 import mftb
 from common import BUILT, ROOT, Case, folder_of, has_info
-from mftb import errors, lines, records
+from mftb import errors, forms, lines, records, runs
 
 S1 = ROOT / "examples" / "standard" / "S1.csv"
 START = datetime(2012, 1, 17, 12, 33, 41, tzinfo=timezone.utc)
@@ -97,6 +98,12 @@ class Errors(Case):
     def test_no_program(self):
         with self.assertRaisesRegex(errors.ProgramMissing, "there is no program"):
             mftb.Store("store", program=self.folder / "none")
+
+    @unittest.skipIf(importlib.util.find_spec("pandas"), "pandas is there")
+    def test_no_pandas(self):
+        answer = mftb.Answer("count").fill(runs.Printed(runs.Spool(), 0, 0), forms.CountForm(names=["legs"]))
+        for ask in answer.to_pandas, answer.to_geopandas, mftb.Table().to_pandas:
+            self.assertRaisesRegex(ModuleNotFoundError, "frames take pandas", ask)
 
     def test_half_an_answer(self):
         store = self.store("", 0)

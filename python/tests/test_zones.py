@@ -50,6 +50,8 @@ class Forms(Case):
         self.assertEqual((found.path, found.names()), (str(path), ["north"]))
         with found.words(["--legs"], DAY) as words:
             self.assertEqual(words, ("zones", ["--legs"], [str(path), *DAY]))
+        copy = shutil.copy(path, self.folder / "zones (1).csv")
+        self.assertEqual(zones.asked(str(copy)).names(), ["north"])
 
     def test_numbers_of_geojson_stay_texts(self):
         text = '{"type": "Polygon", "coordinates": [[[0.10, 80], [2e1, 80], [123456789012345678901.5, 1], [0.10, 80]]]}'
@@ -64,6 +66,7 @@ class Forms(Case):
             (point, "Point is no Polygon"),
             ({"a": point}, "Point is no Polygon"),
             ({"a": "POINT (1 2)"}, "is no WKT"),
+            ("POINT (1 2)", "is no WKT"),
             ({"type": "Polygon"}, "has no coordinates"),
             (nameless, "feature 1 has no property 'name'"),
             ({"type": "FeatureCollection", "features": [FEATURE, FEATURE]}, "feature 2: 'north' stands a second time"),
@@ -173,7 +176,9 @@ class ZonesFrom(Case):
         words = ["--circle", "10", "-20.5", "0.5", "4", "--name", "berth"]
         wanted = 'name,wkt\nberth,"POLYGON ((10.5 -20.5, 10 -20, 9.5 -20.5, 10 -21, 10.5 -20.5))"\n'
         self.assertEqual(self.made("zones_from", *words), wanted)
-        (ring,) = zones.zonefiles.shape("a", self.made("zones_from", "--circle", "0", "0", "1", "360").split('"')[1]).rings
+        (ring,) = zones.zonefiles.shape(
+            "a", self.made("zones_from", "--circle", "0", "0", "1", "360").split('"')[1]
+        ).rings
         lengths = [Fraction(x, 10**7) ** 2 + Fraction(y, 10**7) ** 2 for x, y in zip(ring[::2], ring[1::2])]
         self.assertLess(max(abs(1 - it) for it in lengths), Fraction(1, 10**6))
 

@@ -5,6 +5,7 @@ from __future__ import annotations
 import csv
 import io
 from collections.abc import Iterator
+from types import ModuleType
 from typing import TYPE_CHECKING, Generic, TypeVar
 
 from mftb.errors import MftbError
@@ -71,12 +72,17 @@ class Answer(Generic[Record]):
 
         With `exact` stays and visits have the columns `enters` and `leaves`, of fractions.
         """
-        from mftb import frames
-
-        return frames.frame(*self.records(), exact)
+        return framing().frame(*self.records(), exact)
 
     def to_geopandas(self) -> geopandas.GeoDataFrame:
         """The records as a frame with a geometry: a line a leg, or two places of a stay, a visit or a gap."""
-        from mftb import frames
+        return framing().geoframe(*self.records(), self.crs)
 
-        return frames.geoframe(*self.records(), self.crs)
+
+def framing() -> ModuleType:
+    """What makes frames, if pandas is there."""
+    try:
+        from mftb import frames
+    except ModuleNotFoundError as why:
+        raise ModuleNotFoundError(f"frames take pandas (Debian's package python3-pandas): {why}") from None
+    return frames

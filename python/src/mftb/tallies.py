@@ -12,7 +12,7 @@ from typing import TYPE_CHECKING, Generic, TypeAlias, TypeVar
 
 from mftb.clocks import Clock
 from mftb.records import Dwell, DwellTime, Visit, VisitCount
-from mftb.results import Answer
+from mftb.results import Answer, framing
 
 if TYPE_CHECKING:
     import pandas
@@ -28,9 +28,10 @@ class Table(list[Record], Generic[Record]):
 
     def to_pandas(self) -> pandas.DataFrame:
         """The records as a frame, a row each."""
-        from mftb import frames
+        return framing().of_records(self)
 
-        return frames.of_records(self)
+    def __repr__(self) -> str:
+        return f"<{len(self)} records{f': {self[0]!r}, ..' if self else ''}>"
 
 
 @dataclass

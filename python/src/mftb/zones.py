@@ -123,7 +123,7 @@ def wkt_of(shape: Known) -> str:
 
 def asked(zones: Zones) -> Asked:
     """The zones that are given in some form."""
-    if isinstance(zones, os.PathLike) or (isinstance(zones, str) and not WKT.match(zones)):
+    if isinstance(zones, os.PathLike) or (isinstance(zones, str) and is_path(zones)):
         return of_file(os.fspath(zones))
     given = interface(zones)
     if isinstance(given, Mapping):
@@ -132,6 +132,11 @@ def asked(zones: Zones) -> Asked:
         if not geojson.is_geojson(given):
             return Asked(of_mapping(given))
     return Asked({"": known(given)})
+
+
+def is_path(text: str) -> bool:
+    """Whether a text names a file, and is not meant as WKT."""
+    return not WKT.match(text) and ("(" not in text or os.path.exists(text))
 
 
 def interface(given: Any) -> Any:

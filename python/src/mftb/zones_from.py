@@ -71,7 +71,8 @@ def shown(value: Decimal) -> str:
 def by_geopandas(path: str, name: str) -> dict[str, str]:
     """The shapes of a file that geopandas reads."""
     if not importlib.util.find_spec("geopandas"):
-        raise texts.Refused(f"{path}: only GeoJSON is read without geopandas (Debian's package python3-geopandas)")
+        wanted = "Debian's package python3-geopandas, for /usr/bin/python3"
+        raise texts.Refused(f"{path}: only GeoJSON is read without geopandas ({wanted})")
     import geopandas
 
     try:
