@@ -7,39 +7,30 @@ use Rattle.std.proofs.lemmas.Int.{clamps}
 use Rattle.std.proofs.lemmas.List.{length_push, length-set}
 use Rattle.std.proofs.lemmas.Nat.{mul-le}
 use Rattle.legs.specs.Asking.{Ends, LegRefusals}
-use Rattle.legs.specs.Boxes.{BoxView}
 use Rattle.legs.specs.Costs.{RisesAtMost, add_bound, height, leaves_of}
-use Rattle.legs.specs.Index.{CanFollow, CanFollowInTurn, MayRefuseLeg, feature_count, legs_of}
+use Rattle.legs.specs.Index.{CanFollow, CanFollowInTurn, MayRefuseLeg, feature_count}
 use Rattle.legs.specs.Legs.{IsLeg, LegView}
 use Rattle.legs.specs.declared.index.IndexFault.{IndexFault}
 use Rattle.legs.specs.declared.index.IndexFault.TheVariants as index
 use Rattle.pages.specs.Unsealed.{unsealed}
 use Rattle.pagecache.specs.Cache.{Cache, sealed_payload}
-use Rattle.tbtree.specs.Descent.{content_of}
 use Rattle.tbtree.specs.Faults.{GivesWrite, MayRefuseWrite, RefusesWrite}
 use Rattle.tbtree.specs.Insert.{Stands, IsPlace, Inserted}
-use Rattle.tbtree.specs.Nodes.{Pages, pages_of_cache}
+use Rattle.tbtree.specs.Nodes.{pages_of_cache}
 use Rattle.tbtree.specs.Passes.{Passes}
 use Rattle.tbtree.specs.Shape.{IsShape}
-use Rattle.tbtree.specs.Stands.{no_place}
 use Rattle.tbtree.specs.declared.fault.TreeFault.{TreeFault}
 use Rattle.tbtree.specs.declared.tree.Place.{Place}
-use Rattle.tbtree.specs.declared.tree.TbTree.{TbTree}
 use Rattle.boxsearch.specs.Answers.{answered, of_tree}
 use Rattle.boxsearch.specs.Index.{IndexView, words, content, IsSound, IsMarked, with_place}
 use Rattle.boxsearch.specs.Putting.{Puts}
+use Rattle.tbnode.proofs.LawLemmas.{legs_are_lawful}
+use Rattle.tbtree.proofs.LawLemmas as tree
+use Rattle.tbtree.proofs.LegalLemmas.{content_lawful}
 use Rattle.boxsearch.proofs.AnswerLemmas.{each_fault, the_fault, SaidOfLeg, write_said, write_allowed}
 use Rattle.boxsearch.proofs.IndexLemmas.{content_is}
 use Rattle.boxsearch.proofs.PlaceLemmas.{get-set_same, get-set_other, made_places, length-made, some_same}
 use Rattle.boxsearch.proofs.TrackLemmas.{no_legs}
-
--- the laws of a tree that are cited here
-pub record Laws : Type 0 where
-  pub content : (nodes : Pages LegView BoxView) (tree : TbTree) (legs : List LegView) (pages : ℕ → List ℕ) → IsShape tree.shape → Stands nodes tree legs pages → content_of nodes tree ≡ legs
-  pub lawful : (cache : Cache) (tree : TbTree) → All IsLeg (content_of (pages_of_cache cache) tree)
-  pub height : (nodes : Pages LegView BoxView) (tree : TbTree) (legs : List LegView) (pages : ℕ → List ℕ) → IsShape tree.shape → Stands nodes tree legs pages → tree.levels - 1 ≡ height tree.shape.inner (leaves_of tree.shape legs)
-  pub fits : (nodes : Pages LegView BoxView) (tree : TbTree) (legs : List LegView) (pages : ℕ → List ℕ) → IsShape tree.shape → Stands nodes tree legs pages → length legs ≤ nodes.count * tree.shape.leaf
-  pub absent : (nodes : Pages LegView BoxView) (tree : TbTree) (legs : List LegView) (pages : ℕ → List ℕ) (feature : ℕ) → IsShape tree.shape → Stands nodes tree legs pages → legs_of feature legs ≡ [] → IsPlace tree legs pages feature no_place
 
 abbrev pub made : IndexView → ℕ → IndexView
 made old feature = record old { places = with_place old.places feature; known = [] }
@@ -47,14 +38,14 @@ made old feature = record old { places = with_place old.places feature; known = 
 pub feature_count-push : (legs : List LegView) (leg : LegView) → feature_count (legs ++ leg ∷ []) ≡ max (feature_count legs) (leg.feature + 1)
 feature_count-push legs leg = fold-append (λ count l. max count (l.feature + 1)) 0 legs (leg ∷ [])
 
-module _ (laws : Laws) (old new : IndexView) (leg : LegView) where
+module _ (old new : IndexView) (leg : LegView) where
   abbrev longer : List LegView
   longer = content old ++ leg ∷ []
 
   placed_made : (s : IsSound old) → (f : ℕ) (place : Place) → slice_get (with_place old.places leg.feature) f ≡ Some place → IsPlace old.tree (content old) s.pages f place
   placed_made s =
       made_places (λ f place. IsPlace old.tree (content old) s.pages f place) old.places leg.feature s.placed
-      (laws.absent (pages_of_cache old.cache) old.tree (content old) s.pages (length old.places) s.shape s.stands (no_legs (content old) (length old.places) (let n = s.features in omega (arith, n))))
+      (tree.absent_is (pages_of_cache old.cache) old.tree (content old) s.pages (length old.places) s.shape s.stands (no_legs (content old) (length old.places) (let n = s.features in omega (arith, n))))
 
   module _ (r : Result (Unit {0}) TreeFault) (p : Puts (made old leg.feature) new leg r) where
     pub gives : (s : IsSound old) → CanFollow (content old) leg → GivesWrite r (λ _. Inserted (pages_of_cache new.cache) old.tree new.tree (content old) s.pages leg p.is)
@@ -66,11 +57,11 @@ module _ (laws : Laws) (old new : IndexView) (leg : LegView) where
     longer_content : (s : IsSound old) → Inserted (pages_of_cache new.cache) old.tree new.tree (content old) s.pages leg p.is → content new ≡ longer
     longer_content s i =
         content_is new (p.passes.store.faithful ∙ s.faithful)
-        ∙ laws.content (pages_of_cache new.cache) new.tree longer i.pages (still_shape s) i.stands
+        ∙ tree.content_is (pages_of_cache new.cache) new.tree longer i.pages (still_shape s) i.stands
 
     few_legs : (s : IsSound old) → Inserted (pages_of_cache new.cache) old.tree new.tree (content old) s.pages leg p.is → length longer ≤ 2 ^ 64 - 1
     few_legs s i =
-        let fits = laws.fits (pages_of_cache new.cache) new.tree longer i.pages (still_shape s) i.stands in
+        let fits = tree.legs_fit (pages_of_cache new.cache) new.tree longer i.pages (still_shape s) i.stands in
         let most = (still_shape s).most_leaf in
         let few = p.few in
         let m : new.cache.count * new.tree.shape.leaf ≤ 2 ^ 32 * 50 = mul-le new.cache.count new.tree.shape.leaf (2 ^ 32) 50 (omega (arith, few)) most in
@@ -108,7 +99,7 @@ module _ (laws : Laws) (old new : IndexView) (leg : LegView) where
           count = count;
           pages = i.pages;
           stands = subst (λ l. Stands (pages_of_cache new.cache) new.tree l i.pages) (sym e) i.stands;
-          lawful = subst (λ l. All IsLeg l) (sym (content_is new fa)) (laws.lawful new.cache new.tree);
+          lawful = subst (λ l. All IsLeg l) (sym (content_is new fa)) (content_lawful legs_are_lawful new.cache new.tree);
           counted = (let few = few_legs s i in let n = s.counted in let a = length_push (content old) leg in let b : length (content new) ≡ length longer = ap length e in omega (arith, clamps, few, n, a, b, legs));
           features = as_many_places s w ∙ sym (ap feature_count e);
           placed = λ f place h. subst (λ l. IsPlace new.tree l i.pages f place) (sym e) (new_places s i f place h);
@@ -125,7 +116,7 @@ module _ (laws : Laws) (old new : IndexView) (leg : LegView) where
   unfolding add_bound
   asked (Ok tt) p = λ s w.
       let i = gives (Ok tt) p s w.0 in
-      let h = laws.height (pages_of_cache new.cache) new.tree longer i.pages (still_shape (Ok tt) p s) i.stands in
+      let h = tree.height_is (pages_of_cache new.cache) new.tree longer i.pages (still_shape (Ok tt) p s) i.stands in
       let g : height new.tree.shape.inner (leaves_of new.tree.shape longer) ≡ height old.tree.shape.inner (leaves_of old.tree.shape longer) = ap (λ shape. height shape.inner (leaves_of shape longer)) p.shape in
       let a = p.asked in
       omega (arith, clamps, h, g, a)

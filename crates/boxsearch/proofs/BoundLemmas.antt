@@ -6,38 +6,30 @@ use Rattle.std.proofs.lemmas.Bool.{cases_eq}
 use Rattle.std.proofs.lemmas.Bool.Decides.{nat_tests}
 use Rattle.std.proofs.lemmas.List.Elements.{All-nil, All-cons}
 use Rattle.std.proofs.lemmas.List.Sums.{sum_by-cons}
-use Rattle.legs.specs.Boxes.{BoxView}
 use Rattle.legs.specs.Index.{is_of}
 use Rattle.legs.specs.Legs.{LegView}
 use Rattle.pagecache.specs.Cache.{Cache, payload_of}
 use Rattle.tbnode.specs.Form.{node_of}
 use Rattle.tbtree.specs.Bounds as limits
 use Rattle.tbtree.specs.Descent.{node_in}
-use Rattle.tbtree.specs.Insert.{Stands, IsPlace}
-use Rattle.tbtree.specs.Nodes.{Pages, pages_of_cache}
-use Rattle.tbtree.specs.Shape.{IsShape}
+use Rattle.tbtree.specs.Nodes.{pages_of_cache}
 use Rattle.tbtree.specs.declared.tree.Place.{Place}
-use Rattle.tbtree.specs.declared.tree.TbTree.{TbTree}
+use Rattle.tbtree.proofs.LimitLemmas as tree
 use Rattle.boxsearch.specs.Beside.{IsBeside}
 use Rattle.boxsearch.specs.Bounds.{IsBounded}
 use Rattle.boxsearch.specs.Index.{IndexView, content, IsSound}
-
--- the laws of a tree that are cited here
-pub record TreeBounds : Type 0 where
-  pub of : (nodes : Pages LegView BoxView) (tree : TbTree) (legs : List LegView) (pages : ℕ → List ℕ) → IsShape tree.shape → Stands nodes tree legs pages → limits.IsBounded nodes tree legs
-  pub place : (nodes : Pages LegView BoxView) (tree : TbTree) (legs : List LegView) (pages : ℕ → List ℕ) (f : ℕ) (place : Place) → Stands nodes tree legs pages → IsPlace tree legs pages f place → limits.IsBoundedPlace nodes legs f place
 
 all_at : {X : Type 0} (P : X → Type 0) (xs : List X) → ((i : ℕ) (x : X) → slice_get xs i ≡ Some x → P x) → All P xs
 all_at P [] h = All-nil P
 all_at P (x ∷ xs) h = All-cons P x xs (h 0 x refl) (all_at P xs (λ i. h (suc i)))
 
-module _ (laws : TreeBounds) (index : IndexView) (s : IsSound index) where
+module _ (index : IndexView) (s : IsSound index) where
   place_is : (f : ℕ) (place : Place) → slice_get index.places f ≡ Some place → limits.IsBoundedPlace (pages_of_cache index.cache) (content index) f place
-  place_is f place e = laws.place (pages_of_cache index.cache) index.tree (content index) s.pages f place s.stands (s.placed f place e)
+  place_is f place e = tree.bounded_place (pages_of_cache index.cache) index.tree (content index) s.pages f place s.stands (s.placed f place e)
 
   pub bounded : length (content index) ≤ 2 ^ 31 → IsBounded index
   bounded few =
-      let b = laws.of (pages_of_cache index.cache) index.tree (content index) s.pages s.shape s.stands in
+      let b = tree.bounded (pages_of_cache index.cache) index.tree (content index) s.pages s.shape s.stands in
       record {
         root = b.root;
         leaves = b.leaves;
@@ -121,9 +113,9 @@ of_each n (leg ∷ legs) a h =
     let c = of_more 0 n leg legs in
     omega (arith, here, on, c)
 
-pub all_counted : (laws : TreeBounds) (index : IndexView) → IsSound index → sum_by (λ (place : Place). place.legs) index.places ≡ length (content index)
-all_counted laws index s =
-    by_places (content index) 0 index.places (λ f place e. place_counts laws index s f place e ∙ ap (λ k. count_by (is_of k) (content index)) (omega arith))
+pub all_counted : (index : IndexView) → IsSound index → sum_by (λ (place : Place). place.legs) index.places ≡ length (content index)
+all_counted index s =
+    by_places (content index) 0 index.places (λ f place e. place_counts index s f place e ∙ ap (λ k. count_by (is_of k) (content index)) (omega arith))
     ∙ of_each (length index.places) (content index) 0 (let n = s.features in omega (arith, n))
 
 -- pages with the payloads that they had say what they said

@@ -1,6 +1,5 @@
 pub mod PushLemmas
 pub mod SameLemmas
-pub mod StableLemmas
 pub mod WayLemmas
 pub mod PruningLemmas
 pub mod FoundLemmas
@@ -24,7 +23,6 @@ pub mod TurnOrder
 pub mod AllLemmas
 pub mod TurnNumbers
 pub mod KnownLemmas
-pub mod TurnLasts
 pub mod LevelLemmas
 pub mod AskedLemmas
 pub mod KnowsLemmas

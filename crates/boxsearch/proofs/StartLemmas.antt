@@ -1,12 +1,12 @@
 -- An index whose page 0 is marked.
-use Rattle.std.proofs.Common.{Bool, ℕ, ◌≡◌, ◌≢◌, ◌<◌, ◌≤◌, ⊎_elim, refl, sym, ap, ◌∙◌, arith, subst, true, false, cond, drop, length, List, [], All, IsTrue, Option, Some, None, option_map, Result}
+use Rattle.std.proofs.Common.{Bool, ◌≡◌, ◌≢◌, ◌<◌, ◌≤◌, ⊎_elim, refl, sym, ap, ◌∙◌, arith, subst, true, false, cond, drop, length, List, [], All, IsTrue, Option, Some, None, option_map, Result}
 use Rattle.std.specs.Prelude.{IfErr, OnOk, OnErr}
 use Rattle.std.proofs.lemmas.Bool.{cases_lt, true≢false}
 use Rattle.std.proofs.lemmas.Int.{clamps}
 use Rattle.legs.specs.Asking.{Refusals, Starts}
 use Rattle.legs.specs.Boxes.{BoxView}
 use Rattle.legs.specs.Index.{HasRisen, MayRefuse, feature_count}
-use Rattle.legs.specs.Legs.{IsLeg, LegView}
+use Rattle.legs.specs.Legs.{IsLeg}
 use Rattle.legs.specs.declared.index.IndexFault.{IndexFault}
 use Rattle.legs.specs.declared.index.IndexFault.TheVariants as index
 use Rattle.pages.specs.Store.{Faulted, IsSynced}
@@ -14,25 +14,19 @@ use Rattle.pagecache.specs.Cache.{Cache, IsClean, pages_as_written, payload_of}
 use Rattle.pagecache.specs.declared.fault.CacheFault.{CacheFault}
 use Rattle.pagecache.specs.declared.fault.CacheFault.TheVariants as cache
 use Rattle.tbnode.specs.Form.{node_of}
-use Rattle.tbtree.specs.Descent.{found_legs, node_in, IsSameTree}
+use Rattle.tbtree.specs.Descent.{found_legs, node_in}
 use Rattle.tbtree.specs.Insert.{Stands, IsPlace}
-use Rattle.tbtree.specs.Nodes.{Pages, pages_of_cache}
-use Rattle.tbtree.specs.declared.tree.TbTree.{TbTree}
+use Rattle.tbtree.specs.Nodes.{pages_of_cache}
 use Rattle.boxsearch.specs.Answers.{answered, of_cache}
 use Rattle.boxsearch.specs.Index.{IndexView, words, content, legs_by, written, IsSound, IsMarked}
 use Rattle.boxsearch.specs.Marking.{Marks, IsNotMarked}
 use Rattle.pages.specs.declared.payload.Payload.{Payload}
-use Rattle.tbtree.proofs.Still.{still}
+use Rattle.tbtree.proofs.LawLemmas.{same_found, still_stands}
 use Rattle.boxsearch.proofs.PlaceLemmas.{some_none}
 use Rattle.boxsearch.proofs.AnswerLemmas.{each_fault, each_value, of_each_cache, the_fault, Said}
 use Rattle.chains.specs.declared.spans.LeafSpan.{LeafSpan}
 use Rattle.boxsearch.specs.Beside.{with_cache, IsBeside}
 use Rattle.boxsearch.proofs.ResultLemmas.{on_err}
-
--- the laws of a tree that are cited here
-pub record FirstLaws : Type 0 where
-  pub found : (old new : Pages LegView BoxView) (tree : TbTree) → IsSameTree old new → (meets : BoxView → Bool) → found_legs meets new tree ≡ found_legs meets old tree
-  pub stands : (old new : Pages LegView BoxView) (tree : TbTree) (legs : List LegView) (pages : ℕ → List ℕ) → IsSameTree old new → Stands old tree legs pages → Stands new tree legs pages
 
 map_none : {X Y : Type 0} (f : X → Y) (o : Option X) → option_map f o ≡ None → o ≡ None
 map_none f None e = refl
@@ -42,12 +36,12 @@ none_before : (o p : Option Payload) → (o ≢ None → p ≢ None) → p ≡ N
 none_before None p u e = refl
 none_before (Some x) p u e = absurd (u (some_none x) e)
 
-module _ (laws : FirstLaws) (old : IndexView) (c : Cache) (known : List (List LeafSpan)) (b : IsBeside old.cache c) where
+module _ (old : IndexView) (c : Cache) (known : List (List LeafSpan)) (b : IsBeside old.cache c) where
   beside_found : (meets : BoxView → Bool) → legs_by meets (with_cache old c known) ≡ legs_by meets old
   beside_found meets =
       ap (λ b. cond b (found_legs meets (pages_of_cache c) old.tree) []) b.faithful ∙
       (elim old.cache.store.is_faithful as (λ b. old.cache.store.is_faithful ≡ b → cond b (found_legs meets (pages_of_cache c) old.tree) [] ≡ cond b (found_legs meets (pages_of_cache old.cache) old.tree) []) [
-        | true ↦ λ f. laws.found (pages_of_cache old.cache) (pages_of_cache c) old.tree (b.tree f) meets
+        | true ↦ λ f. same_found (pages_of_cache old.cache) (pages_of_cache c) (b.tree f) old.tree meets
         | false ↦ λ f. refl
       ]) refl
 
@@ -63,7 +57,7 @@ module _ (laws : FirstLaws) (old : IndexView) (c : Cache) (known : List (List Le
         shape = s.shape;
         count = b.length s.count;
         pages = s.pages;
-        stands = subst (λ l. Stands (pages_of_cache c) old.tree l s.pages) (sym legs) (laws.stands (pages_of_cache old.cache) (pages_of_cache c) old.tree (content old) s.pages (b.tree s.faithful) s.stands);
+        stands = subst (λ l. Stands (pages_of_cache c) old.tree l s.pages) (sym legs) (still_stands (pages_of_cache old.cache) (pages_of_cache c) (b.tree s.faithful) old.tree (content old) s.pages s.stands);
         lawful = subst (λ l. All IsLeg l) (sym legs) s.lawful;
         counted = s.counted ∙ sym (ap length legs);
         features = s.features ∙ sym (ap feature_count legs);
@@ -92,7 +86,7 @@ NotFull index.Spent = Unit {0}
 never_full : (a b : Cache) (fault : CacheFault) → IsNotMarked a b fault → NotFull (of_cache fault)
 never_full a b = of_each_cache (λ fault. IsNotMarked a b fault → NotFull (of_cache fault)) (λ h. tt) (λ h. tt) (λ n h. tt) (λ h. h) (λ h. tt)
 
-module _ (laws : FirstLaws) (old : IndexView) (c : Cache) (known : List (List LeafSpan)) (m : Marks old.cache c) where
+module _ (old : IndexView) (c : Cache) (known : List (List LeafSpan)) (m : Marks old.cache c) where
   abbrev new : IndexView
   new = with_cache old c known
 
@@ -118,13 +112,10 @@ module _ (laws : FirstLaws) (old : IndexView) (c : Cache) (known : List (List Le
   }
 
   same_content : content new ≡ content old
-  same_content = beside_content laws old c known beside
+  same_content = beside_content old c known beside
 
   still_sound : IsSound old → IsSound new
-  still_sound = beside_sound laws old c known beside
-
-  was_faithful : IsTrue c.store.is_faithful → IsTrue old.cache.store.is_faithful
-  was_faithful fa = still _ _ (sym m.store.faithful) fa
+  still_sound = beside_sound old c known beside
 
   written_is : (i : IndexView) → IsTrue i.cache.store.is_faithful → written i ≡ pages_as_written i.cache
   written_is i f = ap (λ b. cond b (pages_as_written i.cache) []) f

@@ -6,35 +6,28 @@ use Rattle.std.proofs.lemmas.Int.{clamps}
 use Rattle.std.proofs.lemmas.List.{length-append, length-drop, length-set, append-nil, take_all}
 use Rattle.std.proofs.lemmas.Nat.{mul-le}
 use Rattle.legs.specs.Asking.{IsLater}
-use Rattle.legs.specs.Boxes.{BoxView}
-use Rattle.legs.specs.Index.{MayRefuseLeg, feature_count, legs_of}
+use Rattle.legs.specs.Index.{MayRefuseLeg, feature_count}
 use Rattle.legs.specs.Legs.{LegView}
 use Rattle.legs.specs.Places.{no_leg}
 use Rattle.legs.specs.declared.index.IndexFault.{IndexFault}
 use Rattle.legs.specs.declared.index.IndexFault.TheVariants as index
 use Rattle.tbtree.specs.Faults.{GivesWrite, MayRefuseWrite, RefusesWrite}
 use Rattle.tbtree.specs.Insert.{IsPlace}
-use Rattle.tbtree.specs.Joining.{AllJoined, CanJoinInTurn, CanTakeInTurn, Holds}
-use Rattle.tbtree.specs.Nodes.{Pages, pages_of_cache}
+use Rattle.tbtree.specs.Joining.{AllJoined, CanJoinInTurn, CanTakeInTurn}
+use Rattle.tbtree.specs.Nodes.{pages_of_cache}
 use Rattle.tbtree.specs.Shape.{IsShape}
-use Rattle.tbtree.specs.Stands.{no_place}
 use Rattle.tbtree.specs.declared.fault.TreeFault.{TreeFault}
 use Rattle.tbtree.specs.declared.tree.Place.{Place}
-use Rattle.tbtree.specs.declared.tree.TbTree.{TbTree}
 use Rattle.boxsearch.specs.Answers.{answered, of_tree}
 use Rattle.boxsearch.specs.Index.{IndexView, words, IsMarked, with_place}
 use Rattle.boxsearch.specs.Putting.{PutsAll, spent_from}
 use Rattle.boxsearch.specs.Taking.{HoldsLegs, Taking, taken}
 use Rattle.boxsearch.specs.declared.turns.Turn.{Turn}
 use Rattle.boxsearch.proofs.AddLemmas.{made, marked_after, feature_count-push}
+use Rattle.tbtree.proofs.LawLemmas.{held_fit, none_of}
 use Rattle.boxsearch.proofs.AnswerLemmas.{each_fault, the_fault, SaidOfLeg, write_said, write_allowed}
 use Rattle.boxsearch.proofs.PlaceLemmas.{get-set_same, get-set_other, made_places, length-made, some_same}
 use Rattle.boxsearch.proofs.TrackLemmas.{no_legs}
-
--- the laws of a tree that are cited here
-pub record OrderLaws : Type 0 where
-  pub fits : (nodes : Pages LegView BoxView) (tree : TbTree) (legs : List LegView) (pages : ℕ → List ℕ) → IsShape tree.shape → Holds nodes tree legs pages → length legs ≤ nodes.count * tree.shape.leaf
-  pub absent : (tree : TbTree) (legs : List LegView) (pages : ℕ → List ℕ) (feature : ℕ) → IsShape tree.shape → legs_of feature legs ≡ [] → IsPlace tree legs pages feature no_place
 
 -- legs that may be taken in turn may join in turn
 can_join_in_turn : (b ys : List LegView) → CanTakeInTurn b ys → CanJoinInTurn b ys
@@ -56,14 +49,14 @@ feature_count-run f b (y ∷ z ∷ zs) all some =
     let more : feature_count ((b ++ y ∷ []) ++ z ∷ zs) ≡ max (feature_count (b ++ y ∷ [])) (f + 1) = feature_count-run f (b ++ y ∷ []) (z ∷ zs) (λ k d l. all (suc k) d (omega (arith, l))) (omega arith) in
     ap feature_count (sym (append_assoc b (y ∷ []) (z ∷ zs))) ∙ more ∙ ap (λ n. max n (f + 1)) (first ∙ ap (λ g. max (feature_count b) (g + 1)) own) ∙ omega (arith, clamps)
 
-module _ (laws : OrderLaws) (old new : IndexView) (feature : ℕ) (legs before : List LegView) (some : 0 < length legs) (one : All (λ leg. leg.feature ≡ feature) legs) (r : Result (Unit {0}) TreeFault) (p : PutsAll (made old feature) new feature legs r) (s : HoldsLegs old before) where
+module _ (old new : IndexView) (feature : ℕ) (legs before : List LegView) (some : 0 < length legs) (one : All (λ leg. leg.feature ≡ feature) legs) (r : Result (Unit {0}) TreeFault) (p : PutsAll (made old feature) new feature legs r) (s : HoldsLegs old before) where
   abbrev longer : List LegView
   longer = before ++ legs
 
   placed_made : (f : ℕ) (place : Place) → slice_get (with_place old.places feature) f ≡ Some place → IsPlace old.tree before s.pages f place
   placed_made =
       made_places (λ f place. IsPlace old.tree before s.pages f place) old.places feature s.placed
-      (laws.absent old.tree before s.pages (length old.places) s.shape (no_legs before (length old.places) (let n = s.features in omega (arith, n))))
+      (none_of old.tree before s.pages (length old.places) s.shape (no_legs before (length old.places) (let n = s.features in omega (arith, n))))
 
   pub gives : CanTakeInTurn before legs → GivesWrite r (λ _. AllJoined (pages_of_cache new.cache) old.tree new.tree before s.pages feature legs p.is)
   gives w = p.joins s.faithful feature before s.pages s.holds (placed_made feature p.was p.found) one (can_join_in_turn before legs w)
@@ -74,7 +67,7 @@ module _ (laws : OrderLaws) (old new : IndexView) (feature : ℕ) (legs before :
 
     few_legs : length longer ≤ 2 ^ 64 - 1
     few_legs =
-        let fits = laws.fits (pages_of_cache new.cache) new.tree longer i.pages still_shape i.stands in
+        let fits = held_fit (pages_of_cache new.cache) new.tree longer i.pages still_shape i.stands in
         let most = still_shape.most_leaf in
         let few = p.few in
         let m : new.cache.count * new.tree.shape.leaf ≤ 2 ^ 32 * 50 = mul-le new.cache.count new.tree.shape.leaf (2 ^ 32) 50 (omega (arith, few)) most in
@@ -113,9 +106,9 @@ module _ (laws : OrderLaws) (old new : IndexView) (feature : ℕ) (legs before :
       placed = new_places;
     }
 
-module _ (laws : OrderLaws) (old new : IndexView) (feature : ℕ) (legs : List LegView) (some : 0 < length legs) (one : All (λ leg. leg.feature ≡ feature) legs) where
+module _ (old new : IndexView) (feature : ℕ) (legs : List LegView) (some : 0 < length legs) (one : All (λ leg. leg.feature ≡ feature) legs) where
   takes : (r : Result (Unit {0}) TreeFault) → PutsAll (made old feature) new feature legs r → OnOk (answered (λ fault. of_tree fault) r) ((before : List LegView) → HoldsLegs old before → CanTakeInTurn before legs → HoldsLegs new (before ++ legs))
-  takes (Ok tt) p = λ before s w. held_after laws old new feature legs before some one (Ok tt) p s w (gives laws old new feature legs before some one (Ok tt) p s w) (p.count s.count) p.works p.counted
+  takes (Ok tt) p = λ before s w. held_after old new feature legs before some one (Ok tt) p s w (gives old new feature legs before some one (Ok tt) p s w) (p.count s.count) p.works p.counted
   takes (Err x) p = tt
 
   on_answer : (P : Type 0) (r : Result (Unit {0}) TreeFault) → OnOk r P → OnOk (answered (λ fault. of_tree fault) r) P
@@ -132,7 +125,7 @@ module _ (laws : OrderLaws) (old new : IndexView) (feature : ℕ) (legs : List L
 
   allowed : (r : Result (Unit {0}) TreeFault) → PutsAll (made old feature) new feature legs r → IfErr r (λ fault. (before : List LegView) → HoldsLegs old before → CanTakeInTurn before legs → MayRefuseWrite fault)
   allowed (Ok tt) p = tt
-  allowed (Err x) p = λ before s w. gives laws old new feature legs before some one (Err x) p s w
+  allowed (Err x) p = λ before s w. gives old new feature legs before some one (Err x) p s w
 
   pub joined : (r : Result (Unit {0}) TreeFault) → PutsAll (made old feature) new feature legs r → old.tree.spent ≡ false → Taking old new legs (answered (λ fault. of_tree fault) r)
   joined r p works =

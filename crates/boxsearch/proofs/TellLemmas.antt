@@ -1,5 +1,5 @@
 -- What an index over pages tells, and why it does not.
-use Rattle.std.proofs.Common.{ℕ, ◌≡◌, ◌∙◌, refl, sym, ap, subst, true, false, List, [], IsTrue, Option, Some, None, option_map, slice_get, Result, Ok, Err}
+use Rattle.std.proofs.Common.{ℕ, ◌≡◌, ◌∙◌, refl, sym, subst, true, false, List, [], IsTrue, Option, Some, None, slice_get, Result, Ok, Err}
 use Rattle.std.proofs.lemmas.Bool.{true≢false}
 use Rattle.std.specs.Prelude.{IfOk, IfErr, OnOk, MatchResult, Bool}
 use Rattle.legs.specs.Asking.{Denies, TellsSieved}
@@ -10,45 +10,19 @@ use Rattle.legs.specs.Legs.{LegView}
 use Rattle.legs.specs.Boxes.{BoxView}
 use Rattle.legs.specs.Questions.{InBox, OfFeature}
 use Rattle.timebase.specs.Period.{PeriodView}
-use Rattle.pages.specs.declared.payload.Payload.{Payload}
-use Rattle.pagecache.specs.Cache.{Cache, IsRefused, payload_of}
-use Rattle.pagecache.specs.declared.fault.CacheFault.{CacheFault}
+use Rattle.pagecache.specs.Cache.{Cache}
 use Rattle.pagecache.specs.declared.fault.CacheFault.TheVariants as cache
-use Rattle.tbnode.specs.Form.{node_of}
 use Rattle.chains.specs.Chains.{IsPlaceChain, chain_fault, chain_legs}
-use Rattle.tbtree.specs.Descent.{legs_met, HasInner, IsInOrder}
-use Rattle.tbtree.specs.Faults.{IfNamed, IsNamed, RefusesRead, fault_of}
-use Rattle.tbtree.specs.Nodes.{HasLeaf, pages_of_cache}
+use Rattle.tbtree.specs.Descent.{legs_met, IsInOrder}
+use Rattle.tbtree.specs.Faults.{IfNamed, IsNamed, RefusesRead}
+use Rattle.tbtree.specs.Nodes.{pages_of_cache}
 use Rattle.tbtree.specs.declared.fault.TreeFault.{TreeFault}
 use Rattle.tbtree.specs.declared.fault.TreeFault.TheVariants as tree
 use Rattle.tbtree.specs.declared.tree.Place.{Place}
 use Rattle.boxsearch.specs.Answers.{answered, of_tree}
 use Rattle.boxsearch.specs.Index.{IndexView, words, tells}
-use Rattle.boxsearch.specs.Order.{stable_by_ordinal}
 use Rattle.boxsearch.specs.Telling.{TellsTrack, DeniesTrack}
 use Rattle.boxsearch.specs.Way.{meets, IsWay, IsOffWay}
-use Rattle.boxsearch.proofs.PlaceLemmas.{some_none}
-
--- a page without a payload is no page of a tree
-none_there : {N : Type 0} (f : Payload → N) (o : Option Payload) (x : N) → o ≡ None → option_map f o ≡ Some x → ⊥
-none_there f o x e h = some_none x (sym h ∙ ap (option_map f) e)
-
-module _ (old new : Cache) (page : ℕ) where
-  pub refused_inner : (level : ℕ) (fault : CacheFault) → IsRefused page fault old new → IsTrue old.store.is_faithful
-      → IfNamed (λ n. (n ≡ page) × (HasInner (pages_of_cache old) page level → ⊥)) (fault_of page fault)
-  refused_inner level cache.NoPage h f = (refl, λ has. none_there node_of (payload_of old page) _ (h.1 f) has.is)
-  refused_inner level cache.Store h f = tt
-  refused_inner level (cache.Damaged m) h f = (h.0, λ has. none_there node_of (payload_of old page) _ (h.1 f) has.is)
-  refused_inner level cache.StoreFull h f = tt
-  refused_inner level cache.Memory h f = tt
-
-  pub refused_leaf : (fault : CacheFault) → IsRefused page fault old new → IsTrue old.store.is_faithful
-      → IfNamed (λ n. (n ≡ page) × (HasLeaf (pages_of_cache old) page → ⊥)) (fault_of page fault)
-  refused_leaf cache.NoPage h f = (refl, λ has. none_there node_of (payload_of old page) _ (h.1 f) has.is)
-  refused_leaf cache.Store h f = tt
-  refused_leaf (cache.Damaged m) h f = (h.0, λ has. none_there node_of (payload_of old page) _ (h.1 f) has.is)
-  refused_leaf cache.StoreFull h f = tt
-  refused_leaf cache.Memory h f = tt
 
 -- of a search
 module _ (i : IndexView) (c : Cache) (query : BoxView) where
@@ -70,27 +44,24 @@ module _ (i : IndexView) (c : Cache) (query : BoxView) where
     abbrev Meets : Result A TreeFault → Type 0
     Meets r = IsTrue i.cache.store.is_faithful → IfOk r (λ found. IsInOrder (legs_met leg_boxes (meets query) (pages_of_cache i.cache) i.tree.root i.tree.levels) (items found))
 
-    abbrev Stably : Result A TreeFault → Type 0
-    Stably r = IsTrue i.cache.store.is_faithful → IfOk r (λ found. items found ≡ stable_by_ordinal (legs_met leg_boxes (meets query) (pages_of_cache i.cache) i.tree.root i.tree.levels))
-
     abbrev NamesOff : Result A TreeFault → Type 0
     NamesOff r = IsTrue i.cache.store.is_faithful → IfErr r (IfNamed (IsOffWay query (pages_of_cache i.cache) i.tree.root i.tree.levels))
 
     abbrev Told : Result A TreeFault → Type 0
     Told r = MatchResult (answered (λ fault. of_tree fault) r) (λ found. tells i (InBox query) (items found)) (λ fault. Denies words i (InBox query) fault)
 
-    told : (r : Result A TreeFault) → Ways r → Meets r → Stably r → NamesOff r → IfErr r (RefusesRead i.cache c) → Told r
-    told (Ok found) way met stable named caused = λ f. record { way = way f; met = met f; stable = stable f }
-    told (Err fault) way met stable named caused = search_denies fault named caused
+    told : (r : Result A TreeFault) → Ways r → Meets r → NamesOff r → IfErr r (RefusesRead i.cache c) → Told r
+    told (Ok found) way met named caused = λ f. record { way = way f; met = met f }
+    told (Err fault) way met named caused = search_denies fault named caused
 
-    told_by : (spent : Bool) → i.tree.spent ≡ spent → (r : Result A TreeFault) → Ways r → Meets r → Stably r → NamesOff r
+    told_by : (spent : Bool) → i.tree.spent ≡ spent → (r : Result A TreeFault) → Ways r → Meets r → NamesOff r
         → (i.tree.spent ≡ true → (r ≡ Err tree.Spent) × (c ≡ i.cache)) → (i.tree.spent ≡ false → IfErr r (RefusesRead i.cache c)) → Told r
-    told_by true e r way met stable named refused caused = subst Told (sym (refused e).0) e
-    told_by false e r way met stable named refused caused = told r way met stable named (caused e)
+    told_by true e r way met named refused caused = subst Told (sym (refused e).0) e
+    told_by false e r way met named refused caused = told r way met named (caused e)
 
-    pub search_told : (r : Result A TreeFault) → Ways r → Meets r → Stably r → NamesOff r
+    pub search_told : (r : Result A TreeFault) → Ways r → Meets r → NamesOff r
         → (i.tree.spent ≡ true → (r ≡ Err tree.Spent) × (c ≡ i.cache)) → (i.tree.spent ≡ false → IfErr r (RefusesRead i.cache c)) → Told r
-    search_told r way met stable named refused caused = told_by i.tree.spent refl r way met stable named refused caused
+    search_told r way met named refused caused = told_by i.tree.spent refl r way met named refused caused
 
 -- of a retrieval
 module _ (i : IndexView) (c : Cache) (feature : ℕ) (period : Option PeriodView) (place : Place) (at : slice_get i.places feature ≡ Some place) where

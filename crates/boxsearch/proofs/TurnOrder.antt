@@ -9,6 +9,7 @@ use Rattle.legs.specs.Costs.{leg_feature}
 use Rattle.legs.specs.Index.{feature_count, CanFollowInTurn}
 use Rattle.legs.specs.Legs.{LegView}
 use Rattle.legs.specs.Places.{no_leg}
+use Rattle.tbtree.proofs.RisingLists.{in_order_once}
 use Rattle.tbtree.specs.Turn.{IsPast, IsRising}
 use Rattle.tbtree.specs.Order.{put_in, put_all, elements, numbered}
 use Rattle.tbtree.specs.declared.tree.Place.{Place}
@@ -190,10 +191,6 @@ below_moved n ps qs m h = below_all n qs (All-permutation (λ (p : ℕ × ℕ). 
     each n [] h = All-nil (λ (p : ℕ × ℕ). p.1 < n)
     each n (p ∷ ps) h = All-cons (λ (p : ℕ × ℕ). p.1 < n) p ps h.0 (each n ps h.1)
 
--- the law of a tree that is cited here
-abbrev pub InOrder : Type 0
-InOrder = (number : ℕ → ℕ) (rising ordered : List ℕ) → IsRising number rising → IsPermutation rising ordered → IsNonDecreasingBy number ordered → ordered ≡ rising
-
 pub turns_within : (most base : ℕ) (ends : List Open) (legs : List LegView) (turns : List Turn) → IsPermutation (turns_from most ends base 0 legs) turns → All (λ (t : Turn). t.place < length legs) turns
 turns_within most base ends legs turns m = All-permutation (λ (t : Turn). t.place < length legs) (turns_from most ends base 0 legs) turns m (within_from most base 0 (length legs) ends legs (omega arith))
 
@@ -204,10 +201,10 @@ AreNumbered places leaf legs turns =
     → numbered_legs legs turns ≡ put_all [] (numbered leg_feature leaf (λ f. f) before (feature_count before) legs)
 
 -- turns in order are put in by their numbers, one after another
-pub turns_put : InOrder → (places : List Place) (most : ℕ) (legs : List LegView) (turns : List Turn) → length places + length legs < 2 ^ 32
+pub turns_put : (places : List Place) (most : ℕ) (legs : List LegView) (turns : List Turn) → length places + length legs < 2 ^ 32
     → IsPermutation (turns_from most (opened_from most 0 places) (length places) 0 legs) turns → IsNonDecreasingBy turn_number turns
     → numbered_legs legs turns ≡ put_all [] (map {B = ℕ × LegView} (λ (p : ℕ × ℕ). (p.0, get_or legs p.1 no_leg)) (map pair (turns_from most (opened_from most 0 places) (length places) 0 legs)))
-turns_put in_order places most legs turns few moved rises =
+turns_put places most legs turns few moved rises =
     let ends = opened_from most 0 places in
     let base = length places in
     let ts = turns_from most ends base 0 legs in
@@ -222,7 +219,7 @@ turns_put in_order places most legs turns few moved rises =
     let same : IsPermutation P Q = IsPermutation-map pair ts turns moved in
     let perm : IsPermutation S Q = IsPermutation-trans S P Q (IsPermutation-sym P S (all_moves [] P)) same in
     let up : IsNonDecreasingBy (λ (n : ℕ). n) (map weight Q) = subst (λ l. IsNonDecreasingBy (λ (n : ℕ). n) l) (weights turns) (numbers_rise turn_number turns rises) in
-    let e : map weight Q ≡ map weight S = in_order (λ n. n) (map weight S) (map weight Q) rising (IsPermutation-map weight S Q perm) up in
+    let e : map weight Q ≡ map weight S = in_order_once (λ n. n) (map weight S) (map weight Q) rising (IsPermutation-map weight S Q perm) up in
     let pairs : Q ≡ S = weights_same Q S (below_moved 4294967296 P Q same below) (all_below 4294967296 [] P tt below) e in
     numbered_pairs legs turns ∙ ap (map (over g)) pairs ∙ sym (all_over g [] P)
   where
@@ -230,9 +227,9 @@ turns_put in_order places most legs turns few moved rises =
     weights [] = refl
     weights (t ∷ turns) = ap (λ l. turn_number t ∷ l) (weights turns)
 
-pub are_numbered : InOrder → (places : List Place) (most : ℕ) (legs : List LegView) (turns : List Turn) → 0 < most → most ≤ 50 → length places + length legs < 2 ^ 32
+pub are_numbered : (places : List Place) (most : ℕ) (legs : List LegView) (turns : List Turn) → 0 < most → most ≤ 50 → length places + length legs < 2 ^ 32
     → IsPermutation (turns_from most (opened_from most 0 places) (length places) 0 legs) turns → IsNonDecreasingBy turn_number turns → AreNumbered places most legs turns
-are_numbered in_order places most legs turns some fifty few moved rises before p w = turns_put in_order places most legs turns few moved rises ∙ ap (λ l. put_all [] l) (numbers_are places most legs before some fifty p w)
+are_numbered places most legs turns some fifty few moved rises before p w = turns_put places most legs turns few moved rises ∙ ap (λ l. put_all [] l) (numbers_are places most legs before some fifty p w)
 
 pub are_turns : (places : List Place) (most : ℕ) (legs : List LegView) (turns : List Turn) → AreNumbered places most legs turns → AreTurns places most legs turns
 are_turns places most legs turns are before p i w = taken_elements legs turns ∙ ap elements (are before p w)

@@ -1,5 +1,5 @@
 -- What contracts see of an index over pages.
-use Rattle.std.specs.Prelude.{Bool, true, ℕ, ◌≡◌, ◌<◌, ◌-◌, ◌^◌, ◌==◌, min, false, if◌then◌else◌, IsTrue, List, [], ◌∷◌, ◌++◌, map, length, slice_get, slice_index_or, Some, All}
+use Rattle.std.specs.Prelude.{Bool, true, ℕ, ◌≡◌, ◌<◌, ◌-◌, ◌^◌, ◌==◌, min, false, if◌then◌else◌, IsTrue, List, [], ◌∷◌, ◌++◌, map, length, slice_get, Some, All}
 use Rattle.legs.specs.Boxes.{BoxView}
 use Rattle.legs.specs.Costs.{ShapeView}
 use Rattle.legs.specs.Finding.{Finding}
@@ -49,10 +49,6 @@ tells i question legs =
 abbrev pub denies : IndexView → Question → ℕ → Type 0
 denies i question page =
     IsTrue i.cache.store.is_faithful → Denies (pages_of_cache i.cache) i.tree i.places question page
-
--- the place of a feature; of one that has none, as the next one, that of a feature without legs
-abbrev pub place_for : List Place → ℕ → Place
-place_for places feature = slice_index_or places feature no_place
 
 -- the pages as written; none where its store is not faithful
 abbrev pub written : IndexView → List (List ℕ)

@@ -1,4 +1,3 @@
-pub mod Order
 pub mod Way
 pub mod Telling
 pub mod Index

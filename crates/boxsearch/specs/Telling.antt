@@ -1,5 +1,5 @@
 -- What the pages of an index, whoever wrote them, say to a question.
-use Rattle.std.specs.Prelude.{ℕ, ◌≡◌, List, [], ◌∷◌, Option, Some, None, slice_get}
+use Rattle.std.specs.Prelude.{ℕ, ◌≡◌, List, [], Option, Some, None, slice_get}
 use Rattle.timebase.specs.Period.{PeriodView}
 use Rattle.legs.specs.Boxes.{BoxView}
 use Rattle.legs.specs.Costs.{ShapeView}
@@ -8,28 +8,16 @@ use Rattle.legs.specs.Legs.{LegView}
 use Rattle.legs.specs.Questions.{Question, InBox, OfFeature}
 use Rattle.chains.specs.Chains.{IsPlaceChain, chain_fault, chain_legs}
 use Rattle.tbtree.specs.Descent.{legs_met, IsInOrder}
-use Rattle.tbtree.specs.Joining.{HasAtEnd}
 use Rattle.tbtree.specs.Nodes.{Pages}
 use Rattle.tbtree.specs.declared.tree.Place.{Place}
 use Rattle.tbtree.specs.declared.tree.TbTree.{TbTree}
-use Rattle.boxsearch.specs.Order.{stable_by_ordinal}
 use Rattle.boxsearch.specs.Way.{meets, IsWay, IsOffWay}
 
--- the last leaf of the leg's feature has the leg at its end
-pub record EndsWith (nodes : Pages LegView BoxView) (places : List Place)
-    (leg : LegView) : Type 0 where
-  pub place : Place
-  pub is : slice_get places leg.feature ≡ Some place
-  pub at_end : HasAtEnd nodes place.last (leg ∷ [])
-
--- each page that a search meets is the one that the tree expects there, and these are the legs that it meets, in order,
--- those of one ordinal as they are met
+-- each page that a search meets is the one that the tree expects there, and these are the legs that it meets, in order
 pub record TellsBox (nodes : Pages LegView BoxView) (tree : TbTree) (query : BoxView)
     (legs : List LegView) : Type 0 where
   pub way : IsWay query nodes tree.root tree.levels
   pub met : IsInOrder (legs_met leg_boxes (meets query) nodes tree.root tree.levels) legs
-  pub stable : legs
-      ≡ stable_by_ordinal (legs_met leg_boxes (meets query) nodes tree.root tree.levels)
 
 -- the pages are the chain of a feature's place, as far as it is read, and these are the legs that are kept of it; where
 -- there is no place there is no leg

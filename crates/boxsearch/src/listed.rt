@@ -74,7 +74,6 @@ impl<S: PageStore> LegIndex for TreeIndex<S> {
         if self.tree.spent {
             return Err(IndexFault::Spent);
         }
-        tbtree::laws();
         let feature = leg.feature as usize;
         if self.make_place(feature).is_err() {
             self.tree.spent = true;
@@ -91,8 +90,6 @@ impl<S: PageStore> LegIndex for TreeIndex<S> {
         if self.tree.spent {
             return Err(IndexFault::Spent);
         }
-        tbtree::laws();
-        tbtree::order_laws();
         let most = u64::from(self.tree.shape.leaf());
         let turns = match turns_of(self.alloc, self.places.as_slice(), most, legs) {
             Ok(turns) => turns,
@@ -105,7 +102,6 @@ impl<S: PageStore> LegIndex for TreeIndex<S> {
     }
 
     fn search(&mut self, query: &Box3) -> Result<Vec<Leg>, IndexFault> {
-        chains::laws();
         answer(search(self.alloc, &mut self.cache, &self.tree, query))
     }
 
@@ -116,7 +112,6 @@ impl<S: PageStore> LegIndex for TreeIndex<S> {
         let Some(place) = self.place(feature) else {
             return Ok(Vec::new(self.alloc));
         };
-        chains::laws();
         if make_room(self.alloc, &mut self.known, feature as usize).is_err() {
             return Err(IndexFault::Memory);
         }
@@ -137,7 +132,6 @@ impl<S: PageStore> LegIndex for TreeIndex<S> {
         let Some(place) = self.place(feature) else {
             return Ok(Vec::new(self.alloc));
         };
-        chains::laws();
         if make_room(self.alloc, &mut self.known, feature as usize).is_err() {
             return Err(IndexFault::Memory);
         }

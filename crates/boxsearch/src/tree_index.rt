@@ -61,7 +61,7 @@ impl<S: PageStore> Model for TreeIndex<S> {
 }
 
 impl<S: PageStore> TreeIndex<S> {
-    ghost use Rattle.std.specs.Prelude.{ℕ, ◌≡◌, ◌<◌, ◌↔◌, [], false, length, slice_get, IfErr, IsTrue, OnErr, OnOk};
+    ghost use Rattle.std.specs.Prelude.{◌≡◌, ◌<◌, ◌↔◌, [], false, length, slice_get, IfErr, IsTrue, OnErr, OnOk};
     ghost use Rattle.pages.specs.Store.{IsSynced};
     ghost use Rattle.pagecache.specs.Cache.{IsSettled, IsWritten};
     ghost use Rattle.tbtree.specs.Nodes.{pages_of_cache};
@@ -113,7 +113,6 @@ impl<S: PageStore> TreeIndex<S> {
         if self.tree.spent {
             return Err(IndexFault::Spent);
         }
-        tbtree::laws();
         self.known = Vec::new(self.alloc);
         of_pages(mark_page(&mut self.cache))
     }

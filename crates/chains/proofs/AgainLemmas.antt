@@ -1,5 +1,5 @@
 -- A known leaf, read without the test of its form.
-use Rattle.std.proofs.Common.{ℕ, zero, suc, ◌≡◌, ◌<◌, List, [], ◌∷◌, ◌++◌, length, refl, sym, ap, ◌∙◌, arith, Some, None, slice_get, ℤ, is_lt, int_cmp, cond, true, false, Less, Greater, Equal}
+use Rattle.std.proofs.Common.{ℕ, zero, suc, ◌≡◌, ◌<◌, List, [], ◌∷◌, length, refl, sym, ap, ◌∙◌, arith, Some, None, slice_get, ℤ, is_lt, int_cmp, cond, true, false, Less, Greater, Equal}
 use Rattle.std.specs.Prelude.{int_lt}
 use Rattle.timebase.specs.Period.{PeriodView}
 use Rattle.legs.specs.Legs.{LegView}

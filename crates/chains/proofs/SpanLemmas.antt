@@ -1,9 +1,9 @@
 -- What is known of the leaves of a chain, along a walk back.
-use Rattle.std.proofs.Common.{ℕ, zero, suc, ◌+◌, ◌-◌, ◌^◌, ◌≡◌, ◌≤◌, ◌<◌, ◌&&◌, true, false, cond, List, [], ◌∷◌, ◌++◌, take, drop, length, refl, sym, ap, ◌∙◌, arith, subst, append_assoc, get_or, ⊎_elim, inl, inr, Option, Some, None, slice_get, ℤ, pos, ◌≤ℤ◌, ◌<ℤ◌, All, IsTrue}
+use Rattle.std.proofs.Common.{ℕ, zero, suc, ◌+◌, ◌-◌, ◌≡◌, ◌≤◌, ◌<◌, true, false, cond, List, [], ◌∷◌, ◌++◌, take, drop, length, refl, sym, ap, ◌∙◌, arith, subst, append_assoc, get_or, ⊎_elim, inl, inr, Option, Some, None, slice_get, ℤ, pos, ◌≤ℤ◌, ◌<ℤ◌, All, IsTrue}
 use Rattle.std.specs.Prelude.{◌⊎◌, Any, int_le, int_lt, if◌then◌else◌}
 use Rattle.std.specs.Int.{div_ceil, int_max, int_min}
 use Rattle.std.specs.List.{filter}
-use Rattle.std.proofs.lemmas.Bool.{cases_eq, true≢false}
+use Rattle.std.proofs.lemmas.Bool.{cases_eq}
 use Rattle.std.proofs.lemmas.Int.{ints, clamps}
 use Rattle.std.proofs.lemmas.List.{drop_all, length_push, take_all}
 use Rattle.std.proofs.lemmas.List.Elements.{All-head, All-more, All-same, All-tail, All-weaker}
@@ -15,17 +15,17 @@ use Rattle.legs.specs.Legs.{LegView, is_live}
 use Rattle.pagecache.specs.Cache.{Cache}
 use Rattle.tbtree.specs.Nodes.{Pages, pages_of_cache, Node, LeafView, ALeaf, AnInner}
 use Rattle.tbtree.specs.declared.tree.Place.{Place}
-use Rattle.chains.specs.Chains.{IsLinked, last_link, legs_in, previous_of, walked}
+use Rattle.chains.specs.Chains.{IsLinked, last_link}
 use Rattle.chains.specs.Links.{begins_before, is_end, is_kept, link_back, spot_of}
 use Rattle.chains.specs.Reads.{OnlyReads}
-use Rattle.chains.specs.Spans.{AreSpans, AsksAs, IsKnown, IsSpanOf, IsWithin, Learns, link_over, over, pass_at, read_cost, walked_by}
+use Rattle.chains.specs.Spans.{AreSpans, IsKnown, IsSpanOf, IsWithin, Learns, link_over, over, pass_at}
 use Rattle.chains.specs.declared.leaves.Link.{Link}
 use Rattle.chains.specs.declared.spans.LeafSpan.{LeafSpan}
 use Rattle.chains.specs.declared.spans.Passing.{Passing}
 use Rattle.chains.specs.declared.spans.Passing.TheVariants.{Into, Over, End}
 use Rattle.legs.proofs.GroupLemmas.{some_none, some_same}
 use Rattle.chains.proofs.KeepLemmas.{drop_at}
-use Rattle.chains.proofs.StepLemmas.{one_more, same_at}
+use Rattle.chains.proofs.StepLemmas.{same_at}
 
 le_from : (x y : ℤ) → int_le x y ≡ true → x ≤ℤ y
 le_from x y e = grind (arith, ints)
@@ -272,9 +272,6 @@ module _ (nodes : Pages LegView BoxView) (most legs first : ℕ) where
     pub all_known : (passed : ℕ) (spans : List LeafSpan) (n : ℕ) (link : Link) → OnWay passed spans n link → Spans spans blocks start
     all_known passed spans n link w = subst (λ l. Spans l blocks start) (take_drop passed spans) (w.behind (drop passed spans) w.ahead)
 
-    pub at_start : (spans : List LeafSpan) → Spans spans blocks start → OnWay 0 spans blocks start
-    at_start spans h = record { within = omega arith; ahead = h; behind = λ more m. m }
-
     -- the known leaf at which a walk is
     pub known_here : (passed : ℕ) (spans : List LeafSpan) (n : ℕ) (link : Link) (span : LeafSpan) → OnWay passed spans n link → slice_get spans passed ≡ Some span
         → IsThere span (drop (suc passed) spans) n link
@@ -346,113 +343,6 @@ module _ (nodes : Pages LegView BoxView) (most legs first : ℕ) where
               | suc m ↦ λ r o. absurd (subst IsOver (sym o) tt)
             ]) same_rest o
       ]) refl o
-
--- a leaf that was learned does not change what is ahead of it
-pub rest_same : (passed page : ℕ) (old new : List LeafSpan) (leaf : LeafView LegView) → passed ≤ length old → Learns old new passed page leaf → drop (suc passed) new ≡ drop (suc passed) old
-rest_same passed page old new leaf w learns =
-    ⊎_elim
-    (λ (e : passed ≡ length old).
-    let l = learns.next e in
-    let long : length (old ++ l.0 ∷ []) ≡ length old + 1 = length_push old l.0 in
-    ap (drop (suc passed)) l.2 ∙ drop_all (suc passed) (old ++ l.0 ∷ []) (omega (arith, long, e)) ∙ sym (drop_all (suc passed) old (omega (arith, e))))
-    (λ (e : passed ≡ length old → ⊥). ap (drop (suc passed)) (learns.same e))
-    (cases_eq passed (length old))
-
-module _ (nodes : Pages LegView BoxView) (period : Option PeriodView) where
-  pub cost_none : (spans : List LeafSpan) (p : ℕ) → walked_by nodes period spans 0 p ≡ 0
-  cost_none [] p = refl
-  cost_none (span ∷ spans) p = refl
-
-  -- what is read from a leaf on
-  cost_at : (passed : ℕ) (spans : List LeafSpan) (rest p : ℕ) → walked_by nodes period (drop passed spans) (suc rest) p
-      ≡ read_cost (pass_at (slice_get spans passed) (slice_get spans (suc passed)) rest period) (is_end period (legs_in (nodes.at p))) (walked_by nodes period (drop (suc passed) spans) rest (previous_of (nodes.at p)))
-  cost_at zero [] rest p = refl
-  cost_at zero (span ∷ []) rest p = refl
-  cost_at zero (span ∷ (next ∷ spans)) rest p = refl
-  cost_at (suc passed) [] rest p = refl
-  cost_at (suc passed) (span ∷ spans) rest p = cost_at passed spans rest p
-
-  module _ (passed : ℕ) (spans : List LeafSpan) (rest n p : ℕ) (e : n ≡ suc rest) where
-    abbrev ahead : ℕ
-    ahead = walked_by nodes period (drop passed spans) n p
-
-    cost_here : (act : Passing) → act ≡ pass_at (slice_get spans passed) (slice_get spans (suc passed)) rest period
-        → ahead ≡ read_cost act (is_end period (legs_in (nodes.at p))) (walked_by nodes period (drop (suc passed) spans) rest (previous_of (nodes.at p)))
-    cost_here act a =
-        ap (λ k. walked_by nodes period (drop passed spans) k p) e ∙ cost_at passed spans rest p
-        ∙ ap (λ x. read_cost x (is_end period (legs_in (nodes.at p))) (walked_by nodes period (drop (suc passed) spans) rest (previous_of (nodes.at p)))) (sym a)
-
-    pub cost_over : (link : Link) (leaf : LeafView LegView) → Over link ≡ pass_at (slice_get spans passed) (slice_get spans (suc passed)) rest period → nodes.at p ≡ Some (Some (ALeaf leaf))
-        → ahead ≡ walked_by nodes period (drop (suc passed) spans) rest leaf.previous
-    cost_over link leaf a is = cost_here (Over link) a ∙ ap (λ o. walked_by nodes period (drop (suc passed) spans) rest (previous_of o)) is
-
-    pub cost_end : End ≡ pass_at (slice_get spans passed) (slice_get spans (suc passed)) rest period → ahead ≡ 0
-    cost_end a = cost_here End a
-
-    cost_into : (leaf : LeafView LegView) → Into ≡ pass_at (slice_get spans passed) (slice_get spans (suc passed)) rest period → nodes.at p ≡ Some (Some (ALeaf leaf))
-        → ahead ≡ 1 + cond (is_end period leaf.legs) 0 (walked_by nodes period (drop (suc passed) spans) rest leaf.previous)
-    cost_into leaf a is = cost_here Into a ∙ ap (λ o. 1 + cond (is_end period (legs_in o)) 0 (walked_by nodes period (drop (suc passed) spans) rest (previous_of o))) is
-
-    pub cost_on : (leaf : LeafView LegView) → Into ≡ pass_at (slice_get spans passed) (slice_get spans (suc passed)) rest period → nodes.at p ≡ Some (Some (ALeaf leaf))
-        → is_end period leaf.legs ≡ false → ahead ≡ 1 + walked_by nodes period (drop (suc passed) spans) rest leaf.previous
-    cost_on leaf a is z = cost_into leaf a is ∙ ap (λ v. 1 + cond v 0 (walked_by nodes period (drop (suc passed) spans) rest leaf.previous)) z
-
-    pub cost_last : (leaf : LeafView LegView) → Into ≡ pass_at (slice_get spans passed) (slice_get spans (suc passed)) rest period → nodes.at p ≡ Some (Some (ALeaf leaf))
-        → is_end period leaf.legs ≡ true → ahead ≡ 1
-    cost_last leaf a is z = cost_into leaf a is ∙ ap (λ v. 1 + cond v 0 (walked_by nodes period (drop (suc passed) spans) rest leaf.previous)) z
-
--- what was asked for at a leaf, and what is asked for before it
-module _ (nodes : Pages LegView BoxView) (period : Option PeriodView) (passed : ℕ) (spans : List LeafSpan) (rest n p : ℕ) (e : n ≡ suc rest) (leaf : LeafView LegView) (is : nodes.at p ≡ Some (Some (ALeaf leaf))) (old new : Cache) where
-  abbrev act_here : Passing
-  act_here = pass_at (slice_get spans passed) (slice_get spans (suc passed)) rest period
-
-  on_by : (act : Passing) (back : Link) → act ≡ act_here → AsksAs act (Some back) old new → is_end period leaf.legs ≡ false → new.asked < 2 ^ 64 - 1
-      → (old.asked < 2 ^ 64 - 1) × (new.asked + walked_by nodes period (drop (suc passed) spans) rest leaf.previous ≡ old.asked + walked_by nodes period (drop passed spans) n p)
-  on_by Into back a h z l =
-      let one = one_more old.asked new.asked h l in
-      let c = cost_on nodes period passed spans rest n p e leaf a is z in
-      (one.0, omega (arith, one.1, c))
-  on_by (Over link) back a h z l =
-      let c = cost_over nodes period passed spans rest n p e link leaf a is in
-      (omega (arith, h.0, l), omega (arith, h.0, c))
-  on_by End back a h z l = absurd (some_none back h.1)
-
-  pub asks_on : (back : Link) → AsksAs act_here (Some back) old new → is_end period leaf.legs ≡ false → new.asked < 2 ^ 64 - 1
-      → (old.asked < 2 ^ 64 - 1) × (new.asked + walked_by nodes period (drop (suc passed) spans) rest leaf.previous ≡ old.asked + walked_by nodes period (drop passed spans) n p)
-  asks_on back h z l = on_by act_here back refl h z l
-
-  last_by : (act : Passing) → act ≡ act_here → AsksAs act None old new → is_end period leaf.legs ≡ true → new.asked < 2 ^ 64 - 1
-      → (old.asked < 2 ^ 64 - 1) × (new.asked ≡ old.asked + walked_by nodes period (drop passed spans) n p)
-  last_by Into a h z l =
-      let one = one_more old.asked new.asked h l in
-      let c = cost_last nodes period passed spans rest n p e leaf a is z in
-      (one.0, omega (arith, one.1, c))
-  last_by (Over link) a h z l = absurd (some_none link (sym h.1))
-  last_by End a h z l =
-      let c = cost_end nodes period passed spans rest n p e a in
-      (omega (arith, h.0, l), omega (arith, h.0, c))
-
-  pub asks_last : AsksAs act_here None old new → is_end period leaf.legs ≡ true → new.asked < 2 ^ 64 - 1
-      → (old.asked < 2 ^ 64 - 1) × (new.asked ≡ old.asked + walked_by nodes period (drop passed spans) n p)
-  asks_last h z l = last_by act_here refl h z l
-
--- at most as many, also where the counter is at its end
-module _ (nodes : Pages LegView BoxView) (period : Option PeriodView) (passed : ℕ) (spans : List LeafSpan) (rest n p : ℕ) (e : n ≡ suc rest) (leaf : LeafView LegView) (is : nodes.at p ≡ Some (Some (ALeaf leaf))) (old new : Cache) where
-  few_on_by : (act : Passing) (back : Link) → act ≡ pass_at (slice_get spans passed) (slice_get spans (suc passed)) rest period → AsksAs act (Some back) old new → is_end period leaf.legs ≡ false
-      → new.asked + walked_by nodes period (drop (suc passed) spans) rest leaf.previous ≤ old.asked + walked_by nodes period (drop passed spans) n p
-  few_on_by Into back a h z = let c = cost_on nodes period passed spans rest n p e leaf a is z in omega (arith, clamps, h, c)
-  few_on_by (Over link) back a h z = let c = cost_over nodes period passed spans rest n p e link leaf a is in omega (arith, h.0, c)
-  few_on_by End back a h z = absurd (some_none back h.1)
-
-  pub few_on : (back : Link) → AsksAs (pass_at (slice_get spans passed) (slice_get spans (suc passed)) rest period) (Some back) old new → is_end period leaf.legs ≡ false
-      → new.asked + walked_by nodes period (drop (suc passed) spans) rest leaf.previous ≤ old.asked + walked_by nodes period (drop passed spans) n p
-  few_on back h z = few_on_by (pass_at (slice_get spans passed) (slice_get spans (suc passed)) rest period) back refl h z
-
--- where there is no period each leaf is read
-pub cost_whole : (nodes : Pages LegView BoxView) (spans : List LeafSpan) (n p : ℕ) → walked_by nodes None spans n p ≡ walked nodes None n p
-cost_whole nodes [] n p = refl
-cost_whole nodes (span ∷ spans) zero p = refl
-cost_whole nodes (span ∷ spans) (suc n) p = ap (λ k. 1 + k) (cost_whole nodes spans n (previous_of (nodes.at p)))
 
 -- what is known lasts where no page changes
 module _ (old new : Pages LegView BoxView) (same : (n : ℕ) → new.at n ≡ old.at n) (most legs first : ℕ) where

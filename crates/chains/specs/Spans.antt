@@ -1,15 +1,14 @@
 -- What is known of the leaves of a chain that were read: a memory of its last leaves.
-use Rattle.std.specs.Prelude.{ℕ, ℤ, zero, suc, ◌≡◌, ◌≢◌, ◌+◌, ◌-◌, ◌<◌, ◌++◌, ◌&&◌, ◌⊎◌, ◌≤ℤ◌, Bool, cond, List, [], ◌∷◌, length, if◌then◌else◌, int_lt, int_le, Option, Some, None, All, Any}
+use Rattle.std.specs.Prelude.{ℕ, ℤ, zero, suc, ◌≡◌, ◌≢◌, ◌+◌, ◌<◌, ◌++◌, ◌≤ℤ◌, List, [], ◌∷◌, length, if◌then◌else◌, int_lt, int_le, Option, Some, None, All, Any}
 use Rattle.std.specs.Int.{div_ceil}
 use Rattle.timebase.specs.Period.{PeriodView}
 use Rattle.legs.specs.Boxes.{BoxView}
 use Rattle.legs.specs.Costs.{ShapeView}
 use Rattle.legs.specs.Legs.{LegView}
-use Rattle.pagecache.specs.Cache.{Cache, AsksOnce}
 use Rattle.tbtree.specs.Nodes.{Pages, LeafView}
 use Rattle.tbtree.specs.declared.tree.Place.{Place}
-use Rattle.chains.specs.Chains.{IsLinked, last_link, legs_in, previous_of, walked}
-use Rattle.chains.specs.Links.{is_end, link_back, spot_of}
+use Rattle.chains.specs.Chains.{IsLinked, last_link}
+use Rattle.chains.specs.Links.{link_back, spot_of}
 use Rattle.chains.specs.declared.leaves.Link.{Link}
 use Rattle.chains.specs.declared.spans.LeafSpan.{LeafSpan}
 use Rattle.chains.specs.declared.spans.Passing.{Passing}
@@ -68,43 +67,9 @@ pass_at (Some span) before left (Some period) =
     if int_lt span.end period.start then End else if int_le span.start period.end then Into
     else over span before left
 
--- the page of a leaf that is read was asked for once; no page of one that is passed, and this is the link over it; none
--- where the walk ends, and then there is no link
-abbrev pub AsksAs : Passing → Option Link → Cache → Cache → Type 0
-AsksAs Into back old new = AsksOnce old new
-AsksAs (Over link) back old new = (new.asked ≡ old.asked) × (back ≡ Some link)
-AsksAs End back old new = (new.asked ≡ old.asked) × (back ≡ None)
-
 -- the span of a leaf has been put behind those that are known, where it is the next one
 pub record Learns (old new : List LeafSpan) (passed page : ℕ)
     (leaf : LeafView LegView) : Type 0 where
   pub same : passed ≢ length old → new ≡ old
   pub next : passed ≡ length old
       → (span : LeafSpan) × IsSpanOf span page leaf × (new ≡ old ++ span ∷ [])
-
--- the pages that are read for a leaf and those before it: no more where the walk ends there, none for it where it is passed
-abbrev pub read_cost : Passing → Bool → ℕ → ℕ
-read_cost Into ends before = 1 + cond ends 0 before
-read_cost (Over link) ends before = before
-read_cost End ends before = 0
-
--- the first of the spans
-abbrev pub next_span : List LeafSpan → Option LeafSpan
-next_span [] = None
-next_span (span ∷ spans) = Some span
-
-module _ (nodes : Pages LegView BoxView) (period : Option PeriodView) where
-  -- how many of n leaves from page p back are read, where these are the spans of the first ones
-  abbrev pub walked_by : List LeafSpan → ℕ → ℕ → ℕ
-  walked_by [] n p = walked nodes period n p
-  walked_by (span ∷ spans) zero p = 0
-  walked_by (span ∷ spans) (suc n) p =
-      read_cost (pass_at (Some span) (next_span spans) n period)
-      (is_end period (legs_in (nodes.at p)))
-      (walked_by spans n (previous_of (nodes.at p)))
-
--- how many leaves of the place's chain are read, where these are the spans of its last ones
-abbrev pub known_cost : Pages LegView BoxView → Option PeriodView → ShapeView → Place
-    → List LeafSpan → ℕ
-known_cost nodes period shape place spans =
-    walked_by nodes period spans (div_ceil place.legs shape.leaf) place.last

@@ -142,7 +142,6 @@ fn push_wanted(
         → IfErr result (IsNodeFault true page)) }
     ensures caused { (old new : Cache) → IfErr result (RefusesRead old new) }
 {
-    tbnode::laws();
     let mut i = ends.1;
     'legs: while i > ends.0 + 1 {
         i -= 1;

@@ -8,5 +8,5 @@ mod leaves;
 mod retrieval;
 mod spans;
 
-pub use retrieval::{ChainFault, laws, trajectory, trajectory_in};
+pub use retrieval::{ChainFault, trajectory, trajectory_in};
 pub use spans::LeafSpan;

@@ -1,22 +1,19 @@
 //! The legs of a feature.
-ghost use Rattle.std.specs.Prelude.{ℕ, suc, ◌≡◌, ◌+◌, ◌-◌, ◌^◌, ◌<◌, ◌≤◌, ◌≤ℤ◌, ◌↔◌, List, Option, Some, None, [], count_by, drop, slice_get, OnErr, OnOk, IfOk, IfErr, IsTrue};
-ghost use Rattle.std.specs.Int.{div_ceil};
-ghost use Rattle.legs.specs.Boxes.{BoxView};
-ghost use Rattle.legs.specs.Costs.{ShapeView, RisesBy, RisesAtMost, track_cost, track_in_bound};
+ghost use Rattle.std.specs.Prelude.{suc, ◌≡◌, ◌+◌, ◌-◌, ◌^◌, ◌<◌, ◌≤◌, List, Option, Some, None, [], drop, OnErr, OnOk, IfOk, IfErr, IsTrue};
+ghost use Rattle.legs.specs.Costs.{RisesBy, RisesAtMost, track_cost, track_in_bound};
 ghost use Rattle.legs.specs.Index.{legs_of, live_legs_of};
 ghost use Rattle.legs.specs.Legs.{LegView};
 ghost use Rattle.legs.specs.Sieves.{IsSieved};
-ghost use Rattle.pagecache.specs.Cache.{Cache};
-ghost use Rattle.tbtree.specs.Faults.{GivesRead, IsNamed, MayRefuseHeld, MayRefuseRead};
-ghost use Rattle.tbtree.specs.Nodes.{Pages, pages_of_cache};
+ghost use Rattle.pagecache.specs.Cache.{AsksOnce};
+ghost use Rattle.tbtree.specs.Faults.{GivesRead, IsNamed};
+ghost use Rattle.tbtree.specs.Nodes.{pages_of_cache};
 ghost use Rattle.tbtree.specs.Shape.{IsShape};
 ghost use Rattle.tbtree.specs.declared.tree.Place.{Place};
-ghost use Rattle.timebase.specs.Period.{PeriodView};
-ghost use Rattle.chains.specs.Chains.{AreHeld, IsPlaceChain, chain_fault, chain_legs, chain_cost, is_stray};
-ghost use Rattle.chains.specs.Reads.{OnlyReads, Reads};
+ghost use Rattle.chains.specs.Chains.{IsPlaceChain, chain_fault, chain_legs, chain_cost, is_stray};
+ghost use Rattle.chains.specs.Reads.{Reads};
 ghost use Rattle.chains.specs.Keeping.{HasTaken};
 ghost use Rattle.chains.specs.Links.{spot_of};
-ghost use Rattle.chains.specs.Spans.{AreSpans, AsksAs, IsKnown, known_cost, pass_at};
+ghost use Rattle.chains.specs.Spans.{AreSpans, IsKnown};
 ghost use Rattle.chains.specs.Taking.{TakesPage, fault_at};
 ghost use Rattle.chains.specs.Trajectory.{HasFeature};
 ghost use Rattle.chains.specs.declared.spans.LeafSpan.{LeafSpan};
@@ -89,10 +86,7 @@ fn step<S: PageStore>(
         → IfErr result (IsNamed (pages_of_cache cache.old) (fault_at (pages_of_cache cache.old)
         at.now.link (spot_of most place.now.legs place.now.first at.now.left))) }
     ensures reads { Reads cache.old cache.new result }
-    ensures asked { IfOk result (λ back. AsksAs (pass_at
-        (slice_get spans.old.items at.now.passed)
-        (slice_get spans.old.items (suc at.now.passed)) at.now.left want.now.period)
-        back cache.old cache.new) }
+    ensures asked { want.now.period ≡ None → OnOk result (AsksOnce cache.old cache.new) }
     ensures most { cache.new.asked ≤ cache.old.asked + 1 }
 {
     match pass(spans.as_slice(), at.passed, at.left, &want.period) {
@@ -138,10 +132,9 @@ fn walk_back<S: PageStore>(
         → IfErr result (IsNamed (pages_of_cache cache.old)
         (chain_fault (pages_of_cache cache.old) want.now.period shape.now feature place.now)) }
     ensures reads { Reads cache.old cache.new result }
-    ensures asked { IsTrue cache.old.store.is_faithful
+    ensures asked { IsTrue cache.old.store.is_faithful → want.now.period ≡ None
         → OnOk result (RisesBy cache.old.asked cache.new.asked
-        (known_cost (pages_of_cache cache.old) want.now.period shape.now place.now
-        spans.old.items)) }
+        (chain_cost (pages_of_cache cache.old) want.now.period shape.now place.now)) }
     ensures within { IsTrue cache.old.store.is_faithful
         → OnOk result (RisesAtMost cache.old.asked cache.new.asked
         (chain_cost (pages_of_cache cache.old) want.now.period shape.now place.now)) }
@@ -201,35 +194,17 @@ pub fn trajectory<S: PageStore>(
         → OnOk result (RisesBy cache.old.asked cache.new.asked
         (track_cost feature (Some shape.now) legs)) }
 
-    // Of any pages: exactly the legs of a whole chain; all else is refused, where each page has a payload as malformed,
-    // if not for want of memory or a store that failed.
+    // Of any pages: exactly the legs of a whole chain; all else is refused.
     ensures chain { IsTrue cache.old.store.is_faithful
         → OnOk result (IsPlaceChain (pages_of_cache cache.old) None shape.now feature place.now) }
     // It returns exactly the legs of that chain, in order.
     ensures legs { IsTrue cache.old.store.is_faithful
         → IfOk result (λ found. found.items
         ≡ chain_legs (pages_of_cache cache.old) None shape.now place.now) }
-    // If the pages are the chain, it fails only if memory runs out or the store fails.
-    ensures only { IsTrue cache.old.store.is_faithful
-        → IsPlaceChain (pages_of_cache cache.old) None shape.now feature place.now
-        → IfErr result MayRefuseRead }
-    // If each page has a payload, no page is called damaged.
-    ensures malformed { IsTrue cache.old.store.is_faithful
-        → AreHeld (pages_of_cache cache.old) → IfErr result MayRefuseHeld }
-
-    // Of any pages: a page that is named is the first one, from the place's last leaf back, that is not the chain's;
-    // a page is asked for once for each leaf that is read.
-    ensures whole { IsTrue cache.old.store.is_faithful
-        → OnOk result (chain_fault (pages_of_cache cache.old) None shape.now feature place.now
-        ≡ None) }
-    // A page that an error names is that first one.
+    // A page that an error names is the first one, from the place's last leaf back, that is not the chain's.
     ensures named { IsTrue cache.old.store.is_faithful
         → IfErr result (IsNamed (pages_of_cache cache.old)
         (chain_fault (pages_of_cache cache.old) None shape.now feature place.now)) }
-    // It asks for at most one page for each leaf of the chain.
-    ensures within { IsTrue cache.old.store.is_faithful
-        → OnOk result (RisesAtMost cache.old.asked cache.new.asked
-        (chain_cost (pages_of_cache cache.old) None shape.now place.now)) }
 
     // What is known of the chain's last leaves is true, after it as before it.
     ensures learns { IsTrue cache.old.store.is_faithful
@@ -280,8 +255,7 @@ pub fn trajectory_in<S: PageStore>(
         → OnOk result (RisesAtMost cache.old.asked cache.new.asked
         (track_in_bound feature period.now (Some shape.now) legs)) }
 
-    // Of any pages: what it keeps of the live legs of a chain, as far as it is read; all else is refused, as by
-    // `trajectory`.
+    // Of any pages: what it keeps of the live legs of a chain, as far as it is read; all else is refused.
     ensures chain { IsTrue cache.old.store.is_faithful
         → OnOk result (IsPlaceChain (pages_of_cache cache.old) (Some period.now) shape.now feature
         place.now) }
@@ -291,27 +265,10 @@ pub fn trajectory_in<S: PageStore>(
         → IfOk result (λ found. IsSieved sieve.now period.now
         (chain_legs (pages_of_cache cache.old) (Some period.now) shape.now place.now)
         found.items) }
-    // If the pages are the chain, it fails only if memory runs out or the store fails.
-    ensures only { IsTrue cache.old.store.is_faithful
-        → IsPlaceChain (pages_of_cache cache.old) (Some period.now) shape.now feature place.now
-        → IfErr result MayRefuseRead }
-    // If each page has a payload, no page is called damaged.
-    ensures malformed { IsTrue cache.old.store.is_faithful
-        → AreHeld (pages_of_cache cache.old) → IfErr result MayRefuseHeld }
-
-    // Of any pages: a page that is named is the first one, from the place's last leaf back, that is not the chain's;
-    // a page is asked for once for each leaf that is read.
-    ensures whole { IsTrue cache.old.store.is_faithful
-        → OnOk result (chain_fault (pages_of_cache cache.old) (Some period.now) shape.now feature
-        place.now ≡ None) }
-    // A page that an error names is that first one.
+    // A page that an error names is the first one, from the place's last leaf back, that is not the chain's.
     ensures named { IsTrue cache.old.store.is_faithful
         → IfErr result (IsNamed (pages_of_cache cache.old)
         (chain_fault (pages_of_cache cache.old) (Some period.now) shape.now feature place.now)) }
-    // It asks for at most one page for each leaf back to the one that starts before the period.
-    ensures within { IsTrue cache.old.store.is_faithful
-        → OnOk result (RisesAtMost cache.old.asked cache.new.asked
-        (chain_cost (pages_of_cache cache.old) (Some period.now) shape.now place.now)) }
 
     // What is known of the chain's last leaves is true, after it as before it.
     ensures learns { IsTrue cache.old.store.is_faithful
@@ -329,18 +286,3 @@ pub fn trajectory_in<S: PageStore>(
     found.reverse();
     Ok(found)
 }
-
-/// What holds of a chain in any pages, for the proofs of a caller. It does nothing.
-pub fn laws()
-    // The pages are the chain of a feature's place exactly where none is named as its fault.
-    ensures whole { (nodes : Pages LegView BoxView) (period : Option PeriodView)
-        (shape : ShapeView) (feature : ℕ) (place : Place)
-        → chain_fault nodes period shape feature place ≡ None
-        ↔ IsPlaceChain nodes period shape feature place }
-
-    // What is known lasts where pages are only read.
-    ensures lasts { (old new : Cache) (shape : ShapeView) (feature : ℕ) (place : Place)
-        (spans : List LeafSpan) → OnlyReads old new → IsTrue old.store.is_faithful
-        → IsKnown (pages_of_cache old) shape feature place spans
-        → IsKnown (pages_of_cache new) shape feature place spans }
-{}

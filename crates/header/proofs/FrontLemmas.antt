@@ -2,7 +2,7 @@
 use Rattle.std.proofs.Common.{ℕ, ◌≡◌, ◌+◌, ◌≤◌, ◌<◌, ◌^◌, ◌==◌, ◌&&◌, List, [], ◌++◌, take, drop, length, refl, sym, ap, ◌∙◌, arith, cond, Bool, true, IsTrue, ◌↔◌, Option, Some, None}
 use Rattle.std.proofs.lemmas.Bool.Decides.{nat_tests}
 use Rattle.std.proofs.lemmas.Int.{clamps}
-use Rattle.std.proofs.lemmas.List.{append-nil, drop-take, length-take, take-take, take-append-drop}
+use Rattle.std.proofs.lemmas.List.{append-nil, drop-take, length-take, take-take}
 use Rattle.byteorder.specs.Endian.{big_bytes, big_number}
 use Rattle.byteorder.specs.Numbers.{big_number-reads_back}
 use Rattle.pages.specs.declared.payload.Kind.{Kind}
@@ -18,12 +18,6 @@ use Rattle.header.proofs.FieldsLemmas.{joined, then_put}
 pub marked_is : (p : Payload) → IsUnfinished (marked p)
 unfolding front_bytes
 marked_is p = record { kind = refl; front = refl }
-
--- one that is such a header already is left as it is
-pub marked_same : (p : Payload) → IsUnfinished p → marked p ≡ p
-marked_same p u =
-    let bytes : front_bytes unfinished_front ++ drop 12 p.bytes ≡ p.bytes = ap (λ l. l ++ drop 12 p.bytes) (sym u.front) ∙ take-append-drop 12 p.bytes in
-    λ i. record { kind = sym u.kind i; bytes = bytes i }
 
 -- and one that begins as such a header is one
 pub begins_unfinished : (p q : Payload) → q.kind ≡ p.kind → take 12 q.bytes ≡ take 12 p.bytes → IsUnfinished p → IsUnfinished q

@@ -61,9 +61,6 @@ failed_stopped a b c e s h =
     let r = h.1 in
     subst (λ x. IsStopped x a c) (sym h.0) (omega (arith, l, r))
 
-pub memory_stopped : (a c : Cache) (e : CacheFault) → e ≡ fault.Memory → IsStopped e a c
-memory_stopped a c e h = subst (λ x. IsStopped x a c) (sym h) tt
-
 pub stopped_after : (a b c : Cache) (e : CacheFault) → Steps a b → IsStopped e b c → IsStopped e a c
 stopped_after a b c fault.NoPage s h = h
 stopped_after a b c fault.Store s h = let l = s.stays.keeps.store.faults in omega (arith, l, h)

@@ -1,6 +1,6 @@
 -- The bytes behind the described part stay as they are.
-use Rattle.std.proofs.Common.{◌≡◌, ℕ, ◌+◌, ◌-◌, ◌*◌, ◌^◌, ◌<◌, ◌≤◌, List, Option, length, drop, replicate, sym, ap, ◌∙◌, arith, inr}
-use Rattle.std.proofs.lemmas.List.{drop-replicate, drop-drop}
+use Rattle.std.proofs.Common.{◌≡◌, ℕ, ◌+◌, ◌-◌, ◌*◌, ◌^◌, ◌<◌, ◌≤◌, List, Option, length, drop, sym, ap, ◌∙◌, arith, inr}
+use Rattle.std.proofs.lemmas.List.{drop-drop}
 use Rattle.byteorder.specs.Endian.{big_bytes}
 use Rattle.legs.specs.Legs.{LegView}
 use Rattle.legs.specs.Boxes.{BoxView}
@@ -10,15 +10,15 @@ use Rattle.std.specs.Prelude.{option_map}
 use Rattle.tbnode.specs.Nodes.{EntryView, Node, as_leaf, as_inner}
 use Rattle.tbnode.specs.Layout.{leg_bytes, entry_bytes}
 use Rattle.tbnode.specs.Parts.{put, number_at}
-use Rattle.tbnode.specs.Form.{leg_count, entry_count, node_of, rest_by, slack_of, IsClear}
+use Rattle.tbnode.specs.Form.{leg_count, entry_count, node_of, rest_by, slack_of}
 use Rattle.tbnode.specs.Edits.{leaf_with_leg, inner_with_entry}
 use Rattle.tbnode.specs.Steps.{LegReadsBack, EntryReadsBack, pushed}
-use Rattle.tbnode.proofs.LeafLemmas.{replicated, begun, IsTaken, leg_pushed}
+use Rattle.tbnode.proofs.LeafLemmas.{IsTaken, leg_pushed}
 use Rattle.tbnode.proofs.LeafLemmas as leaf
 use Rattle.tbnode.proofs.InnerLemmas as inner
 use Rattle.tbnode.proofs.InnerLemmas.{HasRoom, entry_pushed}
 use Rattle.tbnode.proofs.PartLemmas.{drop-put, length-big_bytes}
-use Rattle.tbnode.proofs.SlotLemmas.{count-pushed, length-slot, number-unset, head-slot, length-set}
+use Rattle.tbnode.proofs.SlotLemmas.{count-pushed, length-slot, number-unset, head-slot}
 use Rattle.tbnode.proofs.LegLemmas.{length-leg_bytes, length-entry_bytes}
 
 -- a change of the head
@@ -96,32 +96,12 @@ wider_rest p bytes t x k e len below most =
     (head-slot bytes 56 t (entry_bytes x) size room 2 2 (omega arith))
     (slot_rest bytes 56 t (entry_bytes x) (16 + 56 * entry_count bytes) size (omega (arith, below)) room)
 
--- n zeros
-abbrev AreZeros : List ℕ → Type 0
-AreZeros xs = xs ≡ replicate (length xs) 0
-
-are_zeros : (xs : List ℕ) (n : ℕ) → xs ≡ replicate n 0 → AreZeros xs
-are_zeros xs n e =
-    let counted : length xs ≡ n = ap length e ∙ replicated n in
-    e ∙ ap (λ k. replicate k 0) (sym counted)
-
--- what is dropped of zeros leaves zeros
-drop_zeros : (m n : ℕ) (xs ys : List ℕ) → xs ≡ replicate n 0 → ys ≡ drop m xs → AreZeros ys
-drop_zeros m n xs ys zeros e = are_zeros ys (n - m) (e ∙ ap (drop m) zeros ∙ drop-replicate m n 0)
-
--- zero bytes stay zero
-pub still_clear : (old new : Payload) → slack_of new ≡ slack_of old → IsClear old → IsClear new
-still_clear old new e z = are_zeros (slack_of new) (length (slack_of old)) (e ∙ z)
-
-pub clear_but : (m : ℕ) (old new : Payload) → slack_of new ≡ drop m (slack_of old) → IsClear old → IsClear new
-clear_but m old new e z = drop_zeros m (length (slack_of old)) (slack_of old) (slack_of new) z e
-
--- a payload that says a node, with m bytes fewer behind it, which are zero if they were
+-- a payload that says a node, with m bytes fewer behind it
 abbrev Edited : ℕ → Payload → Payload → Option (Node LegView BoxView) → Type 0
-Edited m old new node = record { node : node_of new ≡ node; rest : slack_of new ≡ drop m (slack_of old); clear : IsClear old → IsClear new }
+Edited m old new node = record { node : node_of new ≡ node; rest : slack_of new ≡ drop m (slack_of old) }
 
 edited : (m : ℕ) (old new : Payload) {node : Option (Node LegView BoxView)} → node_of new ≡ node → slack_of new ≡ drop m (slack_of old) → Edited m old new node
-edited m old new says rest = record { node = says; rest = rest; clear = clear_but m old new rest }
+edited m old new says rest = record { node = says; rest = rest }
 
 -- a leaf that took a leg
 pub leg_edited : (p : Payload) (l : LegView) (new : List ℕ) → IsTaken p l → new ≡ pushed 80 12 (leg_bytes l) p.bytes → 4056 ≤ length p.bytes → LegReadsBack l
@@ -136,35 +116,3 @@ pub entry_edited : (p : Payload) (x : EntryView BoxView) (new : List ℕ) → Ha
 entry_edited p x new t e len back =
     edited 56 p (record p { bytes = new }) (entry_pushed p x new e len t.held back t.room)
     (entry_rest (record p { bytes = new }) p.bytes x t.held.kind e len t.small ∙ ap (drop 56) (sym (inner_rest p t.held.kind)))
-
--- a leaf of one leg
-pub begun_leg_clear : (p : Payload) (previous : ℕ) (l : LegView) (zeros : List ℕ) → p.kind ≡ Leaf → p.bytes ≡ pushed 80 12 (leg_bytes l) (begun l.feature previous zeros)
-    → zeros ≡ replicate 4056 0 → IsClear p
-begun_leg_clear p previous l zeros k e are =
-    let first = put 0 (big_bytes 4 l.feature) zeros in
-    let bytes = begun l.feature previous zeros in
-    let none = leaf.begun_count l.feature previous 4056 zeros are (omega arith) in
-    let long = leaf.length_begun l.feature previous 4056 zeros are (omega arith) in
-    let zeros_are : 4056 ≤ length zeros = omega (arith, ap length are, replicated 4056) in
-    let one = length-set zeros 4 0 l.feature (omega arith) (omega (arith, zeros_are)) in
-    let q = 16 + 80 * leg_count bytes in
-    let same : drop q bytes ≡ drop q zeros =
-    head_rest first 4 4 previous q (omega arith) (omega arith) (omega (arith, one, zeros_are))
-    ∙ head_rest zeros 4 0 l.feature q (omega arith) (omega arith) (omega (arith, zeros_are)) in
-    let rest : slack_of p ≡ drop (q + 80) zeros =
-    leg_rest p bytes l k e (omega (arith, long, zeros_are)) (omega (arith, none)) ∙ ap (drop 80) same ∙ drop-drop 80 q zeros in
-    drop_zeros (q + 80) 4056 zeros (slack_of p) are rest
-
--- an inner page of one entry
-pub begun_entry_clear : (p : Payload) (level : ℕ) (x : EntryView BoxView) (zeros : List ℕ) → p.kind ≡ Inner → p.bytes ≡ pushed 56 2 (entry_bytes x) (put 0 (big_bytes 2 level) zeros)
-    → zeros ≡ replicate 4056 0 → IsClear p
-begun_entry_clear p level x zeros k e are =
-    let bytes = put 0 (big_bytes 2 level) zeros in
-    let none = inner.begun_count level 4056 zeros are (omega arith) in
-    let long = inner.length_begun level 4056 zeros are (omega arith) in
-    let zeros_are : 4056 ≤ length zeros = omega (arith, ap length are, replicated 4056) in
-    let q = 16 + 56 * entry_count bytes in
-    let same : drop q bytes ≡ drop q zeros = head_rest zeros 2 0 level q (omega arith) (omega arith) (omega (arith, zeros_are)) in
-    let rest : slack_of p ≡ drop (q + 56) zeros =
-    entry_rest p bytes x k e (omega (arith, long, zeros_are)) (omega (arith, none)) ∙ ap (drop 56) same ∙ drop-drop 56 q zeros in
-    drop_zeros (q + 56) 4056 zeros (slack_of p) are rest

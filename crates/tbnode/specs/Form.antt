@@ -1,5 +1,5 @@
 -- The node that a payload says.
-use Rattle.std.specs.Prelude.{ℕ, ◌≡◌, ◌+◌, ◌-◌, ◌*◌, ◌==◌, nat_lt, nat_le, Bool, ◌&&◌, ◌||◌, if◌then◌else◌, List, drop, length, map, replicate, Option, Some, None}
+use Rattle.std.specs.Prelude.{ℕ, ◌≡◌, ◌+◌, ◌-◌, ◌*◌, ◌==◌, nat_lt, nat_le, Bool, ◌&&◌, ◌||◌, if◌then◌else◌, List, drop, map, Option, Some, None}
 use Rattle.std.specs.List.{All, range_with_len}
 use Rattle.legs.specs.Legs.{LegView, IsLeg}
 use Rattle.legs.specs.Boxes.{BoxView}
@@ -109,7 +109,3 @@ rest_by Catalogue bytes = bytes
 -- the bytes of a payload behind those that its head counts
 unfoldable pub slack_of : Payload → List ℕ
 slack_of payload = rest_by payload.kind payload.bytes
-
--- the bytes behind the last leg, or behind the last entry, are zero
-abbrev pub IsClear : Payload → Type 0
-IsClear payload = slack_of payload ≡ replicate (length (slack_of payload)) 0

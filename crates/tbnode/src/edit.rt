@@ -5,7 +5,7 @@ ghost use Rattle.std.specs.Option.{ForSome};
 ghost use Rattle.tbnode.specs.Nodes.{as_leaf, as_inner};
 ghost use Rattle.tbnode.specs.Parts.{number_at};
 ghost use Rattle.tbnode.specs.Layout.{leg_bytes, entry_bytes};
-ghost use Rattle.tbnode.specs.Form.{node_of, slack_of, IsClear};
+ghost use Rattle.tbnode.specs.Form.{node_of, slack_of};
 ghost use Rattle.tbnode.specs.Edits.{TakesLeg, new_leaf, leaf_with_leg, leaf_with_next};
 ghost use Rattle.tbnode.specs.Edits.{new_inner, inner_with_entry, inner_with_wider};
 ghost use Rattle.tbnode.specs.declared.views.TheConstants.{MOST_ENTRIES};
@@ -50,8 +50,6 @@ fn append_entry(bytes: &mut [u8], entry: &Entry)
 pub fn init_leaf(payload: &mut Payload, previous: u32, leg: &Leg)
     // The payload is then exactly that leaf.
     ensures node { node_of payload.new ≡ Some (new_leaf previous leg.now) }
-    // The bytes behind its leg are zero.
-    ensures clear { IsClear payload.new }
 {
     *payload = Payload::zero(Kind::Leaf);
     put_u32(&mut payload.bytes, 0, leg.feature);
@@ -71,8 +69,6 @@ pub fn push_leg(payload: &mut Payload, leg: &Leg)
         ≡ option_map (leaf_with_leg leg.now) (as_leaf (node_of payload.old)) }
     // The bytes behind the new leg stay as they were.
     ensures rest { slack_of payload.new ≡ drop 80 (slack_of payload.old) }
-    // If all bytes behind the legs were zero, they still are.
-    ensures clear { IsClear payload.old → IsClear payload.new }
 {
     append_leg(&mut payload.bytes, leg);
 }
@@ -86,8 +82,6 @@ pub fn set_next(payload: &mut Payload, next: u32)
         ≡ option_map (leaf_with_next next) (as_leaf (node_of payload.old)) }
     // The bytes behind the legs stay as they were.
     ensures rest { slack_of payload.new ≡ slack_of payload.old }
-    // If they were zero, they still are.
-    ensures clear { IsClear payload.old → IsClear payload.new }
 {
     put_u32(&mut payload.bytes, 8, next);
 }
@@ -99,8 +93,6 @@ pub fn init_inner(payload: &mut Payload, level: u16, entry: &Entry)
     requires { 1 ≤ level }
     // The payload is then exactly that inner page.
     ensures node { node_of payload.new ≡ Some (new_inner level entry.now) }
-    // The bytes behind its entry are zero.
-    ensures clear { IsClear payload.new }
 {
     *payload = Payload::zero(Kind::Inner);
     put_u16(&mut payload.bytes, 0, level);
@@ -119,8 +111,6 @@ pub fn push_entry(payload: &mut Payload, entry: &Entry)
         ≡ option_map (inner_with_entry entry.now) (as_inner (node_of payload.old)) }
     // The bytes behind the new entry stay as they were.
     ensures rest { slack_of payload.new ≡ drop 56 (slack_of payload.old) }
-    // If all bytes behind the entries were zero, they still are.
-    ensures clear { IsClear payload.old → IsClear payload.new }
 {
     append_entry(&mut payload.bytes, entry);
 }
@@ -137,8 +127,6 @@ pub fn widen(payload: &mut Payload, i: usize, bounds: &Box3)
         ≡ option_map (inner_with_wider i bounds.now) (as_inner (node_of payload.old)) }
     // The bytes behind the entries stay as they were.
     ensures rest { slack_of payload.new ≡ slack_of payload.old }
-    // If they were zero, they still are.
-    ensures clear { IsClear payload.old → IsClear payload.new }
 {
     let place = 16 + 56 * i;
     let mut entry = entry_in(part(&payload.bytes, place, 56));

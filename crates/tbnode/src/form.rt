@@ -3,7 +3,7 @@ ghost use Rattle.std.specs.Prelude.{◌≡◌, ◌&&◌, ◌==◌, ◌+◌, ◌*
 ghost use Rattle.tbnode.specs.Parts.{all_below, number_at};
 ghost use Rattle.tbnode.specs.Nodes.{as_leaf, as_inner};
 ghost use Rattle.tbnode.specs.Form.{is_leg_at, is_leaf, is_entry_at, is_inner};
-ghost use Rattle.tbnode.specs.Form.{node_of, LegsAreLawful};
+ghost use Rattle.tbnode.specs.Form.{node_of};
 
 use crate::entries::is_entry;
 use crate::fields::{part, u16_at, u32_at, u64_at};
@@ -117,8 +117,3 @@ pub fn inner(payload: &Payload) -> Option<Inner<'_>>
         _ => None,
     }
 }
-
-/// What holds of each payload, whoever wrote it, for the proofs of a caller. It does nothing.
-pub fn laws()
-    ensures legs { LegsAreLawful }
-{}

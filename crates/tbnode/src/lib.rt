@@ -14,7 +14,7 @@ mod views;
 
 pub use edit::{init_inner, init_leaf, push_entry, push_leg, set_next, widen};
 pub use entries::Entry;
-pub use form::{inner, laws, leaf};
+pub use form::{inner, leaf};
 pub use laid::{coord_at, has_coord, moment_at};
 pub use untested_leaf::{UntestedLeaf, untested};
 pub use views::{Inner, InnerHead, Leaf, LeafHead, MOST_ENTRIES, MOST_LEGS};

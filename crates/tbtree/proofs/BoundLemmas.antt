@@ -6,7 +6,7 @@ use Rattle.std.proofs.Math.Nat.{mod-eq_of_lt, add-mod_right}
 use Rattle.std.proofs.lemmas.Nat.{mul-le}
 use Rattle.std.proofs.lemmas.Map.Steps.{length-le_from_distinct_below}
 use Rattle.legs.specs.Blocks.{runs, runs_after, begins, same}
-use Rattle.tbtree.specs.Stands.{page_at, head_or_zero, NumbersStand}
+use Rattle.tbtree.specs.Stands.{NumbersStand}
 use Rattle.legs.proofs.GroupLemmas.{some_none, some_same}
 use Rattle.tbtree.proofs.RoomLemmas.{neq-eqb, push_same, push_other, count_cons-same, count_cons-other}
 
@@ -42,40 +42,9 @@ few_pages xs count h within apart =
     let l : length (0 ∷ xs) ≤ count = length-le_from_distinct_below (0 ∷ xs) count (distinct (0 ∷ xs) one) (λ q e. let r = any_at q (0 ∷ xs) e in below r.0 q r.1) in
     omega (arith, l)
 
--- the first page of each level
-firsts : ℕ → (ℕ → List ℕ) → List ℕ
-firsts zero pages = []
-firsts (suc n) pages = head_or_zero (pages 0) ∷ firsts n (λ k. pages (suc k))
-
-length-firsts : (n : ℕ) (pages : ℕ → List ℕ) → length (firsts n pages) ≡ n
-unfolding firsts
-length-firsts zero pages = refl
-length-firsts (suc n) pages = ap suc (length-firsts n (λ k. pages (suc k)))
-
-firsts_at : (n : ℕ) (pages : ℕ → List ℕ) (i a : ℕ) → slice_get (firsts n pages) i ≡ Some a → (i < n) × (a ≡ head_or_zero (pages i))
-unfolding firsts
-firsts_at zero pages i a e = absurd (some_none a (sym e))
-firsts_at (suc n) pages zero a e = (omega arith, sym (some_same _ a e))
-firsts_at (suc n) pages (suc i) a e = let r = firsts_at n (λ k. pages (suc k)) i a e in (let l = r.0 in omega (arith, l), r.1)
-
-head_at : (xs : List ℕ) → 0 < length xs → slice_get xs 0 ≡ Some (head_or_zero xs)
-head_at [] h = absurd (omega (arith, h))
-head_at (x ∷ xs) h = refl
-
 module _ {L : Type 0} (inner levels root count : ℕ) (rs : List (List L)) (pages : ℕ → List ℕ) (n : NumbersStand inner levels root count rs pages) where
   pub few_leaves : length (pages 0) < count
   few_leaves = few_pages (pages 0) count n.page_0 (n.within 0) (λ i j a e f. (n.apart 0 i 0 j a e f).1)
-
-  pub few_levels : levels < count
-  few_levels =
-      let first : (i a : ℕ) → slice_get (firsts levels pages) i ≡ Some a → page_at pages i 0 ≡ Some a = λ i a e.
-      let r = firsts_at levels pages i a e in
-      let l = r.0 in
-      let some : 0 < length (pages i) = (let o = n.one_each i l in ⊎_elim (λ (u : suc i ≡ levels). let t = (n.top i u).0 in omega (arith, o, t)) (λ (u : suc i ≢ levels). let t = n.below_top i (omega (arith, l, u)) in omega (arith, o, t)) (cases_eq (suc i) levels)) in
-      head_at (pages i) some ∙ ap Some (sym r.1) in
-      let e = length-firsts levels pages in
-      let f : length (firsts levels pages) < count = few_pages (firsts levels pages) count n.page_0 (λ i a e. n.within i 0 a (first i a e)) (λ i j a e f. (n.apart i 0 j 0 a (first i a e) (first j a f)).0) in
-      omega (arith, e, f)
 
 module _ {X : Type 0} (key : X → ℕ) (m : ℕ) where
   -- a run has at most n elements

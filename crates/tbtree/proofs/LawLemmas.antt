@@ -80,12 +80,6 @@ content_is nodes tree legs pages shape st =
     kept (λ _. true) (λ p q e. absurd (true≢false e)) nodes tree legs pages shape st (sort_by_ordinal met) (sort_moves met) (sort_up met)
     ∙ all_pass legs
 
-pub found_is : (meets : BoxView → Bool) (nodes : Pages LegView BoxView) (tree : TbTree) (legs : List LegView) (pages : ℕ → List ℕ) → IsPruning leg_boxes meets → IsShape tree.shape → Stands nodes tree legs pages → found_legs meets nodes tree ≡ filter (λ leg. meets (box_of leg)) legs
-unfolding found_legs
-found_is meets nodes tree legs pages prune shape st =
-    let met = legs_met leg_boxes meets nodes tree.root tree.levels in
-    kept meets prune nodes tree legs pages shape st (sort_by_ordinal met) (sort_moves met) (sort_up met)
-
 abbrev weight : Bool → ℕ
 weight b = cond b 1 0
 

@@ -41,8 +41,4 @@ pub mod TurnLemmas
 pub mod HeldLemmas
 pub mod BlockOrder
 pub mod TakenOrder
-pub mod EndLemmas
 pub mod FillLemmas
-pub mod LeafLemmas
-pub mod NeedsLemmas
-pub mod PlantedPages

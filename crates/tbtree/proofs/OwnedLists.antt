@@ -28,10 +28,6 @@ module _ {X : Type 0} (own : X → ℕ) where
   AreOwned f [] = Unit {0}
   AreOwned f (xs ∷ xss) = AreOf f xs × AreOwned (suc f) xss
 
-  pub of_append : (f : ℕ) (xs ys : List X) → AreOf f xs → AreOf f ys → AreOf f (xs ++ ys)
-  of_append f [] ys p q = q
-  of_append f (x ∷ xs) ys p q = (p.0, of_append f xs ys p.1 q)
-
   pub of_get : (f : ℕ) (xs : List X) (i : ℕ) (x : X) → AreOf f xs → slice_get xs i ≡ Some x → own x ≡ f
   of_get f [] i x p e = absurd (some_none x (sym e))
   of_get f (y ∷ ys) zero x p e = ap own (sym (some_same y x e)) ∙ p.0

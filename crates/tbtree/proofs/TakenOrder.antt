@@ -9,11 +9,11 @@ use Rattle.std.proofs.lemmas.List.Elements.{filter-append}
 use Rattle.std.proofs.lemmas.List.Sums.{fold-append, length-filter}
 use Rattle.std.proofs.lemmas.List.Sorted.{IsPermutation-sym, All-permutation, length_permutation, IsPermutation-append_right}
 use Rattle.std.proofs.lemmas.Option.{slice_get_within, slice_get-get_or}
-use Rattle.legs.specs.Blocks.{begins, leaves, runs}
+use Rattle.legs.specs.Blocks.{begins, leaves}
 use Rattle.legs.specs.Boxes.{BoxView}
 use Rattle.legs.specs.Costs.{leg_feature, leaves_of}
 use Rattle.legs.specs.Hull.{leg_boxes}
-use Rattle.legs.specs.Index.{CanFollowInTurn, feature_count, legs_of}
+use Rattle.legs.specs.Index.{CanFollowInTurn, feature_count}
 use Rattle.legs.specs.Legs.{LegView}
 use Rattle.tbtree.specs.Turn.{IsPast, IsRising}
 use Rattle.tbtree.specs.Joining.{CanJoin, CanTakeInTurn, Holds, IsReordered, leaf_by_leaf}
@@ -149,15 +149,6 @@ module _ (leaf : ℕ) (before legs : List LegView) where
 
   moves : IsPermutation (before ++ turns) (before ++ legs)
   moves = IsPermutation-append_right before turns legs (order_moves leg_feature leaf (feature_count before) before legs low)
-
-  pub moved : IsPermutation turns legs
-  moved = order_moves leg_feature leaf (feature_count before) before legs low
-
-  pub of_feature : (f : ℕ) → legs_of f turns ≡ legs_of f legs
-  of_feature f = kept f
-
-  pub same_runs : runs leg_feature leaf (before ++ turns) ≡ runs leg_feature leaf (before ++ legs)
-  same_runs = order_runs leg_feature leaf (feature_count before) before legs low
 
   pub turns_taken : CanFollowInTurn [] before → CanFollowInTurn before legs → CanTakeInTurn before turns
   turns_taken h k =

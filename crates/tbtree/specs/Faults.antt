@@ -79,12 +79,6 @@ MayRefuseWrite (OfCache fault) = MayRefuseWriteInCache fault
 MayRefuseWrite (Malformed n) = ⊥
 MayRefuseWrite Spent = ⊥
 
--- the refusals of a read where each page has a payload: those that good pages allow, and that a page is malformed
-abbrev pub MayRefuseHeld : TreeFault → Type 0
-MayRefuseHeld (OfCache fault) = MayRefuseReadInCache fault
-MayRefuseHeld (Malformed n) = Unit {0}
-MayRefuseHeld Spent = ⊥
-
 -- P of what was read, or of what was written, or a refusal that good pages allow
 abbrev pub GivesRead : {T : Type 0} → Result T TreeFault → (T → Type 0) → Type 0
 GivesRead result P = MatchResult result P MayRefuseRead

@@ -1,12 +1,12 @@
 -- A leg more in a tree, whatever the order in which the legs before it came.
-use Rattle.std.specs.Prelude.{ℕ, ◌≡◌, ◌≢◌, ◌<◌, ◌≤◌, List, [], ◌∷◌, ◌++◌, length, All, Some, Result}
+use Rattle.std.specs.Prelude.{ℕ, ◌≡◌, ◌≢◌, ◌<◌, ◌≤◌, List, [], ◌∷◌, ◌++◌, length, All, Result}
 use Rattle.legs.specs.Legs.{LegView}
 use Rattle.legs.specs.Boxes.{BoxView}
 use Rattle.legs.specs.Costs.{leg_feature, leaves_of}
 use Rattle.legs.specs.Hull.{leg_boxes}
 use Rattle.legs.specs.Index.{feature_count}
 use Rattle.tbtree.specs.Faults.{GivesWrite}
-use Rattle.tbtree.specs.Nodes.{Pages, LeafView, ALeaf, with_legs}
+use Rattle.tbtree.specs.Nodes.{Pages}
 use Rattle.tbtree.specs.Stands.{TreeStands}
 use Rattle.tbtree.specs.Insert.{IsPlace, Stands}
 use Rattle.tbtree.specs.Order.{in_blocks}
@@ -69,13 +69,6 @@ JoinsAll old new tree tree' place place' ys result =
     → All (λ y. y.feature ≡ f) ys
     → CanJoinInTurn legs ys
     → GivesWrite result (λ _. AllJoined new tree tree' legs pages f ys place')
-
--- the page p is a leaf of the feature of the legs, and has them at its end
-pub record HasAtEnd (nodes : Pages LegView BoxView) (p : ℕ) (legs : List LegView) : Type 0 where
-  pub above : 0 < p
-  pub leaf : LeafView LegView
-  pub is : nodes.at p ≡ Some (Some (ALeaf (with_legs legs leaf)))
-  pub own : All (λ leg. leg.feature ≡ leaf.feature) legs
 
 -- a leg may be put into the index of some legs: it may join them, and its feature is there, or is the next one
 pub record CanTake (legs : List LegView) (leg : LegView) : Type 0 where

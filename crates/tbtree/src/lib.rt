@@ -2,21 +2,17 @@
 //! alone, are linked both ways, and are made from left to right.
 #![tactic(auto)]
 
-mod descent;
 mod fault;
 mod filling;
 mod insertion;
 mod nodes;
-mod order;
 mod payloads;
 mod shape;
 mod tree;
 
-pub use descent::laws;
 pub use fault::TreeFault;
 pub use filling::insert_all;
 pub use insertion::insert;
-pub use order::order_laws;
 pub use payloads::cover_of;
 pub use shape::Shape;
 pub use tree::{Place, TbTree};

@@ -9,10 +9,8 @@ use Rattle.legs.specs.Boxes.{BoxView}
 use Rattle.legs.specs.Legs.{LegView}
 use Rattle.legs.specs.declared.tracks.Track.{Track}
 use Rattle.chains.specs.Chains.{AreHeld}
-use Rattle.treecheck.specs.Check.{next_in, legs_on, first_on, AreLeavesFrom, AreChains, HoldChains, IsChecked, IsTreeOver}
-use Rattle.tbtree.specs.Descent.{sort_by_ordinal}
-use Rattle.tbtree.proofs.OwnedLists.{numbered}
-use Rattle.tbtree.proofs.SortLemmas.{sort_moves}
+use Rattle.treecheck.specs.Check.{next_in, legs_on, first_on, AreLeavesFrom, AreChains, IsChecked, IsTreeOver}
+use Rattle.tbtree.proofs.RisingLists.{in_order_once}
 use Rattle.tbtree.specs.Turn.{first_ordinal, IsPast, IsRising}
 use Rattle.tbtree.specs.Nodes.{Pages}
 use Rattle.tbtree.specs.declared.tree.Place.{Place}
@@ -124,22 +122,6 @@ module _ (nodes : Pages LegView BoxView) (tree : TbTree) (rows total : ℕ) (pla
   pub within : All (λ p. (0 < p) × (p < nodes.count)) (map page_of leaves)
   within = All-permutation (λ p. (0 < p) × (p < nodes.count)) (joined sv.chains) (map page_of leaves) ordered (chains_within nodes tree.shape.leaf rows 0 places tracks sv.chains sv.are_chains)
 
-  -- the legs of chains that are whole are one list
-  pub list_of : IsSurveyWhole places total survey → (legs : List LegView) × HoldChains nodes tree.shape.leaf rows total places tracks legs
-  list_of whole =
-      let all = legs_on nodes (joined sv.chains) in
-      let once = subst (λ ns. IsPermutation ns (range_with_len 0 total)) sv.ordinals whole.once in (
-        sort_by_ordinal all,
-        record {
-          chains = sv.chains;
-          are_chains = sv.are_chains;
-          some = whole.some;
-          moved = sort_moves all;
-          numbered = numbered all total once;
-          firsts = rising_unmap (λ pages. first_ordinal (legs_on nodes pages)) (λ n. n) sv.chains (subst (IsRising (λ n. n)) sv.firsts whole.firsts);
-        },
-      )
-
   -- a check that passes says that the pages are whole
   pub checked : 0 < nodes.count → AreHeld nodes → IsSurveyWhole places total survey → IsRising (λ (m : Met). m.first) leaves → (pages : ℕ → List ℕ) → IsTreeOver nodes tree (map page_of leaves) pages → NameLast places leaves → IsChecked nodes tree rows total places tracks
   checked some held whole strict pages over last = record {
@@ -158,27 +140,15 @@ module _ (nodes : Pages LegView BoxView) (tree : TbTree) (rows total : ℕ) (pla
     last_index = last;
   }
 
-  -- what a list of legs that the chains hold says of them
-  pub list_whole : (legs : List LegView) → HoldChains nodes tree.shape.leaf rows total places tracks legs → IsSurveyWhole places total survey
-  list_whole legs k =
-      let same : sv.chains ≡ k.chains = chains_once nodes tree.shape.leaf rows 0 places tracks sv.chains k.chains sv.are_chains k.are_chains in
-      let ordinals : List (List ℕ) → List ℕ = λ cs. map (λ (leg : LegView). leg.ordinal) (legs_on nodes (joined cs)) in
-      record {
-        some = k.some;
-        once = subst (λ ns. IsPermutation ns (range_with_len 0 total)) (ap ordinals (sym same) ∙ sym sv.ordinals)
-            (subst (IsPermutation (ordinals k.chains)) k.numbered (IsPermutation-map (λ (leg : LegView). leg.ordinal) (legs_on nodes (joined k.chains)) legs k.moved));
-        firsts = subst (IsRising (λ n. n)) (ap (map (λ pages. first_ordinal (legs_on nodes pages))) (sym same) ∙ sym sv.firsts) (rising_map (λ pages. first_ordinal (legs_on nodes pages)) (λ n. n) k.chains k.firsts);
-      }
-
   -- leaves that rise by their first legs are in the only order that does
   module _ (chains : List (List ℕ)) (are_chains : AreChains nodes tree.shape.leaf rows 0 places tracks chains) (order : List ℕ) (permuted : IsPermutation (joined chains) order) (rising : IsRising (first_on nodes) order) where
     chains_same : sv.chains ≡ chains
     chains_same = chains_once nodes tree.shape.leaf rows 0 places tracks sv.chains chains sv.are_chains are_chains
 
-    module _ (in_order : (number : ℕ → ℕ) (rising ordered : List ℕ) → IsRising number rising → IsPermutation rising ordered → IsNonDecreasingBy number ordered → ordered ≡ rising) (rises : IsNonDecreasingBy (λ (m : Met). m.first) leaves) where
+    module _ (rises : IsNonDecreasingBy (λ (m : Met). m.first) leaves) where
       pub order_same : map page_of leaves ≡ order
       order_same =
-          in_order (first_on nodes) order (map page_of leaves) rising
+          in_order_once (first_on nodes) order (map page_of leaves) rising
           (IsPermutation-trans order (joined chains) (map page_of leaves) (IsPermutation-sym (joined chains) order permuted) (subst (λ cs. IsPermutation (joined cs) (map page_of leaves)) chains_same ordered))
           (up_map leaves firsts_are rises)
         where

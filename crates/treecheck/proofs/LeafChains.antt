@@ -201,8 +201,3 @@ module _ (nodes : Pages LegView BoxView) where
       next_is [] h = h.1
       next_is (q ∷ qs) h = h.0
   leaf_split most f previous page left (x ∷ xs) p ys c = leaf_split most f x (next_in (nodes.at x)) (left - most) xs p ys c.2
-
-  pub leaf_within : (most f previous page left : ℕ) (ps : List ℕ) (i p : ℕ) → AreLeavesFrom nodes most f previous page left ps → slice_get ps i ≡ Some p → (0 < p) × (p < nodes.count)
-  leaf_within most f previous page left [] i p c e = absurd (some_none p (sym e))
-  leaf_within most f previous page left (q ∷ qs) zero p c e = subst (λ q. (0 < q) × (q < nodes.count)) (some_same q p e) (c.1.above, c.1.within)
-  leaf_within most f previous page left (q ∷ qs) (suc i) p c e = leaf_within most f q (next_in (nodes.at q)) (left - most) qs i p c.2 e

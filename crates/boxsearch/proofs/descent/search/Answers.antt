@@ -1,4 +1,4 @@
-use Rattle.std.proofs.Common.{ℕ, List, rules, arith, ap, ◌∙◌}
+use Rattle.std.proofs.Common.{ℕ, List, rules, arith, ◌∙◌}
 use Rattle.std.proofs.lemmas.List.Sorted.{IsNonDecreasingBy-from_sort_by_key}
 use Rattle.std.proofs.lemmas.Result.{err_from_is_err_and}
 use Rattle.legs.specs.Hull.{leg_boxes}
@@ -6,11 +6,10 @@ use Rattle.legs.specs.Legs.{LegView}
 use Rattle.tbtree.specs.Descent.{legs_met, Descends}
 use Rattle.tbtree.specs.Insert.{Stands}
 use Rattle.tbtree.specs.Nodes.{pages_of_cache}
-use Rattle.boxsearch.specs.Order.{stable_by_ordinal}
+use Rattle.tbtree.proofs.LawLemmas.{descends}
 use Rattle.boxsearch.specs.Way.{meets}
 use Rattle.boxsearch.proofs.FoundLemmas.{way_of, none_found, none_asked, in_order, cost_is}
 use Rattle.boxsearch.proofs.PruningLemmas.{pruning}
-use Rattle.boxsearch.proofs.StableLemmas.{stable_from_sort}
 use Rattle.boxsearch.proofs.WayLemmas.{way_none}
 use Rattle.boxsearch.proofs.descent.search.Given as given
 use Rattle.boxsearch.proofs.descent.search.Goals.{After-leaf}
@@ -18,7 +17,7 @@ use Rattle.boxsearch.proofs.descent.search.Goals as goal
 
 -- a tree that stands has a way down for the box
 descends_to : (g : given.Over) (c : After-leaf g) (legs : List LegView) (pages : ℕ → List ℕ) → Stands (pages_of_cache c.args.cache.now) c.args.tree.now legs pages → Descends (meets c.args.query.now) (pages_of_cache c.args.cache.now) c.args.tree.now legs
-descends_to g c legs pages s = c.laws.ensures.descends (meets c.args.query.now) (pages_of_cache c.args.cache.now) c.args.tree.now legs pages (pruning c.args.query.now) c.leaf.ensures.range s
+descends_to g c legs pages s = descends (meets c.args.query.now) (pruning c.args.query.now) (pages_of_cache c.args.cache.now) c.args.tree.now legs pages c.leaf.ensures.range s
 
 pub returns-then-tree-eq0-clause-found : goal.returns-then-tree-eq0-clause-found
 returns-then-tree-eq0-clause-found g c = λ ns fa legs pages s.
@@ -44,12 +43,6 @@ returns-clause-met g c = λ fa.
     c.in_ok-found.found.items c.sort_by_key.new.self.items
     (c.in_ok-found.ensures.found fa) c.in_ok-sort_by_key.ensures.permutation
     (IsNonDecreasingBy-from_sort_by_key (λ l. l.ordinal) _ c.in_ok-sort_by_key.ensures.sorted (λ a r q k. search rules))
-
-pub returns-clause-stable : goal.returns-clause-stable
-returns-clause-stable g c = λ fa.
-    stable_from_sort c.in_ok-found.found.items c.sort_by_key.new.self.items
-    c.in_ok-sort_by_key.ensures.sorted c.in_ok-sort_by_key.ensures.stable (λ a r q k. search rules)
-    ∙ ap stable_by_ordinal (c.in_ok-found.ensures.found fa)
 
 pub returns-clause-found : goal.returns-clause-found
 returns-clause-found g c = λ ns fa legs pages s.

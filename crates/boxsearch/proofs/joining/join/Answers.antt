@@ -4,7 +4,7 @@ use Rattle.boxsearch.specs.Putting.{PutsAll}
 use Rattle.boxsearch.specs.Taking.{Taking}
 use Rattle.boxsearch.proofs.AddLemmas.{made}
 use Rattle.boxsearch.proofs.ResultLemmas.{from_ok}
-use Rattle.boxsearch.proofs.TakingTurns.{OrderLaws, joined, taking_none}
+use Rattle.boxsearch.proofs.TakingTurns.{joined, taking_none}
 use Rattle.boxsearch.proofs.joining.join.Given as given
 use Rattle.boxsearch.proofs.joining.join.Goals as goal
 
@@ -14,9 +14,8 @@ has_put g c = subst (λ m. PutsAll m c.put_all.new.self c.args.feature c.args.le
 
 pub returns-clause-taking : goal.returns-clause-taking
 returns-clause-taking g c =
-    let laws : OrderLaws = record { fits = c.order_laws.ensures.fits; absent = c.order_laws.ensures.absent } in
     subst (λ r. Taking c.args.index.now c.put_all.new.self c.args.legs.now r) (sym c.answer.ensures)
-    (joined laws c.args.index.now c.put_all.new.self c.args.feature c.args.legs.now c.requires.some c.requires.one c.put_all.result (has_put g c) c.requires.works)
+    (joined c.args.index.now c.put_all.new.self c.args.feature c.args.legs.now c.requires.some c.requires.one c.put_all.result (has_put g c) c.requires.works)
 
 pub returns-then-not-has_place-clause-taking : goal.returns-then-not-has_place-clause-taking
 returns-then-not-has_place-clause-taking g c =

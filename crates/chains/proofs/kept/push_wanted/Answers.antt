@@ -2,6 +2,7 @@ use Rattle.std.proofs.Common.{arith, sym, subst, ◌∙◌, ◌≡◌, ◌-◌, 
 use Rattle.std.specs.Prelude.{filter}
 use Rattle.std.proofs.lemmas.Result.{err_from_is_err_and}
 use Rattle.legs.specs.Legs.{IsLeg, is_live}
+use Rattle.tbnode.proofs.LawLemmas.{legs_are_lawful}
 use Rattle.chains.specs.Keeping.{PutsSome}
 use Rattle.chains.proofs.AgainLemmas.{there_at}
 use Rattle.chains.proofs.LiveLemmas.{all_at}
@@ -50,7 +51,7 @@ legs-preserved c =
       put = λ view e h.
           let t = there_at view.legs i (omega (arith, c.legs-test.true, inv.to, h)) in
           let next : c.legs.i ≡ suc i = omega (arith, c.legs-test.true) in
-          let lawful = all_at IsLeg view.legs i t.0 (c.laws.ensures.legs c.args.leaf.now view e) t.1 in
+          let lawful = all_at IsLeg view.legs i t.0 (legs_are_lawful c.args.leaf.now view e) t.1 in
           puts_by c.args.sieve.now period view.legs i c.args.ends.1 t.0 before c.legs.found.items lawful.rises (omega (arith, c.legs-test.true, inv.to)) t.1
           (sym (c.is_wanted.ensures view e t.0 t.1) ∙ c.if-is_wanted.false)
           (subst (λ j. PutsSome c.args.sieve.now period (filter (is_live period) (drop j (take c.args.ends.1 view.legs))) before c.legs.found.items) next (inv.put view e h));

@@ -6,7 +6,9 @@ use Rattle.tbtree.specs.Nodes.{pages_of_cache}
 use Rattle.chains.specs.Links.{spot_of}
 use Rattle.chains.specs.Spans.{pass_at}
 use Rattle.chains.specs.Taking.{TakesLeaf, TakesPage, fault_at}
+use Rattle.chains.proofs.SpanLemmas.{ends_at, passes_over}
 use Rattle.chains.proofs.WalkLemmas.{known_at, steps_again, steps_end, steps_over}
+use Rattle.legs.proofs.GroupLemmas.{some_none}
 use Rattle.chains.proofs.retrieval.step.Goals as goal
 
 pub returns-in-End-clause-taken : goal.returns-in-End-clause-taken
@@ -42,3 +44,17 @@ returns-then-at-len-clause-named g c = λ fa.
     let inside : at.passed < length spans = omega (arith, c.if-at-len.true, c.len.ensures) in
     let leaf = (known_at nodes c.args.most c.args.place.now.legs c.args.place.now.first at.passed at.left spans at.link (c.requires.known fa) c.args.found.now.items c.args.want.now.sieve inside).1 in
     subst (λ s. IfErr c.take_again.result (IsNamed nodes (fault_at nodes at.link s))) c.spot_of-spot.ensures (c.take_again.ensures.named fa leaf.leaf leaf.linked.is)
+
+pub returns-in-End-clause-asked : goal.returns-in-End-clause-asked
+returns-in-End-clause-asked g c = λ none.
+    let at = c.args.at.now in
+    let spans = c.args.spans.now.items in
+    let e = ends_at (slice_get spans at.passed) (slice_get spans (suc at.passed)) at.left c.args.want.now.period (sym c.in-End.is ∙ c.pass.ensures.value ∙ ap (λ l. pass_at (slice_get l at.passed) (slice_get l (suc at.passed)) at.left c.args.want.now.period) c.as_slice.ensures.value) in
+    absurd (some_none e.2.at (sym e.2.is ∙ none))
+
+pub returns-in-Over-clause-asked : goal.returns-in-Over-clause-asked
+returns-in-Over-clause-asked g c = λ none.
+    let at = c.args.at.now in
+    let spans = c.args.spans.now.items in
+    let e = passes_over (slice_get spans at.passed) (slice_get spans (suc at.passed)) at.left c.args.want.now.period c.in-Over.back (sym c.in-Over.is ∙ c.pass.ensures.value ∙ ap (λ l. pass_at (slice_get l at.passed) (slice_get l (suc at.passed)) at.left c.args.want.now.period) c.as_slice.ensures.value) in
+    absurd (some_none e.2.at (sym e.2.is ∙ none))

@@ -1,4 +1,4 @@
-use Rattle.std.proofs.Common.{◌<◌, ap, ◌∙◌, arith, None}
+use Rattle.std.proofs.Common.{◌<◌, ap, ◌∙◌, arith, None, refl}
 use Rattle.std.specs.Prelude.{reverse}
 use Rattle.std.specs.Int.{div_ceil}
 use Rattle.std.proofs.lemmas.List.{reverse-reverse}
@@ -6,7 +6,6 @@ use Rattle.std.proofs.lemmas.Result.{err_from_is_err_and}
 use Rattle.tbtree.specs.Nodes.{pages_of_cache}
 use Rattle.chains.proofs.FaultLemmas.{allowed_of, whole_from, whole_to}
 use Rattle.chains.proofs.PlaceLemmas.{whole_chain, whole_walk, whole_cost, walked_all}
-use Rattle.chains.proofs.SpanLemmas.{cost_whole}
 use Rattle.chains.proofs.retrieval.trajectory.Goals as goal
 
 pub returns-in_err-found-clause-found : goal.returns-in_err-found-clause-found
@@ -35,23 +34,15 @@ returns-clause-asked g c = λ fa legs h below.
     let shape = c.args.shape.now in
     let place = c.args.place.now in
     let some : 0 < shape.leaf = let least = c.walk_back.ensures.shape.least_leaf in omega (arith, least) in
-    let asked = c.in_ok-found.ensures.asked fa below in
+    let asked = c.in_ok-found.ensures.asked fa refl below in
     let all = walked_all nodes (div_ceil place.legs shape.leaf) place.last in
-    let each = cost_whole nodes c.args.spans.now.items (div_ceil place.legs shape.leaf) place.last in
     let cost = whole_cost nodes shape place c.args.feature legs some h in
-    omega (arith, asked, all, each, cost)
+    omega (arith, asked, all, cost)
 
 pub returns-clause-legs : goal.returns-clause-legs
 returns-clause-legs g c = λ fa.
     let taken = c.in_ok-found.ensures.found fa in
     c.reverse.ensures.items ∙ ap reverse taken.1 ∙ reverse-reverse taken.0 ∙ taken.2
-
-pub returns-in_err-found-clause-only : goal.returns-in_err-found-clause-only
-returns-in_err-found-clause-only g c = λ fa h.
-    let p = err_from_is_err_and c.from_residual.result c.from_residual.ensures.1 in
-    let nodes = pages_of_cache c.args.cache.now in
-    let whole = whole_from nodes None c.args.shape.now c.args.feature c.args.place.now h in
-    rw (p.1, p.2) (allowed_of nodes c.args.cache.now c.walk_back.new.cache _ _ whole c.in_err-found.ensures.reads.caused (c.in_err-found.ensures.named fa))
 
 pub returns-clause-chain : goal.returns-clause-chain
 returns-clause-chain g c = λ fa. whole_to (pages_of_cache c.args.cache.now) None c.args.shape.now c.args.feature c.args.place.now (c.in_ok-found.ensures.whole fa)

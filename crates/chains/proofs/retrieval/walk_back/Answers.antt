@@ -1,10 +1,10 @@
-use Rattle.std.proofs.Common.{ℕ, Option, true, false, IsTrue, rules, ◌≡◌, ◌+◌, ◌-◌, suc, arith, ap, subst, sym, ◌∙◌, drop, slice_get, Some, None}
+use Rattle.std.proofs.Common.{ℕ, true, false, IsTrue, rules, ◌≡◌, ◌+◌, ◌-◌, suc, arith, ap, subst, sym, ◌∙◌, drop, Some, None}
 use Rattle.std.proofs.lemmas.Result.{err_from_is_err_and}
 use Rattle.tbtree.specs.Nodes.{Pages, pages_of_cache}
 use Rattle.std.specs.Int.{div_ceil}
 use Rattle.chains.specs.Chains.{fault_from, last_link, walk, walked}
-use Rattle.chains.specs.Spans.{AreSpans, AsksAs, IsKnown, pass_at, walked_by}
-use Rattle.chains.proofs.SpanLemmas.{IsOnWay, all_known, asks_last, asks_on, cost_none, past_read, rest_same, spans_last}
+use Rattle.chains.specs.Spans.{AreSpans, IsKnown}
+use Rattle.chains.proofs.SpanLemmas.{IsOnWay, all_known, past_read, spans_last}
 use Rattle.chains.proofs.WalkLemmas.{linked_by}
 use Rattle.chains.specs.Links.{fits, is_end, link_back, spot_of}
 use Rattle.chains.specs.Taking.{fault_at, TakesPage}
@@ -12,7 +12,7 @@ use Rattle.chains.specs.declared.leaves.Link.{Link}
 use Rattle.legs.specs.Boxes.{BoxView}
 use Rattle.legs.specs.Legs.{LegView}
 use Rattle.chains.proofs.ReadLemmas.{reads_refused, reads_trans}
-use Rattle.chains.proofs.StepLemmas.{IsFound, found_all, same_at, goes_on, ends, found_on, found_end, asked_on, asked_end, fault_on, fault_end, fault_stops, fault_before, named_after}
+use Rattle.chains.proofs.StepLemmas.{IsFound, found_all, same_at, goes_on, ends, found_on, found_end, asked_on, asked_end, fault_on, fault_end, fault_stops, fault_before, named_after, one_more}
 use Rattle.chains.proofs.retrieval.walk_back.Given as given
 use Rattle.chains.proofs.retrieval.walk_back.Goals.{In_ok-back}
 use Rattle.chains.proofs.retrieval.walk_back.Goals as goal
@@ -26,13 +26,6 @@ module _ (g : given.Over) (c : In_ok-back g) where
 
   less : c.leaves.left ≡ suc rest
   less = omega (arith, c.leaves-test.true)
-
-  -- the leaf is asked for as what is known of it says
-  abbrev Asks : Option Link → Type 0
-  Asks back = AsksAs (pass_at (slice_get c.leaves.spans.items c.leaves.passed) (slice_get c.leaves.spans.items (suc c.leaves.passed)) rest c.args.want.now.period) back c.leaves.cache c.step.new.cache
-
-  asks : (back : Option Link) → c.in_ok-back.field-0 ≡ back → Asks back
-  asks back is = subst Asks is c.in_ok-back.ensures.asked
 
   module _ (fa : IsTrue c.args.cache.now.store.is_faithful) where
     -- the leaf is taken of the pages as they were
@@ -66,17 +59,6 @@ module _ (g : given.Over) (c : In_ok-back g) where
         past_read nodes leaf legs first (div_ceil legs leaf) (last_link c.args.feature c.args.place.now) c.leaves.passed c.leaves.spans.items c.step.new.spans.items c.leaves.left rest c.leaves.link taken.leaf (c.leaves.invariant.way fa) less
         (linked_by nodes c.leaves.link (spot_of leaf legs first rest) taken.leaf taken.above taken.is taken.fit) taken.learns
 
-    -- what is left to walk costs as much by what is known now
-    walked_same : (back : Link) → c.in_ok-back.field-0 ≡ Some back
-        → walked_by nodes c.args.want.now.period (drop (c.leaves.passed + 1) c.step.new.spans.items) rest back.page ≡ walked_by nodes c.args.want.now.period (drop (suc c.leaves.passed) c.leaves.spans.items) rest taken.leaf.previous
-    walked_same back is =
-        let passed = c.leaves.passed in
-        let spans = c.leaves.spans.items in
-        let next : passed + 1 ≡ suc passed = omega arith in
-        ap (λ k. walked_by nodes c.args.want.now.period (drop k c.step.new.spans.items) rest back.page) next
-        ∙ ap (λ l. walked_by nodes c.args.want.now.period l rest back.page) (rest_same passed c.leaves.link.page spans c.step.new.spans.items taken.leaf (c.leaves.invariant.way fa).within taken.learns)
-        ∙ ap (λ b. walked_by nodes c.args.want.now.period (drop (suc passed) spans) rest b.page) (on back is).1
-
 pub leaves-preserved : goal.leaves-preserved
 leaves-preserved g c =
     let at = (goal.at.leaves-preserved g c).In_ok-back in
@@ -106,13 +88,14 @@ leaves-preserved g c =
           let s = on g at fa c.in-Some.back c.in-Some.is in
           ap (λ b. fault_from nodes period shape.leaf place.legs place.first rest b) s.1
           ∙ sym (fault_on nodes period link t.leaf t.is rest n less shape.leaf place.legs place.first t.above t.fit s.0) ∙ inv.fault fa;
-      asked = λ fa l.
+      asked = λ fa none l.
           let t = taken g at fa in
           let s = on g at fa c.in-Some.back c.in-Some.is in
-          let more = asks_on nodes period c.leaves.passed c.leaves.spans.items rest n link.page less t.leaf t.is c.leaves.cache c.step.new.cache c.in-Some.back (asks g at (Some c.in-Some.back) c.in-Some.is) s.0 l in
-          let so_far = inv.asked fa more.0 in
-          let same = walked_same g at fa c.in-Some.back c.in-Some.is in
-          omega (arith, more.1, so_far, same);
+          let one = one_more c.leaves.cache.asked c.step.new.cache.asked (c.in_ok-back.ensures.asked none) l in
+          let so_far = inv.asked fa none one.0 in
+          let more = asked_on nodes period link t.leaf t.is rest n less s.0 in
+          let same = ap (λ b. walked nodes period rest b.page) s.1 in
+          omega (arith, one.1, so_far, more, same);
       within = λ fa.
           let t = taken g at fa in
           let s = on g at fa c.in-Some.back c.in-Some.is in
@@ -155,13 +138,13 @@ returns-in_default-clause-whole g c = λ fa.
     ∙ fault_end (pages_of_cache c.args.cache.now) c.args.want.now.period c.leaves.link t.leaf t.is (c.leaves.left - 1) c.leaves.left (less g at) c.args.shape.now.leaf place.legs place.first t.above t.fit (last g at fa c.in_default.is)
 
 pub returns-in_default-clause-asked : goal.returns-in_default-clause-asked
-returns-in_default-clause-asked g c = λ fa below.
+returns-in_default-clause-asked g c = λ fa none below.
     let at = (goal.at.returns-in_default-clause-asked g c).In_ok-back in
     let t = taken g at fa in
-    let end = asks_last (pages_of_cache c.args.cache.now) c.args.want.now.period c.leaves.passed c.leaves.spans.items (c.leaves.left - 1) c.leaves.left c.leaves.link.page (less g at) t.leaf t.is c.leaves.cache c.step.new.cache
-    (asks g at None c.in_default.is) (last g at fa c.in_default.is) below in
-    let so_far = c.leaves.invariant.asked fa end.0 in
-    omega (arith, end.1, so_far)
+    let one = one_more c.leaves.cache.asked c.step.new.cache.asked (c.in_ok-back.ensures.asked none) below in
+    let so_far = c.leaves.invariant.asked fa none one.0 in
+    let end = asked_end (pages_of_cache c.args.cache.now) c.args.want.now.period c.leaves.link t.leaf t.is (c.leaves.left - 1) c.leaves.left (less g at) (last g at fa c.in_default.is) in
+    omega (arith, one.1, so_far, end)
 
 pub returns-in_default-clause-learns : goal.returns-in_default-clause-learns
 returns-in_default-clause-learns g c = λ fa.
@@ -171,12 +154,10 @@ returns-in_default-clause-learns g c = λ fa.
     all_known (pages_of_cache c.args.cache.now) leaf place.legs place.first (div_ceil place.legs leaf) (last_link c.args.feature place) (suc c.leaves.passed) c.step.new.spans.items (c.leaves.left - 1) (link_back c.leaves.link.page (taken g at fa).leaf) (past g at fa)
 
 pub returns-clause-asked : goal.returns-clause-asked
-returns-clause-asked g c = λ fa below.
-    let nodes = pages_of_cache c.args.cache.now in
-    let inv = c.leaves.invariant in
-    let none : c.leaves.left ≡ 0 = omega (arith, c.leaves-test.false) in
-    let all = inv.asked fa below in
-    let no_more = ap (λ n. walked_by nodes c.args.want.now.period (drop c.leaves.passed c.leaves.spans.items) n c.leaves.link.page) none ∙ cost_none nodes c.args.want.now.period (drop c.leaves.passed c.leaves.spans.items) c.leaves.link.page in
+returns-clause-asked g c = λ fa none below.
+    let all = c.leaves.invariant.asked fa none below in
+    let end : c.leaves.left ≡ 0 = omega (arith, c.leaves-test.false) in
+    let no_more = ap (λ n. walked (pages_of_cache c.args.cache.now) c.args.want.now.period n c.leaves.link.page) end in
     omega (arith, all, no_more)
 
 pub returns-in_default-clause-within : goal.returns-in_default-clause-within

@@ -1,10 +1,9 @@
-use Rattle.std.proofs.Common.{◌≡◌, ◌+◌, ◌-◌, ◌^◌, ◌≤◌, ◌<◌, drop}
+use Rattle.std.proofs.Common.{◌≡◌, ◌+◌, ◌-◌, ◌^◌, ◌≤◌, ◌<◌, None}
 use Rattle.std.specs.Prelude.{IsTrue}
 use Rattle.std.specs.Int.{div_ceil}
 use Rattle.tbtree.specs.Nodes.{pages_of_cache}
 use Rattle.chains.specs.Chains.{chain_fault, fault_from, last_link, walk, walked}
 use Rattle.chains.specs.Reads.{OnlyReads}
-use Rattle.chains.specs.Spans.{walked_by}
 use Rattle.chains.proofs.SpanLemmas.{IsOnWay}
 use Rattle.chains.proofs.StepLemmas.{IsFound}
 use Rattle.chains.proofs.retrieval.walk_back.Given as goal
@@ -24,8 +23,8 @@ invariant-leaves g l =
       way : IsTrue old.store.is_faithful → IsOnWay nodes l.fn.shape.leaf place.legs place.first blocks (last_link l.fn.feature place) l.passed l.spans.items l.left l.link;
       found : IsTrue old.store.is_faithful → IsFound nodes l.fn.want.period l.fn.want.sieve l.left l.link.page (walk nodes l.fn.want.period blocks place.last) l.found.items;
       fault : IsTrue old.store.is_faithful → fault_from nodes l.fn.want.period l.fn.shape.leaf place.legs place.first l.left l.link ≡ chain_fault nodes l.fn.want.period l.fn.shape l.fn.feature place;
-      asked : IsTrue old.store.is_faithful → l.cache.asked < 2 ^ 64 - 1
-          → l.cache.asked + walked_by nodes l.fn.want.period (drop l.passed l.spans.items) l.left l.link.page ≡ old.asked + walked_by nodes l.fn.want.period l.fn.spans.items blocks place.last;
+      asked : IsTrue old.store.is_faithful → l.fn.want.period ≡ None → l.cache.asked < 2 ^ 64 - 1
+          → l.cache.asked + walked nodes l.fn.want.period l.left l.link.page ≡ old.asked + walked nodes l.fn.want.period blocks place.last;
       within : IsTrue old.store.is_faithful → l.cache.asked + walked nodes l.fn.want.period l.left l.link.page ≤ old.asked + walked nodes l.fn.want.period blocks place.last;
       passed : l.passed + l.left ≡ blocks;
     }

@@ -4,7 +4,6 @@ use Rattle.tbnode.specs.Form.{entry_count}
 use Rattle.tbnode.specs.Layout.{entry_bytes}
 use Rattle.tbnode.specs.Steps.{pushed}
 use Rattle.tbnode.proofs.InnerLemmas.{begun_count, inner_begun}
-use Rattle.tbnode.proofs.RestLemmas.{begun_entry_clear}
 use Rattle.tbnode.proofs.edit.init_inner.Goals as goal
 
 pub append_entry-requires-clause-room : goal.append_entry-requires-clause-room
@@ -14,17 +13,12 @@ append_entry-requires-clause-room c =
     let e = ap entry_count c.put_u16.ensures in
     omega (arith, none, e)
 
-pub returns-clause-node : goal.returns-clause-node
+pub returns : goal.returns
 unfolding zero_payload
-returns-clause-node c =
+returns c =
     let x = c.args.entry.now in
-    inner_begun _ c.args.level x c.zero.result.bytes c.append_entry.new.bytes (ap (λ p. p.kind) c.zero.ensures) refl
-    (c.append_entry.ensures.pushed ∙ ap (pushed 56 2 (entry_bytes x)) c.put_u16.ensures) (ap (λ p. p.bytes) c.zero.ensures) c.requires (omega arith)
-    c.append_entry.ensures.reads_back
-
-pub returns-clause-clear : goal.returns-clause-clear
-unfolding zero_payload
-returns-clause-clear c =
-    let x = c.args.entry.now in
-    begun_entry_clear _ c.args.level x c.zero.result.bytes (ap (λ p. p.kind) c.zero.ensures)
-    (c.append_entry.ensures.pushed ∙ ap (pushed 56 2 (entry_bytes x)) c.put_u16.ensures) (ap (λ p. p.bytes) c.zero.ensures)
+    record {
+      node = inner_begun _ c.args.level x c.zero.result.bytes c.append_entry.new.bytes (ap (λ p. p.kind) c.zero.ensures) refl
+          (c.append_entry.ensures.pushed ∙ ap (pushed 56 2 (entry_bytes x)) c.put_u16.ensures) (ap (λ p. p.bytes) c.zero.ensures) c.requires (omega arith)
+          c.append_entry.ensures.reads_back;
+    }

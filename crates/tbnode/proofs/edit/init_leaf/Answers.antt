@@ -6,7 +6,6 @@ use Rattle.tbnode.specs.Layout.{leg_bytes}
 use Rattle.tbnode.specs.Parts.{put}
 use Rattle.tbnode.specs.Steps.{pushed}
 use Rattle.tbnode.proofs.LeafLemmas.{begun, begun_count, leaf_begun}
-use Rattle.tbnode.proofs.RestLemmas.{begun_leg_clear}
 use Rattle.tbnode.proofs.edit.init_leaf.Goals.{After-put_u32-2}
 use Rattle.tbnode.proofs.edit.init_leaf.Goals as goal
 
@@ -20,7 +19,7 @@ is_begun c = written c.zero.result.bytes c.put_u32.new.bytes c.put_u32-2.new.byt
 
 -- and then that leg is written into them
 is_pushed : (c : goal.After-append_leg) → c.append_leg.new.bytes ≡ pushed 80 12 (leg_bytes c.args.leg.now) (begun c.args.leg.now.feature c.args.previous c.zero.result.bytes)
-is_pushed c = c.append_leg.ensures.pushed ∙ ap (pushed 80 12 (leg_bytes c.args.leg.now)) (is_begun (goal.at.returns-clause-node c).After-put_u32-2)
+is_pushed c = c.append_leg.ensures.pushed ∙ ap (pushed 80 12 (leg_bytes c.args.leg.now)) (is_begun (goal.at.returns c).After-put_u32-2)
 
 pub append_leg-requires-clause-room : goal.append_leg-requires-clause-room
 unfolding zero_payload
@@ -29,15 +28,12 @@ append_leg-requires-clause-room c =
     let e = ap leg_count (is_begun (goal.at.append_leg-requires-clause-room c).After-put_u32-2) in
     omega (arith, none, e)
 
-pub returns-clause-node : goal.returns-clause-node
+pub returns : goal.returns
 unfolding zero_payload
-returns-clause-node c =
+returns c =
     let same : c.leg.inside.feature ≡ c.args.leg.now.feature = ap (λ l. l.feature) c.leg.view_is in
     let small : c.leg.inside.feature < 2 ^ 32 = search rules in
-    leaf_begun _ c.args.previous c.args.leg.now c.zero.result.bytes c.append_leg.new.bytes (ap (λ p. p.kind) c.zero.ensures) refl
-    (is_pushed c) (ap (λ p. p.bytes) c.zero.ensures) (omega (arith, same, small)) (omega arith) c.append_leg.ensures.reads_back
-
-pub returns-clause-clear : goal.returns-clause-clear
-unfolding zero_payload
-returns-clause-clear c =
-    begun_leg_clear _ c.args.previous c.args.leg.now c.zero.result.bytes (ap (λ p. p.kind) c.zero.ensures) (is_pushed c) (ap (λ p. p.bytes) c.zero.ensures)
+    record {
+      node = leaf_begun _ c.args.previous c.args.leg.now c.zero.result.bytes c.append_leg.new.bytes (ap (λ p. p.kind) c.zero.ensures) refl
+          (is_pushed c) (ap (λ p. p.bytes) c.zero.ensures) (omega (arith, same, small)) (omega arith) c.append_leg.ensures.reads_back;
+    }

@@ -1,7 +1,7 @@
 use Rattle.std.proofs.Common.{arith, sym, ◌∙◌}
 use Rattle.tbnode.proofs.KindLemmas.{a_leaf, held}
 use Rattle.tbnode.proofs.LeafLemmas.{next_set}
-use Rattle.tbnode.proofs.RestLemmas.{leaf_rest, next_rest, still_clear}
+use Rattle.tbnode.proofs.RestLemmas.{leaf_rest, next_rest}
 use Rattle.tbnode.proofs.edit.set_next.Goals as goal
 
 pub returns-clause-node : goal.returns-clause-node
@@ -14,6 +14,3 @@ returns-clause-rest c =
     let p = c.args.payload.now in
     let h = held a_leaf p c.requires in
     next_rest _ p.bytes c.args.next h.kind c.put_u32.ensures (omega arith) ∙ sym (leaf_rest p h.kind)
-
-pub returns-clause-clear : goal.returns-clause-clear
-returns-clause-clear c z = still_clear c.args.payload.now _ (returns-clause-rest c) z

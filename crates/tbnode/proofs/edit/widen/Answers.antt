@@ -8,7 +8,7 @@ use Rattle.tbnode.proofs.ListLemmas.{all_below-at}
 use Rattle.tbnode.proofs.LegLemmas.{length-entry_bytes}
 use Rattle.tbnode.proofs.FormLemmas.{inner_form}
 use Rattle.tbnode.proofs.InnerLemmas.{has_entry, entry_widened}
-use Rattle.tbnode.proofs.RestLemmas.{inner_rest, wider_rest, still_clear}
+use Rattle.tbnode.proofs.RestLemmas.{inner_rest, wider_rest}
 use Rattle.tbnode.proofs.edit.widen.Goals as goal
 
 pub overflow_mul-place : goal.overflow_mul-place
@@ -59,6 +59,3 @@ returns-clause-rest c =
     let x : EntryView BoxView = record { child = c.entry.inside.child; bounds = c.cover-entry-inside.result } in
     let e = c.put.ensures ∙ ap (λ xs. put (16 + 56 * c.args.i) xs p.bytes) c.bytes_of.ensures.value in
     wider_rest _ p.bytes c.args.i x t.held.kind e (omega arith) t.below t.most ∙ sym (inner_rest p t.held.kind)
-
-pub returns-clause-clear : goal.returns-clause-clear
-returns-clause-clear c z = still_clear c.args.payload.now _ (returns-clause-rest c) z

@@ -1,4 +1,4 @@
-use Rattle.std.proofs.Common.{[], refl, ◌≡◌, ◌<◌, length, false, sym, ap, ◌∙◌, subst, List, IsTrue}
+use Rattle.std.proofs.Common.{[], refl, ◌≡◌, ◌<◌, length, false, sym, ap, ◌∙◌, subst, arith, List, IsTrue}
 use Rattle.std.specs.Prelude.{IfErr, OnOk}
 use Rattle.legs.specs.Asking.{Leaves}
 use Rattle.legs.specs.Index.{MayRefuse}
@@ -17,7 +17,9 @@ use Rattle.header.specs.Front.{SaysState}
 use Rattle.boxsearch.proofs.AnswerLemmas.{each_fault, each_value, read_allowed}
 use Rattle.boxsearch.proofs.IndexLemmas.{reads_leave}
 use Rattle.treecheck.specs.Checking.{Agree, AreTracksOf}
-use Rattle.treecheck.proofs.SoundLemmas.{TreeLaws, ended, sound, tracks_are, agrees, few, held, passed}
+use Rattle.treecheck.proofs.CheckTree.{hold}
+use Rattle.treecheck.proofs.HeldTree.{checked}
+use Rattle.treecheck.proofs.SoundLemmas.{ended, sound, tracks_are, agrees, few, held, passed}
 use Rattle.treecheck.proofs.WalkedLemmas.{same_pages}
 use Rattle.treecheck.proofs.checking.check.Given as given
 use Rattle.treecheck.proofs.checking.check.Goals as goal
@@ -62,14 +64,13 @@ sound_after g c P holds = passes g c (P c.put_places.new.self) (λ fa k a n.
     let new : IndexView = with_cache index left [] in
     let tracks = c.args.tracks.now in
     let rows = c.args.rows in
-    let laws : TreeLaws = record { content = c.laws.ensures.content; lawful = c.laws.ensures.lawful } in
     let works : index.tree.spent ≡ false = sym (ap (λ (v : TbTree). v.spent) c.tree.ensures) ∙ c.if-tree.false in
     let reads = index_reads g c in
     let shape : IsShape index.tree.shape = subst (λ (v : IndexView). IsShape v.tree.shape) c.take_places-places.ensures.rest c.check_index-given.ensures.shape in
     let h = subst (λ nodes. HoldLegs nodes index.tree rows index.legs index.places tracks.tracks) (sym (same_pages index.cache left reads fa))
-    (c.laws-2.ensures.checked (pages_of_cache index.cache) index.tree rows index.legs index.places tracks.tracks shape k) in
+    (hold (pages_of_cache index.cache) index.tree rows index.legs index.places tracks.tracks shape k) in
     let many : left.count ≡ left.store.count = reads.count ∙ n ∙ sym reads.length in
-    subst P (sym (index_is g c)) (holds new (sound laws new tracks rows (reads.store.faithful ∙ fa) works shape many h) (tracks_are laws new tracks rows (reads.store.faithful ∙ fa) works shape many h a)))
+    subst P (sym (index_is g c)) (holds new (sound new tracks rows (reads.store.faithful ∙ fa) works shape many h) (tracks_are new tracks rows (reads.store.faithful ∙ fa) works shape many h a)))
 
 pub returns-clause-same : goal.returns-clause-same
 returns-clause-same g c = subst (λ (v : IndexView). v ≡ with_cache c.args.index.now v.cache v.known) (sym (index_is g c)) refl
@@ -87,20 +88,15 @@ returns-clause-only g c = λ s a says.
     let tracks = c.args.tracks.now in
     let rows = c.args.rows in
     let places : List Place = c.as_slice.result.now in
-    let laws : TreeLaws = record { content = c.laws.ensures.content; lawful = c.laws.ensures.lawful } in
     let back : index.places ≡ places = sym (c.as_slice.ensures.value ∙ c.take_places-places.ensures.taken) in
-    let k = c.laws-2.ensures.held (pages_of_cache index.cache) index.tree rows index.legs index.places tracks.tracks s.shape (held laws index tracks rows s a) in
+    let k = checked (pages_of_cache index.cache) index.tree rows index.legs index.places tracks.tracks (let l = s.shape.least_leaf in omega (arith, l)) (held index tracks rows s a) in
     let allowed = subst (λ (v : IndexView). IsTrue v.cache.store.is_faithful → v.cache.count ≡ v.cache.store.count → SaysState c.args.begun (payload_of v.cache 0)
     → length places < 4294967296 → Agree tracks rows v.legs → IsChecked (pages_of_cache v.cache) v.tree rows v.legs places tracks.tracks → IfErr given.result MayRefuseRead) c.take_places-places.ensures.rest given.ensures.only in
     subst (λ r. IfErr r MayRefuse) (sym c.answer.ensures)
     (each_fault (λ fault. of_tree fault) MayRefuseRead MayRefuse (λ x h. read_allowed x h) given.result
-    (allowed s.faithful s.count says (subst (λ (places : List Place). length places < 4294967296) back (few laws index tracks rows s a)) (agrees laws index tracks rows s a)
+    (allowed s.faithful s.count says (subst (λ (places : List Place). length places < 4294967296) back (few index tracks rows s a)) (agrees index tracks rows s a)
     (subst (λ places. IsChecked (pages_of_cache index.cache) index.tree rows index.legs places tracks.tracks) back k)))
 
 pub returns-clause-leaves : goal.returns-clause-leaves
 returns-clause-leaves g c =
     subst (λ (v : IndexView). Leaves words c.args.index.now v) (sym (index_is g c)) (reads_leave c.args.index.now c.check_index-given.new.index.cache [] (index_reads g c))
-
-pub returns-clause-whole : goal.returns-clause-whole
-returns-clause-whole g c =
-    passes g c (IsChecked (pages_of_cache c.args.index.now.cache) c.args.index.now.tree c.args.rows c.args.index.now.legs c.args.index.now.places c.args.tracks.now.tracks) (λ fa k a n. k)

@@ -82,8 +82,8 @@ in_order g c sv =
       moved = moved;
       met = are_met nodes tree rows total places tracks survey leaves sv moved;
       inside = within nodes tree rows total places tracks survey leaves sv moved;
-      order_is = λ order o. order_same nodes tree rows total places tracks survey leaves sv moved o.chains o.are_chains order o.ordered o.rises c.laws.ensures.in_order c.put_in_order.ensures.rises;
-      rising = λ order o. order_strict nodes tree rows total places tracks survey leaves sv moved o.chains o.are_chains order o.ordered o.rises c.laws.ensures.in_order c.put_in_order.ensures.rises;
+      order_is = λ order o. order_same nodes tree rows total places tracks survey leaves sv moved o.chains o.are_chains order o.ordered o.rises c.put_in_order.ensures.rises;
+      rising = λ order o. order_strict nodes tree rows total places tracks survey leaves sv moved o.chains o.are_chains order o.ordered o.rises c.put_in_order.ensures.rises;
     }
 
 -- where the way down is found, a tree stands over the leaves

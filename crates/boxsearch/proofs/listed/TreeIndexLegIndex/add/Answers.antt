@@ -7,16 +7,12 @@ use Rattle.legs.specs.Index.{CanFollowInTurn}
 use Rattle.legs.specs.Legs.{LegView}
 use Rattle.boxsearch.specs.Index.{IndexView, words, content, with_place, IsSound}
 use Rattle.boxsearch.specs.Putting.{Puts}
-use Rattle.boxsearch.proofs.AddLemmas.{Laws, made, added, asked, marked_after, refusals}
+use Rattle.boxsearch.proofs.AddLemmas.{made, added, asked, marked_after, refusals}
 use Rattle.boxsearch.proofs.OtherLemmas.{later_put}
 use Rattle.boxsearch.proofs.PlaceLemmas.{past_made}
 use Rattle.boxsearch.proofs.ResultLemmas.{from_ok}
 use Rattle.boxsearch.proofs.listed.TreeIndexLegIndex.add.Given as given
 use Rattle.boxsearch.proofs.listed.TreeIndexLegIndex.add.Goals as goal
-
--- the laws of a tree
-the_laws : (g : given.Over) → goal.After-answer g → Laws
-the_laws g c = record { content = c.laws.ensures.content; lawful = c.laws.ensures.lawful; height = c.laws.ensures.height; fits = c.laws.ensures.fits; absent = c.laws.ensures.absent }
 
 -- what putting the leg makes of an index that has a place for its feature
 has_put : (g : given.Over) (c : goal.After-answer g) → Puts (made c.args.self.now c.args.leg.feature) c.put.new.self c.args.leg c.put.result
@@ -28,20 +24,20 @@ has_put g c =
 pub returns-clause-added : goal.returns-clause-added
 returns-clause-added g c =
     subst (λ r. OnOk r (IsSound c.args.self.now → CanFollowInTurn (content c.args.self.now) (c.args.leg ∷ []) → Ends words c.args.self.now c.put.new.self (c.args.leg ∷ []))) (sym c.answer.ensures)
-    (added (the_laws g c) c.args.self.now c.put.new.self c.args.leg c.put.result (has_put g c))
+    (added c.args.self.now c.put.new.self c.args.leg c.put.result (has_put g c))
 
 pub returns-clause-asks : goal.returns-clause-asks
 returns-clause-asks g c =
     let now = c.args.self.now in
     subst (λ r. OnOk r (IsSound now → CanFollowInTurn (content now) (c.args.leg ∷ []) → RisesAtMost (min now.cache.asked (2 ^ 64 - 1)) (min c.put.new.self.cache.asked (2 ^ 64 - 1)) (add_bound (Some now.tree.shape) (content now ++ c.args.leg ∷ [])))) (sym c.answer.ensures)
-    (asked (the_laws g c) now c.put.new.self c.args.leg c.put.result (has_put g c))
+    (asked now c.put.new.self c.args.leg c.put.result (has_put g c))
 
 pub returns-clause-refusals : goal.returns-clause-refusals
 returns-clause-refusals g c =
     let p = has_put g c in
     let works = sym (ap (λ (i : IndexView). i.tree.spent) c.self.view_is) ∙ c.if-self.false in
     subst (λ r. LegRefusals words c.args.self.now c.put.new.self (c.args.leg ∷ []) r) (sym c.answer.ensures)
-    (refusals (the_laws g c) c.args.self.now c.put.new.self c.args.leg c.put.result works p)
+    (refusals c.args.self.now c.put.new.self c.args.leg c.put.result works p)
 
 pub returns-clause-marked : goal.returns-clause-marked
 returns-clause-marked g c = marked_after c.args.self.now.cache c.put.new.self.cache (has_put g c).passes

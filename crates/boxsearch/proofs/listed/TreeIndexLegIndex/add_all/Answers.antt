@@ -9,8 +9,7 @@ use Rattle.boxsearch.specs.Index.{IndexView, content, words}
 use Rattle.boxsearch.specs.Taking.{AreTurns}
 use Rattle.boxsearch.specs.Turns.{IsTurnFault}
 use Rattle.boxsearch.specs.declared.turns.Turn.{Turn}
-use Rattle.boxsearch.proofs.AddLemmas.{Laws}
-use Rattle.boxsearch.proofs.AllLemmas.{AllLaws, all_added, all_refusals}
+use Rattle.boxsearch.proofs.AllLemmas.{all_added, all_refusals}
 use Rattle.boxsearch.proofs.TurnSteps.{none_skipped}
 use Rattle.boxsearch.proofs.TurnOrder.{AreNumbered, are_numbered, are_turns, turns_within}
 use Rattle.boxsearch.proofs.listed.TreeIndexLegIndex.add_all.Given as given
@@ -41,14 +40,6 @@ join_all-requires-clause-within g c =
     let legs = c.args.legs.now in
     subst (λ (ts : List Turn). All (λ (t : Turn). t.place < length legs) ts) (sym c.as_slice-2.ensures.value) (turns_within _ _ _ legs c.in-Ok.turns.items c.in-Ok.ensures.permutation)
 
--- the laws of a tree
-the_laws : (g : given.Over) → goal.After-drop-turns g → Laws
-the_laws g c = record { content = c.laws.ensures.content; lawful = c.laws.ensures.lawful; height = c.laws.ensures.height; fits = c.laws.ensures.fits; absent = c.laws.ensures.absent }
-
--- the laws of orders
-the_orders : (g : given.Over) → goal.After-drop-turns g → AllLaws
-the_orders g c = record { taken = c.order_laws.ensures.taken; reordered = c.order_laws.ensures.reordered }
-
 -- the turns that are told have the numbers of those of the index
 the_numbers : (g : given.Over) (c : goal.After-drop-turns g) → AreNumbered c.args.self.now.places c.args.self.now.tree.shape.leaf c.args.legs.now c.as_slice-2.result.now
 the_numbers g c =
@@ -57,7 +48,7 @@ the_numbers g c =
     let e = c.from-most.ensures ∙ c.leaf.ensures.value in
     let least = c.leaf.ensures.range.least_leaf in
     let most = c.leaf.ensures.range.most_leaf in
-    let plain : AreNumbered c.as_slice.result.now c.from-most.result legs made = are_numbered c.laws.ensures.in_order c.as_slice.result.now c.from-most.result legs made (omega (arith, e, least)) (omega (arith, e, most)) c.in-Ok.ensures.few c.in-Ok.ensures.permutation c.in-Ok.ensures.rises in
+    let plain : AreNumbered c.as_slice.result.now c.from-most.result legs made = are_numbered c.as_slice.result.now c.from-most.result legs made (omega (arith, e, least)) (omega (arith, e, most)) c.in-Ok.ensures.few c.in-Ok.ensures.permutation c.in-Ok.ensures.rises in
     subst (λ (i : IndexView). AreNumbered i.places i.tree.shape.leaf legs c.as_slice-2.result.now) c.self.view_is
     (subst (λ ps. AreNumbered ps c.self.inside.tree.shape.leaf legs c.as_slice-2.result.now) c.as_slice.ensures.value (subst (λ n. AreNumbered c.as_slice.result.now n legs c.as_slice-2.result.now) e (subst (λ ts. AreNumbered c.as_slice.result.now c.from-most.result legs ts) (sym c.as_slice-2.ensures.value) plain)))
 
@@ -67,9 +58,9 @@ the_turns g c = are_turns c.args.self.now.places c.args.self.now.tree.shape.leaf
 
 pub returns-clause-added : goal.returns-clause-added
 returns-clause-added g c =
-    all_added (the_laws g c) (the_orders g c) c.args.self.now c.join_all.new.index c.args.legs.now c.as_slice-2.result.now (the_turns g c) c.join_all.result c.join_all.ensures.taking
+    all_added c.args.self.now c.join_all.new.index c.args.legs.now c.as_slice-2.result.now (the_turns g c) c.join_all.result c.join_all.ensures.taking
 
 pub returns-clause-refusals : goal.returns-clause-refusals
 returns-clause-refusals g c =
     let works = sym (ap (λ (i : IndexView). i.tree.spent) c.self.view_is) ∙ c.if-self.false in
-    all_refusals (the_laws g c) (the_orders g c) c.args.self.now c.join_all.new.index c.args.legs.now c.as_slice-2.result.now (the_turns g c) c.join_all.result works c.join_all.ensures.taking
+    all_refusals c.args.self.now c.join_all.new.index c.args.legs.now c.as_slice-2.result.now (the_turns g c) c.join_all.result works c.join_all.ensures.taking

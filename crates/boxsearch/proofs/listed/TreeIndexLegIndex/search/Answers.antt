@@ -5,6 +5,7 @@ use Rattle.legs.specs.Questions.{InBox}
 use Rattle.legs.specs.Costs.{RisesBy, search_cost}
 use Rattle.legs.specs.Index.{legs_in_box}
 use Rattle.boxsearch.specs.Answers.{answered, of_tree}
+use Rattle.chains.proofs.SpanLemmas.{known_lasts}
 use Rattle.boxsearch.specs.Index.{words, content, tells, IsSound}
 use Rattle.boxsearch.specs.Beside.{with_cache}
 use Rattle.boxsearch.proofs.AskedLemmas.{asked_leaves}
@@ -43,10 +44,10 @@ pub returns-clause-told : goal.returns-clause-told
 returns-clause-told g c =
     let q = c.args.query.now in
     of_same (λ i r. MatchResult r (λ legs. tells i (InBox q) legs.items) (λ fault. Denies words i (InBox q) fault)) c.self.view_is c.answer.ensures
-    (search_told (seen_of c.self.view_is) c.search.new.cache q (λ legs. legs.items) c.search.result c.search.ensures.way c.search.ensures.met c.search.ensures.stable c.search.ensures.named c.search.ensures.spent c.search.ensures.caused)
+    (search_told (seen_of c.self.view_is) c.search.new.cache q (λ legs. legs.items) c.search.result c.search.ensures.way c.search.ensures.met c.search.ensures.named c.search.ensures.spent c.search.ensures.caused)
 
 pub invariant_of-self : goal.invariant_of-self
 invariant_of-self g c = λ fa f place spans at known.
     let reads = c.search.ensures.reads in
     let was = sym reads.store.faithful ∙ fa in
-    c.laws.ensures.lasts c.self.inside.cache c.search.new.cache c.self.inside.tree.shape f place spans reads was (c.self.invariant was f place spans at known)
+    known_lasts c.self.inside.cache c.search.new.cache c.self.inside.tree.shape f place spans reads was (c.self.invariant was f place spans at known)

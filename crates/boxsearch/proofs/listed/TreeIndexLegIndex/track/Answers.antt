@@ -4,6 +4,7 @@ use Rattle.std.specs.Prelude.{MatchResult}
 use Rattle.legs.specs.Asking.{Denies}
 use Rattle.legs.specs.Questions.{OfFeature}
 use Rattle.legs.specs.Index.{legs_of}
+use Rattle.chains.proofs.SpanLemmas.{known_lasts}
 use Rattle.boxsearch.specs.Index.{words, tells}
 use Rattle.boxsearch.proofs.AskedLemmas.{asked_found, asked_known, asked_knows, asked_leaves, asked_place, asked_refusals, asked_rises}
 use Rattle.boxsearch.proofs.ResultLemmas.{from_ok, of_same, seen_of}
@@ -49,4 +50,4 @@ trajectory-requires g c =
 
 pub invariant_of-self-2 : goal.invariant_of-self-2
 invariant_of-self-2 g c =
-    asked_known c.self.view_is c.args.feature c.place.ensures c.in-Some.is (λ v. v.items) c.make_room.new.known.items c.self.invariant c.make_room.ensures.widens c.trajectory.new.cache c.trajectory.new.spans c.trajectory.ensures.reads.only c.laws.ensures.lasts c.trajectory.ensures.learns
+    asked_known c.self.view_is c.args.feature c.place.ensures c.in-Some.is (λ v. v.items) c.make_room.new.known.items c.self.invariant c.make_room.ensures.widens c.trajectory.new.cache c.trajectory.new.spans c.trajectory.ensures.reads.only known_lasts c.trajectory.ensures.learns

@@ -6,6 +6,7 @@ use Rattle.legs.specs.Questions.{OfFeature}
 use Rattle.legs.specs.Costs.{RisesAtMost, track_in_bound}
 use Rattle.legs.specs.Index.{live_legs_of}
 use Rattle.legs.specs.Legs.{is_live}
+use Rattle.chains.proofs.SpanLemmas.{known_lasts}
 use Rattle.boxsearch.specs.Index.{words, content}
 use Rattle.boxsearch.proofs.AskedLemmas.{asked_found, asked_known, asked_knows, asked_leaves, asked_place, asked_refusals, asked_rises}
 use Rattle.boxsearch.proofs.ResultLemmas.{from_ok, of_same, seen_of}
@@ -32,7 +33,7 @@ returns-clause-found g c =
 
 pub invariant_of-self-2 : goal.invariant_of-self-2
 invariant_of-self-2 g c =
-    asked_known c.self.view_is c.args.feature c.place.ensures c.in-Some.is (λ v. v.items) c.make_room.new.known.items c.self.invariant c.make_room.ensures.widens c.trajectory_in.new.cache c.trajectory_in.new.spans c.trajectory_in.ensures.reads.only c.laws.ensures.lasts c.trajectory_in.ensures.learns
+    asked_known c.self.view_is c.args.feature c.place.ensures c.in-Some.is (λ v. v.items) c.make_room.new.known.items c.self.invariant c.make_room.ensures.widens c.trajectory_in.new.cache c.trajectory_in.new.spans c.trajectory_in.ensures.reads.only known_lasts c.trajectory_in.ensures.learns
 
 pub returns-clause-asks : goal.returns-clause-asks
 returns-clause-asks g c =
