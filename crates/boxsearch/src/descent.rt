@@ -160,20 +160,13 @@ pub fn search<S: PageStore>(
         → OnOk result (RisesBy cache.old.asked cache.new.asked
         (search_cost query.now (Some tree.now.shape) legs)) }
 
-    // Of any pages: the legs of the pages that are met, in order, and only where
-    // each page is what the tree expects; where each is, nothing else refuses. A page that is said to be malformed or
-    // damaged is the first one that is not, level by level from the root down; but where with a level more are met than
-    // there are, the first one beyond.
+    // Of any pages: the legs of the pages that are met, in order.
     ensures met { IsTrue cache.old.store.is_faithful
         → IfOk result (λ found. IsInOrder (legs_met leg_boxes (meets query.now)
         (pages_of_cache cache.old) tree.now.root tree.now.levels) found.items) }
     // It succeeds only if every page that it meets is what the tree expects there.
     ensures way { IsTrue cache.old.store.is_faithful
         → OnOk result (IsWay query.now (pages_of_cache cache.old) tree.now.root tree.now.levels) }
-    // If every page is, it fails only if memory runs out or the store fails.
-    ensures only { tree.now.spent ≡ false → IsTrue cache.old.store.is_faithful
-        → IsWay query.now (pages_of_cache cache.old) tree.now.root tree.now.levels
-        → IfErr result MayRefuseRead }
     // A page that is named is the first that is not what the tree expects, or the first beyond the
     // count.
     ensures named { IsTrue cache.old.store.is_faithful

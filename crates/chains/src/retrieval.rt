@@ -5,7 +5,7 @@ ghost use Rattle.legs.specs.Index.{legs_of, live_legs_of};
 ghost use Rattle.legs.specs.Legs.{LegView};
 ghost use Rattle.legs.specs.Sieves.{IsSieved};
 ghost use Rattle.pagecache.specs.Cache.{AsksOnce};
-ghost use Rattle.tbtree.specs.Faults.{GivesRead, IsNamed, MayRefuseRead};
+ghost use Rattle.tbtree.specs.Faults.{GivesRead, IsNamed};
 ghost use Rattle.tbtree.specs.Nodes.{pages_of_cache};
 ghost use Rattle.tbtree.specs.Shape.{IsShape};
 ghost use Rattle.tbtree.specs.declared.tree.Place.{Place};
@@ -201,10 +201,6 @@ pub fn trajectory<S: PageStore>(
     ensures legs { IsTrue cache.old.store.is_faithful
         → IfOk result (λ found. found.items
         ≡ chain_legs (pages_of_cache cache.old) None shape.now place.now) }
-    // If the pages are the chain, it fails only if memory runs out or the store fails.
-    ensures only { IsTrue cache.old.store.is_faithful
-        → IsPlaceChain (pages_of_cache cache.old) None shape.now feature place.now
-        → IfErr result MayRefuseRead }
     // A page that an error names is the first one, from the place's last leaf back, that is not the chain's.
     ensures named { IsTrue cache.old.store.is_faithful
         → IfErr result (IsNamed (pages_of_cache cache.old)
@@ -269,10 +265,6 @@ pub fn trajectory_in<S: PageStore>(
         → IfOk result (λ found. IsSieved sieve.now period.now
         (chain_legs (pages_of_cache cache.old) (Some period.now) shape.now place.now)
         found.items) }
-    // If the pages are the chain, it fails only if memory runs out or the store fails.
-    ensures only { IsTrue cache.old.store.is_faithful
-        → IsPlaceChain (pages_of_cache cache.old) (Some period.now) shape.now feature place.now
-        → IfErr result MayRefuseRead }
     // A page that an error names is the first one, from the place's last leaf back, that is not the chain's.
     ensures named { IsTrue cache.old.store.is_faithful
         → IfErr result (IsNamed (pages_of_cache cache.old)

@@ -48,12 +48,5 @@ returns-clause-legs g c = λ fa.
     sieved_by c.args.sieve.now c.args.period.now _ _ taken.0 c.reverse.new.self.items refl
     (c.reverse.ensures.items ∙ ap reverse taken.1 ∙ reverse-reverse taken.0) taken.2
 
-pub returns-in_err-found-clause-only : goal.returns-in_err-found-clause-only
-returns-in_err-found-clause-only g c = λ fa h.
-    let p = err_from_is_err_and c.from_residual.result c.from_residual.ensures.1 in
-    let nodes = pages_of_cache c.args.cache.now in
-    let whole = whole_from nodes (Some c.args.period.now) c.args.shape.now c.args.feature c.args.place.now h in
-    rw (p.1, p.2) (allowed_of nodes c.args.cache.now c.walk_back.new.cache _ _ whole c.in_err-found.ensures.reads.caused (c.in_err-found.ensures.named fa))
-
 pub returns-clause-chain : goal.returns-clause-chain
 returns-clause-chain g c = λ fa. whole_to (pages_of_cache c.args.cache.now) (Some c.args.period.now) c.args.shape.now c.args.feature c.args.place.now (c.in_ok-found.ensures.whole fa)
