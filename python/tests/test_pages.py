@@ -53,7 +53,7 @@ class Pages(Case):
         tools = "from_ais", "from_csv", "from_gpx", "from_movebank", "draw", "table", "daily"
         known = set(re.findall(r"--[a-z0-9-]+", " ".join(self.made(it, "--help") for it in tools)))
         # Options of the program.
-        known |= {"--cache-pages"}
+        known |= {"--cache-pages", "--most-legs", "--most-features"}
         for path in PAGES:
             said = set(re.findall(r"(?<![\w-])--[a-z][a-z0-9-]+", path.read_text()))
             self.assertLessEqual(said, known, path.name)
