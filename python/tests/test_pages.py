@@ -60,7 +60,7 @@ class Pages(Case):
         tools = "from_ais", "from_csv", "from_gpx", "from_movebank", "draw", "table", "daily", "page", "fleet"
         helps = [self.made(it, "--help") for it in tools] + [self.made("fleet", it, "--help") for it in ("new", "ask")]
         # Options of the program, too.
-        known = {"--most-legs", "--most-features"} | set(re.findall(r"--[a-z0-9-]+", " ".join(helps)))
+        known = {"--cache-pages", "--most-legs", "--most-features"} | set(re.findall(r"--[a-z0-9-]+", " ".join(helps)))
         for path in PAGES:
             said = set(re.findall(r"(?<![\w-])--[a-z][a-z0-9-]+", path.read_text()))
             self.assertLessEqual(said, known, path.name)

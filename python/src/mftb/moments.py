@@ -21,8 +21,8 @@ def seconds(period: lines.Period) -> tuple[Fraction, Fraction]:
 
 def rows_of(printed: runs.Printed) -> Iterator[list[str]]:
     """Records as texts."""
-    with printed.opened() as file:
-        yield from csv.reader(io.TextIOWrapper(file, encoding="utf-8", newline=""))
+    with printed.opened() as file, io.TextIOWrapper(file, encoding="utf-8", newline="") as text:
+        yield from csv.reader(text)
 
 
 def printed(rows: Iterable[list[str]]) -> runs.Printed:
