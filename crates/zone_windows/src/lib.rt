@@ -5,5 +5,5 @@ mod near;
 mod part;
 mod windows;
 
-pub use near::{Window, rings_near};
+pub use near::{Way, Window, rings_beside, rings_near};
 pub use windows::Windows;

@@ -186,3 +186,51 @@ pub fn rings_near(alloc: Global, rings: &[Ring], window: Window) -> Result<Vec<R
     }
     Ok(near)
 }
+
+/// A course.
+#[derive(Clone, Copy)]
+pub struct Way {
+    pub x0: i64,
+    pub y0: i64,
+    pub x1: i64,
+    pub y1: i64,
+}
+
+fn side(way: Way, corner: &Position) -> i128 {
+    (way.x1 - way.x0) as i128 * (corner.y - way.y0) as i128
+        - (way.y1 - way.y0) as i128 * (corner.x - way.x0) as i128
+}
+
+fn ring_beside(alloc: Global, ring: &Ring, way: Way) -> Result<Ring, AllocError> {
+    let mut near = Vec::new(alloc);
+    let corners = ring.corners();
+    if corners.is_empty() {
+        return Ok(Ring::new(near));
+    }
+    let last = corners[corners.len() - 1];
+    let mut before = side(way, &last);
+    let mut left = corners;
+    'corners: while let [corner, behind @ ..] = left {
+        left = behind;
+        let here = side(way, corner);
+        if let [next, ..] = behind {
+            let then = side(way, next);
+            if before > 0 && here > 0 && then > 0 || before < 0 && here < 0 && then < 0 {
+                continue;
+            }
+        }
+        near.push(*corner)?;
+        before = here;
+    }
+    Ok(Ring::new(near))
+}
+
+/// Beside.
+pub fn rings_beside(alloc: Global, rings: &[Ring], way: Way) -> Result<Vec<Ring>, AllocError> {
+    let mut near = Vec::new(alloc);
+    for ring in rings {
+        let kept = ring_beside(alloc, ring, way)?;
+        near.push(kept)?;
+    }
+    Ok(near)
+}

@@ -8,7 +8,7 @@ use legs::{Leg, Rect};
 use std::alloc::{AllocError, Global};
 use std::marker::Model;
 use timebase::Period;
-use zone_windows::{Window, Windows};
+use zone_windows::{Way, Window, Windows, rings_beside};
 use zones::{Gate, Position, Ring};
 
 /// A zone made ready for legs: its rings in windows, and its least box.
@@ -133,7 +133,9 @@ impl Site {
         // At each moment of the leg in the period, the leg is in the site's zone exactly if one of the stays holds the moment.
         ensures { IfOk result (λ stays. AreStays self.now leg.now period.now stays.items) }
     {
-        let rings = self.windows.near(alloc, window_of(leg))?;
+        let near = self.windows.near(alloc, window_of(leg))?;
+        let way = Way { x0: leg.x0.units(), y0: leg.y0.units(), x1: leg.x1.units(), y1: leg.y1.units() };
+        let rings = rings_beside(alloc, &near, way)?;
         stays_of(alloc, &rings, self.gate.as_ref(), leg, period)
     }
 
