@@ -58,22 +58,32 @@ fn text_of<S: PageStore>(
     Ok(text)
 }
 
-/// Opens the store to be read alone, and prints what it holds. Why the database is not opened comes first.
-pub(crate) fn print_info<'a, R: Files<File = File> + AllocGlobal + RandomSource, O: Output>(
+/// What is said of a store.
+fn told_of<'a, R: AllocGlobal + RandomSource, S: PageStore + Drop>(
     rt: &R,
-    task: &Info<'a>,
-    out: &mut O,
-) -> Result<(), Fault<'a>> {
-    let mut store = store_to_ask(rt, task.store)?;
+    mut store: S,
+    form: InfoForm,
+) -> Result<Vec<u8>, Fault<'a>> {
     let seen = look(&mut store);
     let database = database_to_ask(rt, store, CACHE_PAGES)?;
     let told = match seen {
-        Ok(seen) => match text_of(rt.alloc(), &database, &seen, task.form) {
+        Ok(seen) => match text_of(rt.alloc(), &database, &seen, form) {
             Ok(text) => Ok(text),
             Err(fault) => Err(Fault::Run(fault)),
         },
         Err(fault) => Err(fault),
     };
     let _store = database.abandon();
-    send_all(out, &told?)
+    told
+}
+
+/// Opens the store to be read alone, and prints what it holds. Why the database is not opened comes first.
+pub(crate) fn print_info<'a, R: Files<File = File> + AllocGlobal + RandomSource, O: Output>(
+    rt: &R,
+    task: &Info<'a>,
+    out: &mut O,
+) -> Result<(), Fault<'a>> {
+    let store = store_to_ask(rt, task.store)?;
+    let told = told_of(rt, store, task.form)?;
+    send_all(out, &told)
 }

@@ -127,6 +127,19 @@ impl Asked {
     }
 }
 
+/// What the database of a store answers.
+fn told_of<'a, R: AllocGlobal + RandomSource, S: PageStore + Drop>(
+    rt: &R,
+    store: S,
+    cache_pages: u32,
+    asked: &Asked,
+    rects: &[NamedRect],
+) -> Result<Told, Fault<'a>> {
+    let mut database = database_to_ask(rt, store, cache_pages)?;
+    let answer = asked.ask(&mut database, rects);
+    close_asked(rt.alloc(), database, answer)
+}
+
 /// Opens the store to be read alone, and prints when legs of its database are inside the rectangles in the period.
 pub(crate) fn print_moments<
     'a,
@@ -142,9 +155,7 @@ pub(crate) fn print_moments<
         is_named: matches!(task.place, Where::Rects(_)),
     };
     let store = store_to_ask(rt, task.store)?;
-    let mut database = database_to_ask(rt, store, task.cache_pages)?;
-    let answer = asked.ask(&mut database, &rects);
-    let told = close_asked(rt.alloc(), database, answer)?;
+    let told = told_of(rt, store, task.cache_pages, &asked, &rects)?;
     send_all(out, &told.text)?;
     if task.telling.is_told(is_terminal) {
         tell_elsewhere(rt, task.store, &asked.period, &rects, &told.empty);
