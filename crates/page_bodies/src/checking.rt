@@ -1,6 +1,6 @@
 //! What a check passes is sound.
 ghost use Rattle.std.specs.Prelude.{IsTrue, OnOk};
-ghost use Rattle.boxsearch.specs.Index.{IsSound};
+ghost use Rattle.boxsearch.specs.Index.{IsSoundIndex};
 
 use boxsearch::TreeIndex;
 use legs::{IndexFault, Tracks};
@@ -13,7 +13,7 @@ pub fn check<S: PageStore>(
     rows: u64,
     begun: bool,
 ) -> Result<(), IndexFault>
-    ensures sound { OnOk result (IsTrue index.old.cache.store.is_faithful → IsSound index.new) }
+    ensures sound { OnOk result (IsTrue index.old.cache.store.is_faithful → IsSoundIndex index.new) }
 {
     treecheck::check(index, tracks, rows, begun)
 }

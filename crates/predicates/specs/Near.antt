@@ -1,6 +1,6 @@
 -- Where the legs are of which a predicate holds, and which of them it looks at.
 use Rattle.std.specs.Prelude.{ℤ, pos, neg_ℤ}
-use Rattle.fixedpoint.specs.Number.{most as most_units}
+use Rattle.fixedpoint.specs.Number.{greatest_coordinate as most_units}
 use Rattle.timebase.specs.Period.{PeriodView}
 use Rattle.legs.specs.Boxes.{RectView, BoxView, box_over}
 use Rattle.legs.specs.declared.sieve.Sieve.{Sieve}
@@ -9,18 +9,18 @@ use Rattle.predicates.specs.declared.Predicate.{Predicate}
 use Rattle.predicates.specs.declared.Predicate.TheVariants.{Ever, Always, Enters, Leaves, Crosses, Bypasses}
 
 -- the greatest coordinate
-abbrev pub most : ℤ
-most = pos most_units
+abbrev pub greatest_coordinate : ℤ
+greatest_coordinate = pos most_units
 
 -- the box over a period, of all x and y
 abbrev pub plane_over : PeriodView → BoxView
 plane_over period =
     record {
-      x_min = neg_ℤ most;
-      y_min = neg_ℤ most;
+      x_min = neg_ℤ greatest_coordinate;
+      y_min = neg_ℤ greatest_coordinate;
       t_min = period.start;
-      x_max = most;
-      y_max = most;
+      x_max = greatest_coordinate;
+      y_max = greatest_coordinate;
       t_max = period.end;
     }
 

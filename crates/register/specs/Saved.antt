@@ -27,9 +27,9 @@ head_of head =
     record { base = head.base; space = record { crs = head.crs; columns = head.columns } }
 
 -- how many dimensions a database has; 2 where no file was accepted
-abbrev pub dimension_of : Option BookHead → ℕ
-dimension_of None = 2
-dimension_of (Some head) = elim head.dimension [ Two ↦ 2 | Three ↦ 3 ]
+abbrev pub dimensions_of : Option BookHead → ℕ
+dimensions_of None = 2
+dimensions_of (Some head) = elim head.dimension [ Two ↦ 2 | Three ↦ 3 ]
 
 -- what page 0 says of a database behind how it begins
 abbrev pub fields_for : LimitsView → Option BookHead → TbTree → ℕ → ℕ → Fields
@@ -41,7 +41,7 @@ fields_for limits head tree first length = record {
   leaves = tree.leaves;
   first = first;
   length = length;
-  dimension = dimension_of head;
+  dimension = dimensions_of head;
 }
 
 -- page 0 begins as it did, and ends as it did behind its 60 first bytes

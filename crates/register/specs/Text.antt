@@ -51,8 +51,8 @@ abbrev pub row_text : List (List ℕ) → List ℕ
 row_text row = flat_map short_text row
 
 -- the features, and the rows, behind their number
-abbrev pub features_text : List Feature → List ℕ
-features_text features = big_bytes 4 (length features) ++ flat_map feature_text features
+abbrev pub features_bytes : List Feature → List ℕ
+features_bytes features = big_bytes 4 (length features) ++ flat_map feature_text features
 
 -- the number of rows, and each row
 abbrev pub rows_text : List (List (List ℕ)) → List ℕ
@@ -60,7 +60,7 @@ rows_text rows = big_bytes 4 (length rows) ++ flat_map row_text rows
 
 -- what a text says of a database into which a file was accepted
 abbrev pub lists_text : Lists → List ℕ
-lists_text lists = features_text lists.features ++ rows_text lists.rows
+lists_text lists = features_bytes lists.features ++ rows_text lists.rows
 
 -- what is kept once a file was accepted: the head, the features and the rows
 abbrev pub contents_text : Contents → List ℕ
@@ -99,21 +99,21 @@ pub record IsColumn (column : Column) : Type 0 where
   pub kind : IsShortText column.kind
 
 -- a place whose numbers fit into the text
-pub record IsPlace (place : Place) : Type 0 where
+pub record FitsPlace (place : Place) : Type 0 where
   pub first : IsNumber 32 place.first
   pub last : IsNumber 32 place.last
   pub last_index : IsNumber 32 place.last_index
   pub legs : IsNumber 64 place.legs
 
 -- an end and a place that fit into the text
-pub record IsKept (kept : Kept) : Type 0 where
+pub record FitsKept (kept : Kept) : Type 0 where
   pub end : IsSigned kept.end
-  pub place : IsPlace kept.place
+  pub place : FitsPlace kept.place
 
 -- a feature that fits into the text
 pub record IsFeature (feature : Feature) : Type 0 where
   pub name : IsShortText feature.name
-  pub kept : IsKept feature.kept
+  pub kept : FitsKept feature.kept
 
 -- a row of so many values
 pub record IsRow (columns : ℕ) (row : List (List ℕ)) : Type 0 where

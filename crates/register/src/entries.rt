@@ -1,7 +1,7 @@
 //! What a text says of columns, features and rows.
 ghost use Rattle.std.specs.Prelude.{◌≡◌, ◌-◌, ◌^◌, ℕ, min, length};
 ghost use Rattle.std.specs.List.{flat_map};
-ghost use Rattle.register.specs.Text.{kept_text, leg_sum, IsKept};
+ghost use Rattle.register.specs.Text.{kept_text, leg_sum, FitsKept};
 
 use crate::chain_reader::ChainReader;
 use crate::contents::{Contents, Feature, Features, Head, Kept, Lists, Space};
@@ -21,7 +21,7 @@ use tbtree::Place;
 fn kept_of(bytes: &[u8]) -> Kept
     requires { length bytes.now ≡ 28 }
     ensures text { kept_text result ≡ bytes.now }
-    ensures fits { IsKept result }
+    ensures fits { FitsKept result }
 {
     let place = Place {
         first: u32_of(part(bytes, 8, 4)),
@@ -50,7 +50,7 @@ fn leg_sum(features: &Features) -> u64
 impl ChainReader {
     ghost use Rattle.std.specs.Prelude.{◌≡◌, ◌++◌, ◌∷◌, [], OnOk, Some};
     ghost use Rattle.register.specs.ChainReader.{ReadsInto, ReadsValue};
-    ghost use Rattle.register.specs.Text.{column_text, columns_text, contents_text, feature_text, features_text, head_text, kept_text, lists_text, row_text, rows_text, space_text, AreColumns, AreFeatures, AreFewRows, AreRead, AreRows, IsColumn, IsFeature, IsHead, IsKept, IsRead, IsRow, IsSpace, HasColumns, HasFeatures};
+    ghost use Rattle.register.specs.Text.{column_text, columns_text, contents_text, feature_text, features_bytes, head_text, kept_text, lists_text, row_text, rows_text, space_text, AreColumns, AreFeatures, AreFewRows, AreRead, AreRows, IsColumn, IsFeature, IsHead, FitsKept, IsRead, IsRow, IsSpace, HasColumns, HasFeatures};
 
     /// An attribute column.
     fn column<S: PageStore>(
@@ -96,7 +96,7 @@ impl ChainReader {
 
     /// What is kept of a feature beside its name.
     fn kept<S: PageStore>(&mut self, cache: &mut PageCache<S>) -> Result<Kept, CatalogueFault>
-        ensures { ReadsValue cache.old cache.new self.old self.new kept_text IsKept result }
+        ensures { ReadsValue cache.old cache.new self.old self.new kept_text FitsKept result }
     {
         self.fill(cache, 28)?;
         let kept = kept_of(self.ahead(28));
@@ -141,7 +141,7 @@ impl ChainReader {
         cache: &mut PageCache<S>,
     ) -> Result<Features, CatalogueFault>
         ensures { ReadsValue cache.old cache.new self.old self.new
-            features_text HasFeatures result }
+            features_bytes HasFeatures result }
     {
         let count = self.u32(cache)?;
         self.features(alloc, cache, count)

@@ -9,7 +9,7 @@ use Rattle.mfcsv.specs.declared.Dimension.TheVariants.{Two, Three}
 use Rattle.mfcsv.specs.declared.Position.{Position}
 use Rattle.legs.specs.Book.{Book}
 use Rattle.writer.specs.Records.{record_text}
-use Rattle.trajdb.specs.Answers.{name_of}
+use Rattle.trajdb.specs.Answers.{feature_name}
 use Rattle.moments.specs.Ends.{end_text}
 use Rattle.moments.specs.Lengths.{micros_down, micros_up}
 use Rattle.moments.specs.declared.dwells.Dwell.{Dwell}
@@ -37,7 +37,7 @@ quoted_text name = without_last (record_text (name ∷ []))
 
 -- the name of a feature
 abbrev pub name_text : Book → ℕ → List ℕ
-name_text book feature = quoted_text (name_of book feature)
+name_text book feature = quoted_text (feature_name book feature)
 
 -- the field that stands before each record of a rectangle of that name, and a comma
 abbrev pub label_text : List ℕ → List ℕ

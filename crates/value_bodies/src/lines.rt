@@ -1,13 +1,13 @@
 //! Lines of a script.
 ghost use Rattle.querylang.specs.Answer.{Gives};
-ghost use Rattle.querylang.specs.Line.{line_of};
+ghost use Rattle.querylang.specs.Line.{line_command};
 
 use querylang::{Command, LineFault};
 use std::alloc::Global;
 
 /// Reads a line: the command that it is, or why it is refused.
 pub fn parse_line(alloc: Global, line: &[u8]) -> Result<Option<Command>, LineFault>
-    ensures gives { Gives result (line_of line.now) }
+    ensures gives { Gives result (line_command line.now) }
 {
     querylang::parse_line(alloc, line)
 }
