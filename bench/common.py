@@ -13,8 +13,10 @@ PROGRAM = ROOT / "crates" / "mftb" / "out" / "mftb"
 # a small process that starts a program, since a process's greatest memory is at least that of the one that starts it
 STARTER = """\
 import resource, subprocess, sys
-subprocess.run(sys.argv[1:], check=True, stdout=subprocess.DEVNULL)
-print(resource.getrusage(resource.RUSAGE_CHILDREN).ru_maxrss)
+done = subprocess.run(sys.argv[1:], stdout=subprocess.DEVNULL)
+used = resource.getrusage(resource.RUSAGE_CHILDREN)
+print(used.ru_maxrss, used.ru_utime + used.ru_stime)
+sys.exit(done.returncode)
 """
 
 
@@ -54,8 +56,26 @@ def calls(kinds, folder, program, group):
         print(f"| {text} | {each * 1e6:.3f} | {1 / each:,.0f} |", flush=True)
 
 
+def used_by(words, folder=DATA):
+    """The greatest memory of a process in bytes, its seconds of a processor, and its end with what it said."""
+    words = [sys.executable, "-c", STARTER, *map(str, words)]
+    done = subprocess.run(words, cwd=folder, capture_output=True, text=True)
+    peak, seconds = done.stdout.split()
+    return int(peak) * 1024, float(seconds), done
+
+
 def peak_of(words, folder=DATA):
-    """The greatest memory of a process, in bytes."""
-    words = [sys.executable, "-c", STARTER, *words]
-    done = subprocess.run(words, cwd=folder, check=True, capture_output=True, text=True)
-    return int(done.stdout) * 1024
+    """The greatest memory of a process that ends well, in bytes."""
+    peak, _, done = used_by(words, folder)
+    done.check_returncode()
+    return peak
+
+
+def processor_seconds(words, folder=DATA, runs=3):
+    """The least seconds of a processor of some runs that end well; what they print is not read."""
+    taken = []
+    for _ in range(runs):
+        _, seconds, done = used_by(words, folder)
+        done.check_returncode()
+        taken.append(seconds)
+    return min(taken)

@@ -17,13 +17,16 @@ WORD = re.compile(r"(?m)^  (\w+) = (λ[^;]*);")
 # The record of what contracts see of an index, in the file of the index over pages, and how texts name such a record.
 WORDS = "words"
 HOLDERS = ("g", "I", WORDS)
-# The clauses under which a reader has to believe what is defined: what each is called, its crate, its function and its name.
+# The clauses under which a reader has to believe what is defined: what each is called, its crate, its function and its
+# name, '' for one without a name.
 HEADLINES = (
     ("run: ok", "trajdb", "Db::run", "ok"),
     ("open: book", "trajdb", "Db::open", "book"),
     ("close: holds", "trajdb", "Db::close", "holds"),
     ("check: sound", "trajdb", "Db::check", "sound"),
     ("command: asks", "trajdb", "Db::command", "asks"),
+    ("zones: a course", "zones", "stays", ""),
+    ("zones: a leg", "zoning", "Site::stays_of", ""),
 )
 
 

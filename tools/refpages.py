@@ -10,18 +10,18 @@ from reading import Node, Part, Reading
 PLACES = {"clauses": "docs/reference/CLAUSES.md", "definitions": "docs/reference/DEFINITIONS.md", "reading": "docs/proof/READING.md"}
 MADE = "<!-- Made by tools/reference: change the sources, and run it again. -->"
 TYPE = r"(?m)^pub(?:\([a-z ]+\))? (?:struct|enum|trait|type) {}\b"
-# How the crates are named that have calls of others under one clause each, for the must-fail edits alone.
-BODIES = "_bodies"
+# The crate that has calls of others under one clause each, for the must-fail edits alone.
+BODIES = "contract_tests"
 # The call of the program, which is in no library.
 PROGRAM = ("mftb", "start")
 
 
 def is_own(function: Function) -> bool:
     """Whether a function is public in a crate that says what it promises; of the database over any index its calls are
-    those of the database, and a crate of bodies repeats what others promise."""
+    those of the database, and the crate of wrong bodies repeats what others promise."""
     if (function.crate, function.name) == PROGRAM and not function.owner:
         return True
-    is_repeated = function.crate.endswith(BODIES)
+    is_repeated = function.crate == BODIES
     return function.is_public and function.is_shown and function.owner != "Core" and not function.is_test and not is_repeated
 
 

@@ -6,14 +6,17 @@ from a seed, so many of each kind, and the right answers are fractions by the ru
 nothing with the program. Answered are they by doubles in Python, with and without a tolerance, by samples of a second,
 by shapely, by PostGIS (a server on this machine: apt-get install postgresql-15-postgis-3), and by mftb, where it is
 built, or with --unproved on a build without proofs. SQLite's R*Tree answers the question that it is made for: whose
-least box meets. What is not there is left out. --wrong prints the cases that one of them answers wrong.
+least box meets. Cases of polygons and gates ask shapely, GEOS's prepared geometries, PostGIS and mftb. What is not there
+is left out. --wrong prints the cases of rectangles that one of them answers wrong.
 """
 import argparse
 import sys
 from pathlib import Path
 
 import elsewhere
+import elsewhere_zones
 from exactcases import beside, cases, worked
+from exactzones import zone_kinds
 
 ROOT = Path(__file__).resolve().parents[2]
 BUILT = ROOT / "crates" / "mftb" / "out" / "mftb"
@@ -93,6 +96,16 @@ def box_answers_of(made, program):
     }
 
 
+def zone_answers_of(made, program):
+    """What each answers to whether a leg was in a zone, at some moment or at each."""
+    return {
+        "shapely": elsewhere_zones.by_shapely(made),
+        "GEOS, prepared": elsewhere_zones.by_prepared(made),
+        "PostGIS": elsewhere_zones.by_postgis(made),
+        "mftb": elsewhere_zones.by_mftb(made, program),
+    }
+
+
 def main():
     words = argparse.ArgumentParser(description=__doc__.split(":")[0])
     words.add_argument("--seed", type=int, default=44, help="the seed of the cases")
@@ -114,3 +127,5 @@ def main():
     print_table(title, made, answers_of(made, program), [case.is_inside() for case in made])
     boxes = list(beside(asked.seed, asked.count))
     print_table("Does its least box meet?", boxes, box_answers_of(boxes, program), [meets_box(case) for case in boxes])
+    zones = list(zone_kinds(asked.seed, asked.count))
+    print_table("Was it in the zone?", zones, zone_answers_of(zones, program), [case.is_inside() for case in zones])

@@ -5,6 +5,7 @@ features of each predicate over a random period. The plain program knows no inde
 Rectangles among the zones are asked of `mftb moments` too.
 """
 import csv
+import functools
 import io
 import math
 import random
@@ -72,15 +73,15 @@ def random_zone(source, most):
     if kind < 0.3:
         a, b = zone_cases.random_corner(source, most), zone_cases.random_corner(source, most)
         b = b if a != b else (a[0] + 1, a[1])
-        return [(a, b)], (a, b), None
+        return ((a, b),), (a, b), None
     if kind < 0.5:
         (x1, x2), (y1, y2) = (sorted(source.sample(range(-most, most + 1), 2)) for _ in "xy")
-        return [[(x1, y1), (x2, y1), (x2, y2), (x1, y2)]], None, (x1, y1, x2, y2)
+        return (((x1, y1), (x2, y1), (x2, y2), (x1, y2)),), None, (x1, y1, x2, y2)
     rings = [
-        [zone_cases.random_corner(source, most) for _ in range(source.randint(3, 6))]
+        tuple(zone_cases.random_corner(source, most) for _ in range(source.randint(3, 6)))
         for _ in range(source.randint(1, 3))
     ]
-    return rings, None, None
+    return tuple(rings), None, None
 
 
 def wkt_of(rings, gate):
@@ -90,6 +91,12 @@ def wkt_of(rings, gate):
     if gate:
         return f"LINESTRING ({positions(gate)})"
     return f"POLYGON ({', '.join(f'({positions([*ring, ring[0]])})' for ring in rings)})"
+
+
+@functools.lru_cache(maxsize=4096)
+def plain_stays(course, first, last, rings):
+    """The stays of a course, which each question asks for again."""
+    return zone_cases.plain_stays(course, first, last, rings)
 
 
 class Stay:
@@ -130,7 +137,7 @@ def stays_of(legs, zone, period):
     rings, gate, _ = zone
     for feature, t0, t1, course in legs:
         leg = (t0, t1, course)
-        for lo, hi in zone_cases.plain_stays(course, *zone_cases.ends_of(leg, period), rings):
+        for lo, hi in plain_stays(course, *zone_cases.ends_of(leg, period), rings):
             yield Stay(feature, leg, period, gate, lo, hi)
 
 
@@ -158,7 +165,7 @@ def holds(predicate, legs, rings, period):
         return zone_cases.is_in(rings, zone_cases.point(leg[3], s))
 
     ends = [zone_cases.ends_of(leg[1:], period) for leg in live]
-    pieces = [(pair, zone_cases.plain_stays(leg[3], *pair, rings)) for leg, pair in zip(live, ends)]
+    pieces = [(pair, plain_stays(leg[3], *pair, rings)) for leg, pair in zip(live, ends)]
     ever = any(stays for _, stays in pieces)
     first, last = inside(live[0], 0), inside(live[-1], 1)
     return {
@@ -248,7 +255,7 @@ def law_of_rectangles(program, folder, zones, times, flag, answer):
 
 
 def run(program, folder, source):
-    """One book and one zone file: how many answers there were, and how many were wrong."""
+    """One book and one zone file: how many cases of a leg and a zone there are, and how many answers were wrong."""
     most = source.choice((2, 4, 8, 20))
     legs = random_book(source, most)
     zones = [(f"z{place}", random_zone(source, most)) for place in range(8)]
@@ -265,18 +272,17 @@ def run(program, folder, source):
     asked([program, "run", "S", "script", "book.csv"], folder)
     questions = [("--visits", None), ("--legs", None), ("--dwell", None)]
     questions += [("--features", predicate) for predicate in PREDICATES]
-    count = wrong = 0
+    wrong = 0
     for flag, predicate in questions:
         flags = [flag, predicate] if predicate else [flag]
         answer = asked([program, "zones", *flags, "S", "zones.csv", *times], folder)
         expected = plain_answer(flag, predicate, legs, zones, period)
-        count += len(zones) * len(legs)
         if answer != expected:
             wrong += 1
             print(f"{' '.join(flags)} {' '.join(times)}\n{first_difference(answer, expected)}")
         if flag in ("--visits", "--legs"):
             wrong += law_of_rectangles(program, folder, zones, times, flag, answer)
-    return count, wrong
+    return len(zones) * len(legs), wrong
 
 
 def main():

@@ -84,6 +84,16 @@ class Daily(Case):
         self.take("store", NAMES)
         self.assertEqual(self.legs("store"), self.at_once(NAMES))
 
+    def test_other_columns_than_the_store_has(self):
+        """The words are wrong, and no file: none is said to be absent from the store."""
+        self.take("store", NAMES[:1])
+        command = [ROOT / "tools" / "daily", "store", *NAMES, "--program", BUILT]
+        ended = subprocess.run(command, cwd=self.folder, capture_output=True, text=True)
+        wanted = "daily: store was made with another --columns: 'VesselName', here ''; nothing is loaded now\n"
+        self.assertEqual((ended.returncode, ended.stderr), (1, wanted))
+        self.take("store", NAMES)
+        self.assertEqual(self.legs("store"), self.at_once(NAMES))
+
     def test_a_day_that_the_store_refuses(self):
         self.write("load", "load other.csv\n")
         self.write("other.csv", "@stboundedby,metres,3D,,,2024-01-01T00:00:00Z,,sec\n@columns,mfidref,trajectory\n")

@@ -58,6 +58,9 @@ class Zones(Drawn):
             self.assertIn(why, self.ends("draw", "a", "--rects", "rects.csv", "-o", "c", status=1))
         self.write("zones.csv", 'name,wkt\na,"POINT(1 1)"\n')
         self.assertIn("record 2: Z4", self.ends("draw", "a", "--zones", "zones.csv", "-o", "c", status=1))
+        self.write("zones.csv", '{"type": "FeatureCollection", "features": []}')
+        said = self.ends("draw", "a", "--zones", "zones.csv", "-o", "c", status=1)
+        self.assertIn("Z2: there is no column name or wkt (tools/zones_from makes a file of zones of GeoJSON)", said)
         self.ends("draw", "a", "--rect", "b=1,2,3", "-o", "c", status=2)
 
 

@@ -5,6 +5,7 @@ from fractions import Fraction
 from common import ROOT
 
 import elsewhere
+import exactzones
 from exactcases import KINDS, beside, cases, worked
 
 # Of each worked case the part of its leg at which it is first inside, by hand; None where it never is.
@@ -33,8 +34,14 @@ class Cases(unittest.TestCase):
             self.assertEqual(case.is_inside(), case.number % 2 == 0)
         self.assertEqual(made, list(cases(1, 10)))
 
+    def test_half_of_each_kind_of_zones_is_inside(self):
+        made = list(exactzones.zone_kinds(1, 10))
+        self.assertEqual(len(made), 10 * len(exactzones.KINDS))
+        for case in made:
+            self.assertEqual(case.is_inside(), case.number % 2 == 0)
+
     def test_cases_have_their_own_times(self):
-        for made in (list(cases(2, 6)), list(beside(2, 6)), list(worked())):
+        for made in (list(cases(2, 6)), list(beside(2, 6)), list(worked()), list(exactzones.zone_kinds(2, 6))):
             for one, next_ in zip(made, made[1:]):
                 self.assertLess(one.t1, next_.t0)
 

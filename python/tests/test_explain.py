@@ -210,6 +210,16 @@ class Explained(Case):
                 out, said = self.ask("load day.csv\n", "day.csv")
                 self.assertEqual(out, "refused F8 at 1\n")
                 self.assertIn(f"@columns; it looks like {name} makes a file to load (F8)\n", said)
+                self.assertEqual(self.ask("load day.csv\n", "day.csv", options=("-q",))[1], "")
+                self.assertEqual(self.ask("count\n", "day.csv", options=())[1], "")
+                hint = f"it looks like {name} makes a file to load\n"
+                out, said = self.ask("load day.csv\n", "day.csv", options=())
+                self.assertEqual((out, said), ("refused F8 at 1\n", f"mftb: day.csv: {hint}"))
+                os.mkfifo(Path(self.folder, "pipe"))
+                with subprocess.Popen(["cp", "day.csv", "pipe"], cwd=self.folder):
+                    out, said = self.ask("load pipe\n", "pipe", options=())
+                os.unlink(Path(self.folder, "pipe"))
+                self.assertEqual((out, said), ("refused F8 at 1\n", f"mftb: pipe: {hint}"))
 
     def test_each_code_of_a_line(self):
         for number, (line, code, words) in enumerate(LINES):

@@ -7,6 +7,7 @@ from test_moments import HARBOUR, SECOND, START, legs_of, said
 
 STATE = {"version": 2, "state": "finished"}
 LIMITS = {"most_legs": 16777216, "most_features": 1048576}
+COLUMNS = "@columns,mfidref,trajectory,remark,xsd:token"
 QUOTED = """@stboundedby,"urn ""x"", y",3D,,,2024-06-03T08:50:00Z,,sec
 @columns,mfidref,trajectory,"a\\b",xsd:token
 a,0,10,0 0 -5.5 10 -0.25 3,x
@@ -88,6 +89,25 @@ class Info(Asked):
             self.load_again()
             ended = subprocess.run(command, cwd=self.folder, stdout=full, stderr=subprocess.PIPE, text=True)
         self.assertEqual((ended.returncode, ended.stderr.split("\n", 1)[1]), (1, "mftb: output\n"))
+
+    def test_rows_are_not_read(self):
+        records = [f"a,{at},{at + 1},0 0 1 1,{chr(97 + at % 26) * 1000}" for at in range(100)]
+        self.load("\n".join(["@stboundedby,c,2D,,,2024-06-03T08:50:00Z,,sec", COLUMNS, *records, ""]))
+        self.write("count", "count\n")
+        made = self.asked("info", "store")[0]
+        self.assertEqual(self.asked("check", "store")[1], "")
+        bytes_ = bytearray((self.folder / "store").read_bytes())
+        pages = [at for at in range(0, len(bytes_), 4096) if bytes_[at + 4] == 4]
+        for page in (pages[1], pages[7], pages[-1]):
+            spoilt = bytearray(bytes_)
+            spoilt[page + 100] ^= 1
+            (self.folder / "store").write_bytes(spoilt)
+            self.assertEqual(self.asked("info", "store")[0], made)
+            for words in (["check", "store"], ["run", "store", "count"]):
+                self.assertEqual(self.asked(*words, status=1)[1], f"mftb: page {page // 4096} damaged\n")
+        bytes_[pages[0] + 100] ^= 1
+        (self.folder / "store").write_bytes(bytes_)
+        self.assertEqual(self.asked("info", "store", status=1)[1], f"mftb: page {pages[0] // 4096} damaged\n")
 
     def load_again(self):
         (self.folder / "store").unlink()

@@ -13,6 +13,7 @@ EPOCH = datetime(1970, 1, 1, tzinfo=timezone.utc)
 START = datetime(2024, 6, 3, 8, 50, tzinfo=timezone.utc)
 HARBOUR = ROOT / "examples" / "harbour" / "harbour.csv"
 MOUTH = ["-60.3", "0", "60.3", "0", "2024-06-03T09:00:00Z", "2024-06-03T09:05:00Z"]
+ENDS = ["enters_by", "leaves_by", "edge_in", "edge_out"]
 PLACES = {2: ["x", "y"], 3: ["x", "y", "z"]}
 SECOND = timedelta(seconds=1)
 MICRO = timedelta(microseconds=1)
@@ -83,12 +84,24 @@ def end_of(moment, leg, period):
     return "leg" if moment == leg else "period" if moment == period else "edge"
 
 
+def edges_of(leg, moment, outside, rect):
+    """The edges at which a leg is at a moment, of those that the end `outside` of it lies beyond."""
+    names = ("left", "right"), ("bottom", "top")
+    met = [
+        name
+        for place, far, (least, most), (below, above) in zip(leg.at(moment), outside, rect, names)
+        for name, edge, is_beyond in ((below, least, far < least), (above, most, far > most))
+        if is_beyond and place == edge
+    ]
+    return "+".join(met)
+
+
 class Wanted:
     """What is to be printed of legs, a rectangle and a period."""
 
     def __init__(self, text, rect, period):
         self.legs, self.places = legs_of(text)
-        self.period = period
+        self.rect, self.period = rect, period
         self.stays = [(leg, leg.stay(rect, period)) for leg in self.legs]
         self.stays = [(leg, *stay) for leg, stay in self.stays if stay]
 
@@ -101,12 +114,14 @@ class Wanted:
         return [first.name, fraction(enters), fraction(leaves), *instants(enters, leaves), *places]
 
     def by_leg(self):
-        yield self.fields("enters_by", "leaves_by")
+        yield self.fields(*ENDS)
         for leg, enters, leaves in self.stays:
             yield [*self.row(leg, enters, leg, leaves), *self.ends(leg, enters, leg, leaves)]
 
     def ends(self, first, enters, last, leaves):
-        return end_of(enters, first.t0, self.period[0]), end_of(leaves, last.t1, self.period[1])
+        begun, ended = end_of(enters, first.t0, self.period[0]), end_of(leaves, last.t1, self.period[1])
+        met = edges_of(first, enters, first.start, self.rect), edges_of(last, leaves, last.end, self.rect)
+        return begun, ended, *(edges if end == "edge" else "" for end, edges in zip((begun, ended), met))
 
     def visits(self):
         """The stays of each feature that go on at once, in the order of their first ones."""
@@ -121,7 +136,7 @@ class Wanted:
         return made
 
     def by_visit(self):
-        yield self.fields("enters_by", "leaves_by", "legs")
+        yield self.fields(*ENDS, "legs")
         for run in self.visits():
             ends = run[0][0], run[0][1], run[-1][0], run[-1][2]
             yield [*self.row(*ends), *self.ends(*ends), str(len(run))]
@@ -165,11 +180,11 @@ class Moments(Asked):
         rows = self.records(*MOUTH)
         row = (
             "Ekko,5130000/7,5130000/7,2024-06-03T09:02:12.857142Z,2024-06-03T09:02:12.857143Z,"
-            "-60.3,0,-60.3,0,edge,edge"
+            "-60.3,0,-60.3,0,edge,edge,left+bottom,top"
         )
         self.assertIn(row.split(","), rows)
         # Delfin is on the line at 09:05:00 alone: its last leg in the period ends there, and the next begins there.
-        self.assertEqual([it[-2:] for it in rows if it[0] == "Delfin"], [["edge", "leg"], ["leg", "period"]])
+        self.assertEqual([it[-4:-2] for it in rows if it[0] == "Delfin"], [["edge", "leg"], ["leg", "period"]])
         self.assertEqual(len(rows), 8)
         corners = [Fraction(it) for it in MOUTH[:4]]
         self.check(text, corners, [600, 900])

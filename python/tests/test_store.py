@@ -143,8 +143,9 @@ class Standard(Case):
     def test_moments(self):
         one, two = self.store.moments(BOX, PERIOD)
         edge = since_1970(80000), since_1970(150000), after(80), after(150), (11.5, 2.5), (12, 3), "edge", "leg"
-        self.assertEqual(one, records.Stay("a", *edge))
+        self.assertEqual(one, records.Stay("a", *edge, edge_in="left+bottom"))
         self.assertEqual((two.leaves, two.place_out, two.leaves_by), (since_1970(160000), (11.5, 3), "edge"))
+        self.assertEqual((two.edge_in, two.edge_out), ("", "left"))
         (visit,) = self.store.visits(BOX, PERIOD)
         self.assertEqual((visit.enters, visit.leaves, visit.legs), (since_1970(80000), since_1970(160000), 2))
         self.assertEqual(list(self.store.dwell(BOX, PERIOD)), [records.Dwell("a", 1, Fraction(80), Fraction(80))])

@@ -6,6 +6,7 @@ import shutil
 import subprocess
 import unittest
 import warnings
+from dataclasses import replace
 from fractions import Fraction
 
 import mftb
@@ -82,6 +83,11 @@ class Forms(Case):
             zones.asked("none.geojson")
 
 
+def without_edges(records):
+    """The records without the edges that are met: only a rectangle's have names."""
+    return [replace(it, edge_in="", edge_out="") if hasattr(it, "edge_in") else it for it in records]
+
+
 @unittest.skipUnless(has_info(), "tools/unproved has made no build yet")
 @unittest.skipUnless(has_zones(), "this program has no zones")
 class Answers(Case):
@@ -97,9 +103,10 @@ class Answers(Case):
         for ask in (
             self.store.visits, self.store.moments, self.store.dwell, self.fleet.visits, self.fleet.dwell
         ):  # fmt: skip
-            self.assertEqual(list(ask(WKT, DAY)), list(ask(NORTH, DAY)))
+            self.assertEqual(without_edges(ask(WKT, DAY)), without_edges(ask(NORTH, DAY)))
             named = ask({"south": SOUTH, "north": NORTH}, DAY)
-            self.assertEqual(list(ask({"south": SOUTH, "north": POLYGON}, DAY)), list(named))
+            mixed = ask({"south": SOUTH, "north": POLYGON}, DAY)
+            self.assertEqual(without_edges(mixed), without_edges(named))
             self.assertEqual({it.zone for it in named}, {"south", "north"})
         for predicate in "ever", "always", "enters", "leaves", "crosses", "bypasses":
             rectangle = list(self.store.features(predicate, NORTH, DAY))

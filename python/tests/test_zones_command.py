@@ -185,7 +185,13 @@ class Zones(Asked):
         words = "store", "far.csv", at(0), at(10)
         self.assertEqual(self.asked("zones", *words)[1], "")
         said = self.asked("zones", "--explain", *words)[1]
-        self.assertTrue(said.startswith("mftb: far: "), said)
+        where = "the zone does not meet x 0 to 10, y 0 to 0, where the store has legs"
+        self.assertEqual(said, f"mftb: far: {where}\n")
+        self.write("far.csv", zones_file({"turned": "POLYGON ((0 3, 0 4, -1 4, 0 3))"}))
+        said = self.asked("zones", "--explain", *words)[1]
+        self.assertEqual(said, f"mftb: turned: {where}; with x and y exchanged its least box would\n")
+        said = self.asked("zones", "--explain", "store", "far.csv", at(0), "noon", status=2)[1]
+        self.assertTrue(said.endswith("mftb: T2 'noon' is no instant, as 2024-01-31T12:00:00Z is\n"), said)
         self.write("none", "")
         self.asked("run", "new", "none")
         self.assertEqual(self.asked("zones", "--explain", "new", *words[1:])[1], "mftb: the store has no legs\n")

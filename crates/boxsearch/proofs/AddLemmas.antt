@@ -22,7 +22,7 @@ use Rattle.tbtree.specs.Shape.{IsShape}
 use Rattle.tbtree.specs.declared.fault.TreeFault.{TreeFault}
 use Rattle.tbtree.specs.declared.tree.Place.{Place}
 use Rattle.boxsearch.specs.Answers.{answered, of_tree}
-use Rattle.boxsearch.specs.Index.{IndexView, words, content, IsSound, IsMarked, with_place}
+use Rattle.boxsearch.specs.Index.{IndexView, words, content, IsSoundIndex, IsMarked, with_place}
 use Rattle.boxsearch.specs.Putting.{Puts}
 use Rattle.tbnode.proofs.LawLemmas.{legs_are_lawful}
 use Rattle.tbtree.proofs.LawLemmas as tree
@@ -42,24 +42,24 @@ module _ (old new : IndexView) (leg : LegView) where
   abbrev longer : List LegView
   longer = content old ++ leg ∷ []
 
-  placed_made : (s : IsSound old) → (f : ℕ) (place : Place) → slice_get (with_place old.places leg.feature) f ≡ Some place → IsPlace old.tree (content old) s.pages f place
+  placed_made : (s : IsSoundIndex old) → (f : ℕ) (place : Place) → slice_get (with_place old.places leg.feature) f ≡ Some place → IsPlace old.tree (content old) s.pages f place
   placed_made s =
       made_places (λ f place. IsPlace old.tree (content old) s.pages f place) old.places leg.feature s.placed
       (tree.absent_is (pages_of_cache old.cache) old.tree (content old) s.pages (length old.places) s.shape s.stands (no_legs (content old) (length old.places) (let n = s.features in omega (arith, n))))
 
   module _ (r : Result (Unit {0}) TreeFault) (p : Puts (made old leg.feature) new leg r) where
-    pub gives : (s : IsSound old) → CanFollow (content old) leg → GivesWrite r (λ _. Inserted (pages_of_cache new.cache) old.tree new.tree (content old) s.pages leg p.is)
+    pub gives : (s : IsSoundIndex old) → CanFollow (content old) leg → GivesWrite r (λ _. Inserted (pages_of_cache new.cache) old.tree new.tree (content old) s.pages leg p.is)
     gives s w = p.inserts s.faithful (content old) s.pages s.stands (placed_made s leg.feature p.was p.found) w
 
-    still_shape : IsSound old → IsShape new.tree.shape
+    still_shape : IsSoundIndex old → IsShape new.tree.shape
     still_shape s = subst (λ shape. IsShape shape) (sym p.shape) s.shape
 
-    longer_content : (s : IsSound old) → Inserted (pages_of_cache new.cache) old.tree new.tree (content old) s.pages leg p.is → content new ≡ longer
+    longer_content : (s : IsSoundIndex old) → Inserted (pages_of_cache new.cache) old.tree new.tree (content old) s.pages leg p.is → content new ≡ longer
     longer_content s i =
         content_is new (p.passes.store.faithful ∙ s.faithful)
         ∙ tree.content_is (pages_of_cache new.cache) new.tree longer i.pages (still_shape s) i.stands
 
-    few_legs : (s : IsSound old) → Inserted (pages_of_cache new.cache) old.tree new.tree (content old) s.pages leg p.is → length longer ≤ 2 ^ 64 - 1
+    few_legs : (s : IsSoundIndex old) → Inserted (pages_of_cache new.cache) old.tree new.tree (content old) s.pages leg p.is → length longer ≤ 2 ^ 64 - 1
     few_legs s i =
         let fits = tree.legs_fit (pages_of_cache new.cache) new.tree longer i.pages (still_shape s) i.stands in
         let most = (still_shape s).most_leaf in
@@ -67,7 +67,7 @@ module _ (old new : IndexView) (leg : LegView) where
         let m : new.cache.count * new.tree.shape.leaf ≤ 2 ^ 32 * 50 = mul-le new.cache.count new.tree.shape.leaf (2 ^ 32) 50 (omega (arith, few)) most in
         omega (arith, fits, m)
 
-    as_many_places : (s : IsSound old) → CanFollow (content old) leg → length new.places ≡ feature_count longer
+    as_many_places : (s : IsSoundIndex old) → CanFollow (content old) leg → length new.places ≡ feature_count longer
     as_many_places s w =
         let n = s.features in
         let low = w.feature in
@@ -76,7 +76,7 @@ module _ (old new : IndexView) (leg : LegView) where
         let c = feature_count-push (content old) leg in
         omega (arith, a, b, c, n)
 
-    new_places : (s : IsSound old) (i : Inserted (pages_of_cache new.cache) old.tree new.tree (content old) s.pages leg p.is) → (f : ℕ) (place : Place) → slice_get new.places f ≡ Some place → IsPlace new.tree longer i.pages f place
+    new_places : (s : IsSoundIndex old) (i : Inserted (pages_of_cache new.cache) old.tree new.tree (content old) s.pages leg p.is) → (f : ℕ) (place : Place) → slice_get new.places f ≡ Some place → IsPlace new.tree longer i.pages f place
     new_places s i f place h =
         let at : slice_get (set (with_place old.places leg.feature) leg.feature p.is) f ≡ Some place = ap (λ (l : List Place). slice_get l f) (sym p.places) ∙ h in
         ⊎_elim
@@ -87,8 +87,8 @@ module _ (old new : IndexView) (leg : LegView) where
         i.others f place u (placed_made s f place (sym (get-set_other (with_place old.places leg.feature) leg.feature f p.is u) ∙ at)))
         (cases_eq f leg.feature)
 
-    sound_after : (s : IsSound old) → CanFollow (content old) leg → Inserted (pages_of_cache new.cache) old.tree new.tree (content old) s.pages leg p.is
-        → new.cache.count ≡ new.cache.store.count → new.tree.spent ≡ false → new.legs ≡ min (old.legs + 1) (2 ^ 64 - 1) → IsSound new
+    sound_after : (s : IsSoundIndex old) → CanFollow (content old) leg → Inserted (pages_of_cache new.cache) old.tree new.tree (content old) s.pages leg p.is
+        → new.cache.count ≡ new.cache.store.count → new.tree.spent ≡ false → new.legs ≡ min (old.legs + 1) (2 ^ 64 - 1) → IsSoundIndex new
     sound_after s w i count works legs =
         let fa = p.passes.store.faithful ∙ s.faithful in
         let e = longer_content s i in
@@ -106,13 +106,13 @@ module _ (old new : IndexView) (leg : LegView) where
         }
 
   -- a leg that is put is at the end of the list
-  pub added : (r : Result (Unit {0}) TreeFault) → Puts (made old leg.feature) new leg r → OnOk (answered (λ fault. of_tree fault) r) (IsSound old → CanFollowInTurn (content old) (leg ∷ []) → Ends words old new (leg ∷ []))
+  pub added : (r : Result (Unit {0}) TreeFault) → Puts (made old leg.feature) new leg r → OnOk (answered (λ fault. of_tree fault) r) (IsSoundIndex old → CanFollowInTurn (content old) (leg ∷ []) → Ends words old new (leg ∷ []))
   added (Ok tt) p = λ s w.
       let i = gives (Ok tt) p s w.0 in
       record { sound = sound_after (Ok tt) p s w.0 i (p.count s.count) p.works p.legs; content = longer_content (Ok tt) p s i }
   added (Err x) p = tt
 
-  pub asked : (r : Result (Unit {0}) TreeFault) → Puts (made old leg.feature) new leg r → OnOk (answered (λ fault. of_tree fault) r) (IsSound old → CanFollowInTurn (content old) (leg ∷ []) → RisesAtMost (min old.cache.asked (2 ^ 64 - 1)) (min new.cache.asked (2 ^ 64 - 1)) (add_bound (Some old.tree.shape) longer))
+  pub asked : (r : Result (Unit {0}) TreeFault) → Puts (made old leg.feature) new leg r → OnOk (answered (λ fault. of_tree fault) r) (IsSoundIndex old → CanFollowInTurn (content old) (leg ∷ []) → RisesAtMost (min old.cache.asked (2 ^ 64 - 1)) (min new.cache.asked (2 ^ 64 - 1)) (add_bound (Some old.tree.shape) longer))
   unfolding add_bound
   asked (Ok tt) p = λ s w.
       let i = gives (Ok tt) p s w.0 in
@@ -122,7 +122,7 @@ module _ (old new : IndexView) (leg : LegView) where
       omega (arith, clamps, h, g, a)
   asked (Err x) p = tt
 
-  allowed : (r : Result (Unit {0}) TreeFault) → Puts (made old leg.feature) new leg r → IfErr r (λ fault. IsSound old → CanFollowInTurn (content old) (leg ∷ []) → MayRefuseWrite fault)
+  allowed : (r : Result (Unit {0}) TreeFault) → Puts (made old leg.feature) new leg r → IfErr r (λ fault. IsSoundIndex old → CanFollowInTurn (content old) (leg ∷ []) → MayRefuseWrite fault)
   allowed (Ok tt) p = tt
   allowed (Err x) p = λ s w. gives (Err x) p s w.0
 
@@ -133,7 +133,7 @@ module _ (old new : IndexView) (leg : LegView) where
       record {
         spent = each_fault say (λ _. new.tree.spent ≡ true) (λ _. new.tree.spent ≡ true) (λ x h. h) r p.spent;
         was_spent = λ e. absurd (true≢false (sym e ∙ works));
-        sound = each_fault say (λ fault. IsSound old → CanFollowInTurn (content old) (leg ∷ []) → MayRefuseWrite fault) (λ fault. IsSound old → CanFollowInTurn (content old) (leg ∷ []) → MayRefuseLeg fault) (λ x h s w. write_allowed x (h s w)) r (allowed r p);
+        sound = each_fault say (λ fault. IsSoundIndex old → CanFollowInTurn (content old) (leg ∷ []) → MayRefuseWrite fault) (λ fault. IsSoundIndex old → CanFollowInTurn (content old) (leg ∷ []) → MayRefuseLeg fault) (λ x h s w. write_allowed x (h s w)) r (allowed r p);
         store = λ e. the_fault (answered say r) (SaidOfLeg old.cache new.cache) index.Store e said;
         full = λ e. the_fault (answered say r) (SaidOfLeg old.cache new.cache) index.StoreFull e said;
       }

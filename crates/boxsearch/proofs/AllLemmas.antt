@@ -9,7 +9,7 @@ use Rattle.legs.specs.declared.index.IndexFault.{IndexFault}
 use Rattle.tbtree.specs.Insert.{IsPlace, Stands}
 use Rattle.tbtree.specs.Joining.{CanTakeInTurn, leaf_by_leaf}
 use Rattle.tbtree.specs.Nodes.{pages_of_cache}
-use Rattle.boxsearch.specs.Index.{IndexView, words, content, IsSound}
+use Rattle.boxsearch.specs.Index.{IndexView, words, content, IsSoundIndex}
 use Rattle.boxsearch.specs.Taking.{HoldsLegs, Taking, taken, ArePlacesOf, AreTurns}
 use Rattle.boxsearch.specs.declared.turns.Turn.{Turn}
 use Rattle.tbnode.proofs.LawLemmas.{legs_are_lawful}
@@ -18,7 +18,7 @@ use Rattle.tbtree.proofs.LegalLemmas.{content_lawful}
 use Rattle.tbtree.proofs.TakenOrder.{reordered, turns_taken}
 use Rattle.boxsearch.proofs.IndexLemmas.{content_is}
 
-pub holds_sound : (i : IndexView) → IsSound i → HoldsLegs i (content i)
+pub holds_sound : (i : IndexView) → IsSoundIndex i → HoldsLegs i (content i)
 holds_sound i s = record {
   faithful = s.faithful;
   works = s.works;
@@ -31,11 +31,11 @@ holds_sound i s = record {
   placed = s.placed;
 }
 
-places_sound : (i : IndexView) → IsSound i → ArePlacesOf i.places (content i)
+places_sound : (i : IndexView) → IsSoundIndex i → ArePlacesOf i.places (content i)
 places_sound i s = record { features = s.features; counts = λ f place e. (s.placed f place e).legs_are }
 
 module _ (old new : IndexView) (legs : List LegView) (turns : List Turn) (are : AreTurns old.places old.tree.shape.leaf legs turns) where
-  can : (s : IsSound old) → CanFollowInTurn (content old) legs → CanTakeInTurn (content old) (taken legs turns)
+  can : (s : IsSoundIndex old) → CanFollowInTurn (content old) legs → CanTakeInTurn (content old) (taken legs turns)
   can s w = subst (λ l. CanTakeInTurn (content old) l) (sym (are (content old) (places_sound old s) s.stands.in_turn w)) (turns_taken old.tree.shape.leaf (content old) legs s.stands.in_turn w)
 
   pub all_added : (r : Result (Unit {0}) IndexFault) → Taking old new (taken legs turns) r → OnOk r (Grows words old new legs)
@@ -71,6 +71,6 @@ module _ (old new : IndexView) (legs : List LegView) (turns : List Turn) (are : 
     full = k.full;
   }
     where
-      refused : (r : Result (Unit {0}) IndexFault) → IfErr r (λ fault. (before : List LegView) → HoldsLegs old before → CanTakeInTurn before (taken legs turns) → MayRefuseLeg fault) → IfErr r (λ fault. IsSound old → CanFollowInTurn (content old) legs → MayRefuseLeg fault)
+      refused : (r : Result (Unit {0}) IndexFault) → IfErr r (λ fault. (before : List LegView) → HoldsLegs old before → CanTakeInTurn before (taken legs turns) → MayRefuseLeg fault) → IfErr r (λ fault. IsSoundIndex old → CanFollowInTurn (content old) legs → MayRefuseLeg fault)
       refused (Ok tt) h = tt
       refused (Err x) h = λ s w. h (content old) (holds_sound old s) (can s w)

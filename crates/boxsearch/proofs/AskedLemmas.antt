@@ -16,7 +16,7 @@ use Rattle.tbtree.specs.declared.fault.TreeFault.{TreeFault}
 use Rattle.legs.specs.declared.index.IndexFault.{IndexFault}
 use Rattle.boxsearch.specs.Answers.{answered, of_tree}
 use Rattle.boxsearch.specs.Beside.{with_cache}
-use Rattle.boxsearch.specs.Index.{IndexView, words, content, IsSound}
+use Rattle.boxsearch.specs.Index.{IndexView, words, content, IsSoundIndex}
 use Rattle.boxsearch.specs.Known.{AreKnown, Widens}
 use Rattle.boxsearch.proofs.IndexLemmas.{reads_leave}
 use Rattle.boxsearch.proofs.KnownLemmas.{known_after, known_of}
@@ -36,15 +36,15 @@ module _ {seen now : IndexView} (view : seen ≡ now) (f : ℕ) {o : Option Plac
     -- what a sound index answers
     pub asked_found : (P : List LegView → ℕ → A → Type 0)
         → (IsTrue seen.cache.store.is_faithful → (legs : List LegView) → HasFeature (pages_of_cache seen.cache) seen.tree.shape place f legs → GivesRead r (P legs f))
-        → IfOk answer (λ value. IsSound now → P (content now) f value)
-    asked_found P gives = of_same (λ i r. IfOk r (λ value. IsSound i → P (content i) f value)) view says (track_found seen f place seen.cache r asked_place P gives)
+        → IfOk answer (λ value. IsSoundIndex now → P (content now) f value)
+    asked_found P gives = of_same (λ i r. IfOk r (λ value. IsSoundIndex i → P (content i) f value)) view says (track_found seen f place seen.cache r asked_place P gives)
 
     -- how many pages it asks for
     pub asked_rises : (Rises : ℕ → ℕ → ℕ → Type 0) → ((a b cost : ℕ) → Rises a b cost → Rises (min a (2 ^ 64 - 1)) (min b (2 ^ 64 - 1)) cost) → (cost : ℕ → ShapeView → List LegView → ℕ) (new : ℕ)
         → (IsTrue seen.cache.store.is_faithful → (legs : List LegView) → HasFeature (pages_of_cache seen.cache) seen.tree.shape place f legs → OnOk r (Rises seen.cache.asked new (cost f seen.tree.shape legs)))
-        → OnOk answer (IsSound now → Rises (min now.cache.asked (2 ^ 64 - 1)) (min new (2 ^ 64 - 1)) (cost f now.tree.shape (content now)))
+        → OnOk answer (IsSoundIndex now → Rises (min now.cache.asked (2 ^ 64 - 1)) (min new (2 ^ 64 - 1)) (cost f now.tree.shape (content now)))
     asked_rises Rises capped cost new asked =
-        of_same (λ i r. OnOk r (IsSound i → Rises (min i.cache.asked (2 ^ 64 - 1)) (min new (2 ^ 64 - 1)) (cost f i.tree.shape (content i)))) view says
+        of_same (λ i r. OnOk r (IsSoundIndex i → Rises (min i.cache.asked (2 ^ 64 - 1)) (min new (2 ^ 64 - 1)) (cost f i.tree.shape (content i)))) view says
         (on_ok (answered (λ fault. of_tree fault) r) (λ rises s. capped seen.cache.asked new (cost f seen.tree.shape (content seen)) (rises s))
         (track_asked seen f place seen.cache r asked_place (λ legs feature. Rises seen.cache.asked new (cost feature seen.tree.shape legs)) asked))
 

@@ -17,13 +17,13 @@ use Rattle.tbtree.specs.declared.tree.Place.{Place}
 use Rattle.tbtree.proofs.LimitLemmas as tree
 use Rattle.boxsearch.specs.Beside.{IsBeside}
 use Rattle.boxsearch.specs.Bounds.{IsBounded}
-use Rattle.boxsearch.specs.Index.{IndexView, content, IsSound}
+use Rattle.boxsearch.specs.Index.{IndexView, content, IsSoundIndex}
 
 all_at : {X : Type 0} (P : X → Type 0) (xs : List X) → ((i : ℕ) (x : X) → slice_get xs i ≡ Some x → P x) → All P xs
 all_at P [] h = All-nil P
 all_at P (x ∷ xs) h = All-cons P x xs (h 0 x refl) (all_at P xs (λ i. h (suc i)))
 
-module _ (index : IndexView) (s : IsSound index) where
+module _ (index : IndexView) (s : IsSoundIndex index) where
   place_is : (f : ℕ) (place : Place) → slice_get index.places f ≡ Some place → limits.IsBoundedPlace (pages_of_cache index.cache) (content index) f place
   place_is f place e = tree.bounded_place (pages_of_cache index.cache) index.tree (content index) s.pages f place s.stands (s.placed f place e)
 
@@ -113,7 +113,7 @@ of_each n (leg ∷ legs) a h =
     let c = of_more 0 n leg legs in
     omega (arith, here, on, c)
 
-pub all_counted : (index : IndexView) → IsSound index → sum_by (λ (place : Place). place.legs) index.places ≡ length (content index)
+pub all_counted : (index : IndexView) → IsSoundIndex index → sum_by (λ (place : Place). place.legs) index.places ≡ length (content index)
 all_counted index s =
     by_places (content index) 0 index.places (λ f place e. place_counts index s f place e ∙ ap (λ k. count_by (is_of k) (content index)) (omega arith))
     ∙ of_each (length index.places) (content index) 0 (let n = s.features in omega (arith, n))

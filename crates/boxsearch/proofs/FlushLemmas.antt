@@ -13,7 +13,7 @@ use Rattle.chains.specs.Reads.{OnlyReads}
 use Rattle.boxsearch.specs.Answers.{answered, of_cache}
 use Rattle.chains.specs.declared.spans.LeafSpan.{LeafSpan}
 use Rattle.boxsearch.specs.Beside.{with_cache}
-use Rattle.boxsearch.specs.Index.{content, IndexView, words, IsMarked, IsSound}
+use Rattle.boxsearch.specs.Index.{content, IndexView, words, IsMarked, IsSoundIndex}
 use Rattle.header.specs.Front.{SaysState}
 use Rattle.boxsearch.proofs.AnswerLemmas.{each_fault, of_each_cache, the_fault, Said}
 
@@ -38,7 +38,7 @@ stopped_said a b = of_each_cache (λ fault. IsStopped fault a b → Said a b (of
 stopped_may : (old : IndexView) (c : Cache) (fault : CacheFault) → IsStopped fault old.cache c → MayRefuse (of_cache fault)
 stopped_may old c = of_each_cache (λ fault. IsStopped fault old.cache c → MayRefuse (of_cache fault)) (λ h. h) (λ h. tt) (λ n h. h) (λ h. h) (λ h. tt)
 
-stopped_allowed : (old : IndexView) (c : Cache) (fault : CacheFault) → IsStopped fault old.cache c → IsSound old → MayRefuse (of_cache fault)
+stopped_allowed : (old : IndexView) (c : Cache) (fault : CacheFault) → IsStopped fault old.cache c → IsSoundIndex old → MayRefuse (of_cache fault)
 stopped_allowed old c fault h s = stopped_may old c fault h
 
 pub flush_refusals : (old : IndexView) (c : Cache) (known : List (List LeafSpan)) (r : Result (Unit {0}) CacheFault) → old.tree.spent ≡ false → IfErr r (λ fault. IsStopped fault old.cache c) → Refusals words old (with_cache old c known) (answered (λ fault. of_cache fault) r)
@@ -46,7 +46,7 @@ flush_refusals old c known r works caused =
     let said = each_fault (λ fault. of_cache fault) (λ fault. IsStopped fault old.cache c) (Said old.cache c) (stopped_said old.cache c) r caused in
     record {
       was_spent = λ e. absurd (true≢false (sym e ∙ works));
-      sound = each_fault (λ fault. of_cache fault) (λ fault. IsStopped fault old.cache c) (λ fault. IsSound old → MayRefuse fault) (stopped_allowed old c) r caused;
+      sound = each_fault (λ fault. of_cache fault) (λ fault. IsStopped fault old.cache c) (λ fault. IsSoundIndex old → MayRefuse fault) (stopped_allowed old c) r caused;
       store = λ e. the_fault (answered (λ fault. of_cache fault) r) (Said old.cache c) index.Store e said;
       full = λ e. the_fault (answered (λ fault. of_cache fault) r) (Said old.cache c) index.StoreFull e said;
     }
@@ -56,7 +56,7 @@ pub flush_works : (old : IndexView) (c : Cache) (r : Result (Unit {0}) CacheFaul
 flush_works old c r caused = each_fault (λ fault. of_cache fault) (λ fault. IsStopped fault old.cache c) MayRefuse (stopped_may old c) r caused
 
 -- page 0 of a sound index is marked, where it says that the store is not finished, and no page is changed
-pub marked_of : (index : IndexView) → IsSound index → IsSettled index.cache → IsClean index.cache → SaysState true (payload_of index.cache 0) → IsMarked index.cache
+pub marked_of : (index : IndexView) → IsSoundIndex index → IsSettled index.cache → IsClean index.cache → SaysState true (payload_of index.cache 0) → IsMarked index.cache
 marked_of index sound settled clean says = record {
   faithful = sound.faithful;
   there = sound.stands.tree_stands.numbers.page_0;
@@ -67,7 +67,7 @@ marked_of index sound settled clean says = record {
 }
 
 -- the legs of a sound index follow one another
-pub in_turn : (index : IndexView) → IsSound index → CanFollowInTurn [] (content index)
+pub in_turn : (index : IndexView) → IsSoundIndex index → CanFollowInTurn [] (content index)
 in_turn index sound = sound.stands.in_turn
 
 pub given_works : (r : Result (Unit {0}) IndexFault) (P : Type 0) → IfErr r MayRefuse → IfErr r (λ fault. P → MayRefuse fault)

@@ -15,7 +15,7 @@ use Rattle.tbtree.specs.Nodes.{pages_of_cache}
 use Rattle.chains.specs.declared.spans.LeafSpan.{LeafSpan}
 use Rattle.boxsearch.specs.Beside.{with_cache}
 use Rattle.boxsearch.specs.Telling.{Tells, Denies}
-use Rattle.boxsearch.specs.Index.{IndexView, words, content, found_by, legs_by, written, IsSound, IsMarked}
+use Rattle.boxsearch.specs.Index.{IndexView, words, content, found_by, legs_by, written, IsSoundIndex, IsMarked}
 
 pub content_is : (i : IndexView) → IsTrue i.cache.store.is_faithful → content i ≡ content_of (pages_of_cache i.cache) i.tree
 content_is i f = ap (λ b. cond b (content_of (pages_of_cache i.cache) i.tree) []) f
@@ -47,7 +47,7 @@ module _ (old : IndexView) (c : Cache) (known : List (List LeafSpan)) (r : OnlyR
         | false ↦ λ f. refl
       ]) refl
 
-  still_sound : IsSound old → IsSound new
+  still_sound : IsSoundIndex old → IsSoundIndex new
   still_sound s =
       let nodes = same_pages old.cache c r s.faithful in
       let legs = same_content in

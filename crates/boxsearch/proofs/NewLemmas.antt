@@ -10,14 +10,14 @@ use Rattle.tbtree.specs.Insert.{Stands}
 use Rattle.tbtree.specs.Nodes.{pages_of_cache}
 use Rattle.tbtree.specs.Shape.{IsShape}
 use Rattle.tbtree.specs.Stands.{empty_tree}
-use Rattle.boxsearch.specs.Index.{content, new_index, IsSound}
+use Rattle.boxsearch.specs.Index.{content, new_index, IsSoundIndex}
 use Rattle.boxsearch.proofs.PlaceLemmas.{some_none}
 
 pub no_content : (cache : Cache) (shape : ShapeView) → content (new_index cache shape) ≡ []
 unfolding found_legs
 no_content cache shape = elim cache.store.is_faithful as (λ b. cond b (content_of (pages_of_cache cache) (empty_tree shape)) [] ≡ []) [ true ↦ refl | false ↦ refl ]
 
-pub new_sound : (cache : Cache) (shape : ShapeView) → IsTrue cache.store.is_faithful → IsShape shape → cache.count ≡ cache.store.count → Stands (pages_of_cache cache) (empty_tree shape) [] (λ _. []) → IsSound (new_index cache shape)
+pub new_sound : (cache : Cache) (shape : ShapeView) → IsTrue cache.store.is_faithful → IsShape shape → cache.count ≡ cache.store.count → Stands (pages_of_cache cache) (empty_tree shape) [] (λ _. []) → IsSoundIndex (new_index cache shape)
 new_sound cache shape f s count stands =
     let e = no_content cache shape in
     record {

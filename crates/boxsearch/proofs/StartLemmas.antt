@@ -18,7 +18,7 @@ use Rattle.tbtree.specs.Descent.{found_legs, node_in}
 use Rattle.tbtree.specs.Insert.{Stands, IsPlace}
 use Rattle.tbtree.specs.Nodes.{pages_of_cache}
 use Rattle.boxsearch.specs.Answers.{answered, of_cache}
-use Rattle.boxsearch.specs.Index.{IndexView, words, content, legs_by, written, IsSound, IsMarked}
+use Rattle.boxsearch.specs.Index.{IndexView, words, content, legs_by, written, IsSoundIndex, IsMarked}
 use Rattle.boxsearch.specs.Marking.{Marks, IsNotMarked}
 use Rattle.pages.specs.declared.payload.Payload.{Payload}
 use Rattle.tbtree.proofs.LawLemmas.{same_found, still_stands}
@@ -48,7 +48,7 @@ module _ (old : IndexView) (c : Cache) (known : List (List LeafSpan)) (b : IsBes
   pub beside_content : content (with_cache old c known) ≡ content old
   beside_content = beside_found (λ _. true)
 
-  pub beside_sound : IsSound old → IsSound (with_cache old c known)
+  pub beside_sound : IsSoundIndex old → IsSoundIndex (with_cache old c known)
   beside_sound s =
       let legs = beside_content in
       record {
@@ -114,7 +114,7 @@ module _ (old : IndexView) (c : Cache) (known : List (List LeafSpan)) (m : Marks
   same_content : content new ≡ content old
   same_content = beside_content old c known beside
 
-  still_sound : IsSound old → IsSound new
+  still_sound : IsSoundIndex old → IsSoundIndex new
   still_sound = beside_sound old c known beside
 
   written_is : (i : IndexView) → IsTrue i.cache.store.is_faithful → written i ≡ pages_as_written i.cache
@@ -144,7 +144,7 @@ module _ (old : IndexView) (c : Cache) (known : List (List LeafSpan)) (m : Marks
 not_marked_said : (a b : Cache) (fault : CacheFault) → IsNotMarked a b fault → Said a b (of_cache fault)
 not_marked_said a b = of_each_cache (λ fault. IsNotMarked a b fault → Said a b (of_cache fault)) (λ h. tt) (λ h. h) (λ n h. tt) (λ h. h) (λ h. tt)
 
-not_marked_allowed : (old : IndexView) (c : Cache) (fault : CacheFault) → IsNotMarked old.cache c fault → IsSound old → MayRefuse (of_cache fault)
+not_marked_allowed : (old : IndexView) (c : Cache) (fault : CacheFault) → IsNotMarked old.cache c fault → IsSoundIndex old → MayRefuse (of_cache fault)
 not_marked_allowed old c cache.NoPage h s = absurd (let t = s.stands.tree_stands.numbers.page_0 in let l = h.0 in omega (arith, t, l))
 not_marked_allowed old c cache.Store h s = tt
 not_marked_allowed old c (cache.Damaged n) h s = s.stands.tree_stands.held 0 s.stands.tree_stands.numbers.page_0 (ap (option_map node_of) (h.1 s.faithful))
@@ -156,7 +156,7 @@ mark_refusals old c known r works caused =
     let said = each_fault (λ fault. of_cache fault) (IsNotMarked old.cache c) (Said old.cache c) (not_marked_said old.cache c) r caused in
     record {
       was_spent = λ e. absurd (true≢false (sym e ∙ works));
-      sound = each_fault (λ fault. of_cache fault) (IsNotMarked old.cache c) (λ fault. IsSound old → MayRefuse fault) (not_marked_allowed old c) r caused;
+      sound = each_fault (λ fault. of_cache fault) (IsNotMarked old.cache c) (λ fault. IsSoundIndex old → MayRefuse fault) (not_marked_allowed old c) r caused;
       store = λ e. the_fault (answered (λ fault. of_cache fault) r) (Said old.cache c) index.Store e said;
       full = λ e. the_fault (answered (λ fault. of_cache fault) r) (Said old.cache c) index.StoreFull e said;
     }

@@ -20,14 +20,14 @@ use Rattle.tbtree.specs.Stands.{no_place}
 use Rattle.tbtree.specs.declared.fault.TreeFault.{TreeFault}
 use Rattle.tbtree.specs.declared.tree.Place.{Place}
 use Rattle.boxsearch.specs.Answers.{answered, of_tree}
-use Rattle.boxsearch.specs.Index.{IndexView, words, content, IsSound}
+use Rattle.boxsearch.specs.Index.{IndexView, words, content, IsSoundIndex}
 use Rattle.boxsearch.proofs.AnswerLemmas.{each_fault, each_value, faults_of, values_of, the_fault, under, under_ok, Said, read_said, read_allowed}
 use Rattle.chains.specs.declared.spans.LeafSpan.{LeafSpan}
 use Rattle.boxsearch.specs.Beside.{with_cache}
 use Rattle.boxsearch.proofs.PlaceLemmas.{some_none}
 
 -- a place of a sound index is its feature's
-pub has_feature : (i : IndexView) (f : ℕ) (place : Place) → IsSound i → slice_get i.places f ≡ Some place → HasFeature (pages_of_cache i.cache) i.tree.shape place f (content i)
+pub has_feature : (i : IndexView) (f : ℕ) (place : Place) → IsSoundIndex i → slice_get i.places f ≡ Some place → HasFeature (pages_of_cache i.cache) i.tree.shape place f (content i)
 has_feature i f place s e = record { tree = i.tree; pages = s.pages; shape_is = refl; stands = s.stands; placed = s.placed f place e }
 
 -- a feature that is not there has no leg
@@ -58,16 +58,16 @@ none_ceil n h = (λ i. zero-div n i + min 1 (zero-mod n i))
 module _ {A : Type 0} (i : IndexView) (f : ℕ) (place : Place) (c : Cache) (r : Result A TreeFault) (found : slice_get i.places f ≡ Some place) where
   pub track_found : (P : List LegView → ℕ → A → Type 0)
       → (IsTrue i.cache.store.is_faithful → (legs : List LegView) → HasFeature (pages_of_cache i.cache) i.tree.shape place f legs → GivesRead r (P legs f))
-      → IfOk (answered (λ fault. of_tree fault) r) (λ value. IsSound i → P (content i) f value)
+      → IfOk (answered (λ fault. of_tree fault) r) (λ value. IsSoundIndex i → P (content i) f value)
   track_found P gives =
-      each_value (λ fault. of_tree fault) (λ value. IsSound i → P (content i) f value) r
+      each_value (λ fault. of_tree fault) (λ value. IsSoundIndex i → P (content i) f value) r
       (under_ok (P (content i) f) r (λ s. values_of (P (content i) f) MayRefuseRead r (gives s.faithful (content i) (has_feature i f place s found))))
 
   pub track_asked : (Q : List LegView → ℕ → Type 0)
       → (IsTrue i.cache.store.is_faithful → (legs : List LegView) → HasFeature (pages_of_cache i.cache) i.tree.shape place f legs → OnOk r (Q legs f))
-      → OnOk (answered (λ fault. of_tree fault) r) (IsSound i → Q (content i) f)
+      → OnOk (answered (λ fault. of_tree fault) r) (IsSoundIndex i → Q (content i) f)
   track_asked Q asked =
-      each_value (λ fault. of_tree fault) (λ value. IsSound i → Q (content i) f) r
+      each_value (λ fault. of_tree fault) (λ value. IsSoundIndex i → Q (content i) f) r
       (under_ok (λ _. Q (content i) f) r (λ s. asked s.faithful (content i) (has_feature i f place s found)))
 
   -- why a retrieval is refused
@@ -78,14 +78,14 @@ module _ {A : Type 0} (i : IndexView) (f : ℕ) (place : Place) (c : Cache) (r :
       let said = each_fault (λ fault. of_tree fault) (RefusesRead i.cache c) (Said i.cache c) (read_said i.cache c) r caused in
       record {
         was_spent = λ e. absurd (true≢false (sym e ∙ works));
-        sound = each_fault (λ fault. of_tree fault) (λ fault. IsSound i → MayRefuseRead fault) (λ fault. IsSound i → MayRefuse fault) (λ x h s. read_allowed x (h s)) r
+        sound = each_fault (λ fault. of_tree fault) (λ fault. IsSoundIndex i → MayRefuseRead fault) (λ fault. IsSoundIndex i → MayRefuse fault) (λ x h s. read_allowed x (h s)) r
             (under MayRefuseRead r (λ s. faults_of (P (content i) f) MayRefuseRead r (gives s.faithful (content i) (has_feature i f place s found))));
         store = λ e. the_fault (answered (λ fault. of_tree fault) r) (Said i.cache c) index.Store e said;
         full = λ e. the_fault (answered (λ fault. of_tree fault) r) (Said i.cache c) index.StoreFull e said;
       }
 
 -- no place, no leg
-pub absent : (i : IndexView) (f : ℕ) → IsSound i → slice_get i.places f ≡ None → legs_of f (content i) ≡ []
+pub absent : (i : IndexView) (f : ℕ) → IsSoundIndex i → slice_get i.places f ≡ None → legs_of f (content i) ≡ []
 absent i f s e =
     no_legs (content i) f
     (⊎_elim
@@ -93,6 +93,6 @@ absent i f s e =
     (λ (l : length i.places ≤ f). let n = s.features in omega (arith, n, l))
     (cases_lt f (length i.places)))
 
-pub absent_cost : (i : IndexView) (f : ℕ) → IsSound i → slice_get i.places f ≡ None → track_cost f (Some i.tree.shape) (content i) ≡ 0
+pub absent_cost : (i : IndexView) (f : ℕ) → IsSoundIndex i → slice_get i.places f ≡ None → track_cost f (Some i.tree.shape) (content i) ≡ 0
 unfolding track_cost
 absent_cost i f s e = ap (λ l. div_ceil (length l) i.tree.shape.leaf) (absent i f s e) ∙ none_ceil i.tree.shape.leaf (let least = s.shape.least_leaf in omega (arith, least))

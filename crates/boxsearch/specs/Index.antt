@@ -56,7 +56,7 @@ written i = if i.cache.store.is_faithful then pages_as_written i.cache else []
 
 -- over a faithful store, all of whose pages its cache counts, and not spent, its pages stand for its legs, which it
 -- counts, and each feature has its place
-pub record IsSound (i : IndexView) : Type 0 where
+pub record IsSoundIndex (i : IndexView) : Type 0 where
   pub faithful : IsTrue i.cache.store.is_faithful
   pub works : i.tree.spent ≡ false
   pub shape : IsShape i.tree.shape
@@ -98,7 +98,7 @@ words = record {
   denies = λ index question page. denies index question page;
   counted = λ index. index.legs;
   features = λ index. length index.places;
-  is_sound = λ index. IsSound index;
+  is_sound = λ index. IsSoundIndex index;
   is_spent = λ index. index.tree.spent;
   faults = λ index. index.cache.store.faults;
   is_store_full = λ index. index.cache.count ≡ index.cache.store.most;

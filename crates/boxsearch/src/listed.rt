@@ -13,7 +13,7 @@ use timebase::Period;
 impl<S: PageStore> Listed for TreeIndex<S> {
     ghost use Rattle.std.specs.Prelude.{IsTrue, Some, length, min, ◌≡◌, ◌-◌, ◌^◌};
     ghost use Rattle.pagecache.specs.Cache.{IsClean};
-    ghost use Rattle.boxsearch.specs.Index.{content, denies, found_by, tells, written, IsSound, IsMarked};
+    ghost use Rattle.boxsearch.specs.Index.{content, denies, found_by, tells, written, IsSoundIndex, IsMarked};
     ghost use Rattle.pages.specs.Store.{IsSynced};
 
     ghost content = { λ index. content index };
@@ -26,7 +26,7 @@ impl<S: PageStore> Listed for TreeIndex<S> {
 
     ghost features = { λ index. length index.places };
 
-    ghost is_sound = { λ index. IsSound index };
+    ghost is_sound = { λ index. IsSoundIndex index };
 
     ghost is_spent = { λ index. index.tree.spent };
 

@@ -7,7 +7,7 @@ ghost use Rattle.tbtree.specs.declared.tree.Place.{Place};
 ghost use Rattle.chains.specs.declared.spans.LeafSpan.{LeafSpan};
 ghost use Rattle.boxsearch.specs.Beside.{with_cache, IsBeside};
 ghost use Rattle.boxsearch.specs.Bounds.{IsBounded};
-ghost use Rattle.boxsearch.specs.Index.{content, IndexView, IsMarked, IsSound};
+ghost use Rattle.boxsearch.specs.Index.{content, IndexView, IsMarked, IsSoundIndex};
 ghost use Rattle.header.specs.Front.{SaysState};
 
 use crate::tree_index::TreeIndex;
@@ -129,7 +129,7 @@ pub fn laws()
         → IsBeside index.cache cache → content (with_cache index cache known) ≡ content index }
     // If the tree's pages say what they said, a sound index stays sound.
     ensures sound { (index : IndexView) (cache : Cache) (known : List (List LeafSpan))
-        → IsBeside index.cache cache → IsSound index → IsSound (with_cache index cache known) }
+        → IsBeside index.cache cache → IsSoundIndex index → IsSoundIndex (with_cache index cache known) }
 
     // A cache is beside another one where each page has the payload that it had.
     ensures alike { (old new : Cache) → new.store.is_faithful ≡ old.store.is_faithful
@@ -138,26 +138,26 @@ pub fn laws()
         → IsBeside old new }
 
     // The legs of a sound one follow one another from the first.
-    ensures in_turn { (index : IndexView) → IsSound index → CanFollowInTurn [] (content index) }
+    ensures in_turn { (index : IndexView) → IsSoundIndex index → CanFollowInTurn [] (content index) }
 
     // Page 0 is marked where it says that the store is not finished, and no page is changed.
-    ensures marked { (index : IndexView) → IsSound index → IsSettled index.cache
+    ensures marked { (index : IndexView) → IsSoundIndex index → IsSettled index.cache
         → IsClean index.cache → SaysState true (payload_of index.cache 0)
         → IsMarked index.cache }
 
     // There is a page 0, which has a payload.
-    ensures some_page { (index : IndexView) → IsSound index → 0 < index.cache.count }
+    ensures some_page { (index : IndexView) → IsSoundIndex index → 0 < index.cache.count }
     // That page has a payload.
-    ensures page_0 { (index : IndexView) → IsSound index → payload_of index.cache 0 ≢ None }
+    ensures page_0 { (index : IndexView) → IsSoundIndex index → payload_of index.cache 0 ≢ None }
 
     // The numbers of an index are those of its pages, and each place counts the legs of its feature.
-    ensures bounds { (index : IndexView) → IsSound index
+    ensures bounds { (index : IndexView) → IsSoundIndex index
         → length (content index) ≤ 2 ^ 31 → IsBounded index }
     // The place of a feature counts the feature's legs.
-    ensures counts { (index : IndexView) → IsSound index → (feature : ℕ) (place : Place)
+    ensures counts { (index : IndexView) → IsSoundIndex index → (feature : ℕ) (place : Place)
         → slice_get index.places feature ≡ Some place
         → place.legs ≡ count_by (is_of feature) (content index) }
     // The places together count all legs.
-    ensures total { (index : IndexView) → IsSound index
+    ensures total { (index : IndexView) → IsSoundIndex index
         → sum_by (λ (place : Place). place.legs) index.places ≡ length (content index) }
 {}

@@ -66,7 +66,7 @@ impl<S: PageStore> TreeIndex<S> {
     ghost use Rattle.pagecache.specs.Cache.{IsSettled, IsWritten};
     ghost use Rattle.tbtree.specs.Nodes.{pages_of_cache};
     ghost use Rattle.chains.specs.Chains.{AreHeld};
-    ghost use Rattle.boxsearch.specs.Index.{content, new_index, words, IsMarked, IsSound, with_place};
+    ghost use Rattle.boxsearch.specs.Index.{content, new_index, words, IsMarked, IsSoundIndex, with_place};
     ghost use Rattle.legs.specs.Asking.{Leaves, Starts, Refusals};
     ghost use Rattle.legs.specs.Index.{MayRefuse};
     ghost use Rattle.chains.specs.Reads.{OnlyReads};
@@ -82,7 +82,7 @@ impl<S: PageStore> TreeIndex<S> {
         ensures empty { content result ≡ [] }
         // It is sound over a faithful store with a page 0, if all pages are sealed and counted.
         ensures sound { IsTrue cache.store.is_faithful → 0 < cache.count
-            → AreHeld (pages_of_cache cache) → cache.count ≡ cache.store.count → IsSound result }
+            → AreHeld (pages_of_cache cache) → cache.count ≡ cache.store.count → IsSoundIndex result }
     {
         prove!(shape.leaf() > 0);
         TreeIndex {

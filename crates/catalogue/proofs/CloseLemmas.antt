@@ -24,13 +24,13 @@ use Rattle.tbtree.specs.Stands.{no_place}
 use Rattle.tbtree.specs.declared.tree.Place.{Place}
 use Rattle.boxsearch.specs.Beside.{IsBeside}
 use Rattle.boxsearch.specs.Bounds.{IsBounded}
-use Rattle.boxsearch.specs.Index.{content, IndexView, IsMarked, IsSound}
+use Rattle.boxsearch.specs.Index.{content, IndexView, IsMarked, IsSoundIndex}
 use Rattle.header.specs.Front.{IsUnfinished, finished}
 use Rattle.catalogue.specs.Closing.{IsNoStoreFault}
 use Rattle.header.proofs.FrontLemmas.{begins_unfinished}
 use Rattle.catalogue.specs.Finishing.{Finishes, IsNotFinished, IsUnwrittenHeader, SaysUnfinished}
 use Rattle.catalogue.specs.Holding.{HoldsBook, IsOfBook, IsUnfinishedStore}
-use Rattle.register.specs.Lasting.{payload_fault, tracks_of, IsKept, IsLawful, IsLawfulFeature, IsWithin, Says}
+use Rattle.register.specs.Lasting.{payload_fault, tracks_of, IsKept, IsLawfulCatalogue, IsLawfulFeature, IsWithin, Says}
 use Rattle.register.specs.Saved.{CatalogueView, KeepsFront}
 use Rattle.register.specs.Saving.{contents_of, end_of, feature_at, features_of, HasFew, IsCatalogue}
 use Rattle.register.specs.Text.{IsWhole}
@@ -121,7 +121,7 @@ pub record PlaceLaws (i : IndexView) : Type 0 where
   pub total : sum_by (λ (place : Place). place.legs) i.places ≡ length (content i)
 
 -- a sound index with the catalogue of its book is lawful
-module _ (c : CatalogueView) (i : IndexView) (book : Book) (laws : PlaceLaws i) (sound : IsSound i) (of : IsOfBook c.limits book c) (legs : content i ≡ book.legs)
+module _ (c : CatalogueView) (i : IndexView) (book : Book) (laws : PlaceLaws i) (sound : IsSoundIndex i) (of : IsOfBook c.limits book c) (legs : content i ≡ book.legs)
     (dated : (head : BookHead) → c.head ≡ Some head → IsMoment head.base) where
   abbrev n : ℕ
   n = length c.tracks.names
@@ -210,7 +210,7 @@ module _ (c : CatalogueView) (i : IndexView) (book : Book) (laws : PlaceLaws i) 
         last = subst (λ (p : Place). p.last < i.cache.count) at place.1;
       }
 
-  pub of_lawful : IsLawful i.cache.count c i.places
+  pub of_lawful : IsLawfulCatalogue i.cache.count c i.places
   of_lawful = record {
     features = fs;
     tracks_are = tracks_are;
@@ -260,8 +260,8 @@ module _ (a b : Cache) (m : IsMarked a) (settled : IsSettled a) (front : KeepsFr
   front_unwritten same = record { written = still_says a b m same; payload = front.payload; is = front.is; unfinished = front_unfinished }
 
 -- a saved index that is finished is held by its store
-module _ (laws : BesideLaws) (states : StateLaw) (c : CatalogueView) (i : IndexView) (book : Book) (new : Cache) (sound : IsSound i) (of : IsOfBook c.limits book c) (legs : content i ≡ book.legs)
-    (lawful : IsLawful i.cache.count c i.places) (within : IsWithin i.cache.count i.tree) (says : Says (payload_of i.cache) i.cache.count c i.tree i.places) (whole : IsWhole (contents_of c i.places))
+module _ (laws : BesideLaws) (states : StateLaw) (c : CatalogueView) (i : IndexView) (book : Book) (new : Cache) (sound : IsSoundIndex i) (of : IsOfBook c.limits book c) (legs : content i ≡ book.legs)
+    (lawful : IsLawfulCatalogue i.cache.count c i.places) (within : IsWithin i.cache.count i.tree) (says : Says (payload_of i.cache) i.cache.count c i.tree i.places) (whole : IsWhole (contents_of c i.places))
     (header : Payload) (is : payload_of i.cache 0 ≡ Some header) (may : MayFinish header)
     (f : Finishes i.cache new) (stored : IsLawfulStore new.store) (faithful : new.store.is_faithful ≡ i.cache.store.is_faithful) where
   abbrev s : Store
@@ -280,7 +280,7 @@ module _ (laws : BesideLaws) (states : StateLaw) (c : CatalogueView) (i : IndexV
         finished = ap payload_fault f.stored_first ∙ was_may.fine;
         within = subst (λ n. IsWithin n i.tree) count within;
         works = sound.works;
-        lawful = subst (λ n. IsLawful n c i.places) count lawful;
+        lawful = subst (λ n. IsLawfulCatalogue n c i.places) count lawful;
       }
 
   at_fresh : (p : ℕ) → payload_of (fresh s 1) p ≡ stored_payload s p

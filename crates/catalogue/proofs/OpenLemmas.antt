@@ -11,7 +11,7 @@ use Rattle.pages.specs.Unsealed.{unsealed}
 use Rattle.chains.specs.Reads.{OnlyReads}
 use Rattle.chains.specs.declared.spans.LeafSpan.{LeafSpan}
 use Rattle.boxsearch.specs.Beside.{with_cache, IsBeside}
-use Rattle.boxsearch.specs.Index.{content, written, IndexView, IsSound}
+use Rattle.boxsearch.specs.Index.{content, written, IndexView, IsSoundIndex}
 use Rattle.tbtree.specs.declared.tree.Place.{Place}
 use Rattle.tbtree.specs.declared.tree.TbTree.{TbTree}
 use Rattle.catalogue.specs.Holding.{index_over, payload_in, AnswersBook, HoldsBook, IsAtRest, IsOfBook}
@@ -70,7 +70,7 @@ module _ (a b : Cache) (reads : OnlyReads a b) (clean : IsWritten a) (count : a.
       module _ (alike : (old new : Cache) → new.store.is_faithful ≡ old.store.is_faithful → new.count ≡ old.count → new.store.count ≡ old.store.count
           → (IsTrue old.store.is_faithful → (n : ℕ) → payload_of new n ≡ payload_of old n) → IsBeside old new)
           (same_content : (i : IndexView) (k : Cache) (known : List (List LeafSpan)) → IsBeside i.cache k → content (with_cache i k known) ≡ content i)
-          (same_sound : (i : IndexView) (k : Cache) (known : List (List LeafSpan)) → IsBeside i.cache k → IsSound i → IsSound (with_cache i k known))
+          (same_sound : (i : IndexView) (k : Cache) (known : List (List LeafSpan)) → IsBeside i.cache k → IsSoundIndex i → IsSoundIndex (with_cache i k known))
           (kept_same : (at : ℕ → Option Payload) (count : ℕ) (c d : CatalogueView) (tree other : TbTree) (places others : List Place) → IsKept at count c tree places → IsKept at count d other others
           → IsSame c d tree other places others)
           (shape : ShapeView) (limits : LimitsView) (book : Book) (h : HoldsBook a.store shape limits book) where
@@ -96,7 +96,7 @@ module _ (a b : Cache) (reads : OnlyReads a b) (clean : IsWritten a) (count : a.
         opened_book = record {
           shape_is = ap (λ (t : TbTree). t.shape) (tree_is ∙ same.tree_is) ∙ h.shape_is;
           of = of;
-          sound = subst IsSound this (same_sound (index_over a.store h.tree h.places (length book.legs)) b index.known beside h.sound);
+          sound = subst IsSoundIndex this (same_sound (index_over a.store h.tree h.places (length book.legs)) b index.known beside h.sound);
           legs = ap (λ i. content i) (sym this) ∙ same_content (index_over a.store h.tree h.places (length book.legs)) b index.known beside ∙ h.legs;
         }
 

@@ -10,11 +10,11 @@ use Rattle.pages.specs.Unsealed.{unsealed}
 use Rattle.pages.specs.declared.payload.Payload.{Payload}
 use Rattle.pagecache.specs.Cache.{fresh, is_changed, page_of, pages_as_written, payload_of, sealed_payload, stored_payload, Cache, KeepsPayloads, Writes}
 use Rattle.legs.specs.Book.{Book}
-use Rattle.boxsearch.specs.Index.{content, IndexView, IsSound}
+use Rattle.boxsearch.specs.Index.{content, IndexView, IsSoundIndex}
 use Rattle.header.specs.Front.{finished}
 use Rattle.catalogue.specs.Finishing.{Finishes, IsLaterCache}
 use Rattle.catalogue.specs.Holding.{HoldsButFirst, IsOfBook}
-use Rattle.register.specs.Lasting.{IsLawful as IsLawfulCatalogue, IsWithin, Says}
+use Rattle.register.specs.Lasting.{IsLawfulCatalogue, IsWithin, Says}
 use Rattle.register.specs.Saved.{CatalogueView, IsWrittenButFirst}
 use Rattle.register.specs.Saving.{contents_of}
 use Rattle.register.specs.Text.{IsWhole}
@@ -106,7 +106,7 @@ module _ (j new : Cache) (but : IsWrittenButFirst j) (faithful : IsTrue j.store.
   }
 
 -- so the store would hold the book with a page 0 that says that it is finished
-module _ (laws : BesideLaws) (states : StateLaw) (c : CatalogueView) (j : IndexView) (book : Book) (new : Cache) (sound : IsSound j) (of : IsOfBook c.limits book c) (legs : content j ≡ book.legs)
+module _ (laws : BesideLaws) (states : StateLaw) (c : CatalogueView) (j : IndexView) (book : Book) (new : Cache) (sound : IsSoundIndex j) (of : IsOfBook c.limits book c) (legs : content j ≡ book.legs)
     (lawful : IsLawfulCatalogue j.cache.count c j.places) (within : IsWithin j.cache.count j.tree) (says : Says (payload_of j.cache) j.cache.count c j.tree j.places) (whole_text : IsWhole (contents_of c j.places))
     (header : Payload) (is : payload_of j.cache 0 ≡ Some header) (may : MayFinish header)
     (but : IsWrittenButFirst j.cache) (there : 0 < j.cache.count) (later : IsLaterCache j.cache new) (stored : IsLawful new.store) (others : SameOthers j.cache new) (synced : IsSyncedButFirst new.store) where

@@ -12,7 +12,7 @@ use Rattle.tbtree.specs.declared.tree.Place.{Place}
 use Rattle.tbtree.specs.declared.tree.TbTree.{TbTree}
 use Rattle.chains.specs.declared.spans.LeafSpan.{LeafSpan}
 use Rattle.boxsearch.specs.Beside.{with_cache, IsBeside}
-use Rattle.boxsearch.specs.Index.{content, found_by, place_of, words, written, IndexView, IsMarked, IsSound}
+use Rattle.boxsearch.specs.Index.{content, found_by, place_of, words, written, IndexView, IsMarked, IsSoundIndex}
 use Rattle.catalogue.specs.Holding.{index_over, payload_in, HoldsBook, IsAtRest, IsOfBook, IsUnfinishedStore}
 use Rattle.header.specs.Front.{with_state}
 use Rattle.register.specs.Lasting.{IsKept, Says}
@@ -21,7 +21,7 @@ use Rattle.register.specs.Saved.{CatalogueView}
 -- the laws of an index that are cited here
 pub record BesideLaws : Type 0 where
   pub content : (index : IndexView) (cache : Cache) (known : List (List LeafSpan)) → IsBeside index.cache cache → content (with_cache index cache known) ≡ content index
-  pub sound : (index : IndexView) (cache : Cache) (known : List (List LeafSpan)) → IsBeside index.cache cache → IsSound index → IsSound (with_cache index cache known)
+  pub sound : (index : IndexView) (cache : Cache) (known : List (List LeafSpan)) → IsBeside index.cache cache → IsSoundIndex index → IsSoundIndex (with_cache index cache known)
   pub alike : (old new : Cache) → new.store.is_faithful ≡ old.store.is_faithful → new.count ≡ old.count → new.store.count ≡ old.store.count
       → (IsTrue old.store.is_faithful → (n : ℕ) → payload_of new n ≡ payload_of old n) → IsBeside old new
 
@@ -96,7 +96,7 @@ unfolding payload_in stored_payload
 stored_in s n = refl
 
 -- a store that keeps a sound index of a book, in pages that say the same, holds the book
-pub book_held : (laws : BesideLaws) (c : CatalogueView) (i : IndexView) (book : Book) (s : Store) → IsKept (stored_payload s) s.count c i.tree i.places → IsBeside i.cache (fresh s 1) → IsSound i → IsOfBook c.limits book c → content i ≡ book.legs
+pub book_held : (laws : BesideLaws) (c : CatalogueView) (i : IndexView) (book : Book) (s : Store) → IsKept (stored_payload s) s.count c i.tree i.places → IsBeside i.cache (fresh s 1) → IsSoundIndex i → IsOfBook c.limits book c → content i ≡ book.legs
     → HoldsBook s i.tree.shape c.limits book
 book_held laws c i book s kept beside sound of legs = record {
   catalogue = c;
@@ -105,13 +105,13 @@ book_held laws c i book s kept beside sound of legs = record {
   kept = kept;
   shape_is = refl;
   of = of;
-  sound = subst (λ n. IsSound (index_over s i.tree i.places n)) (sound.counted ∙ ap length legs) (laws.sound i (fresh s 1) [] beside sound);
+  sound = subst (λ n. IsSoundIndex (index_over s i.tree i.places n)) (sound.counted ∙ ap length legs) (laws.sound i (fresh s 1) [] beside sound);
   legs = laws.content i (fresh s 1) [] beside ∙ legs;
 }
 
 -- at rest the pages of a store hold the book that a sound index and a catalogue are of
 module _ (laws : BesideLaws) (c : CatalogueView) (i : IndexView) (book : Book) (f : IsTrue i.cache.store.is_faithful) (lawful : IsLawful i.cache.store) (settled : IsSettled i.cache)
-    (rest : IsAtRest c i) (sound : IsSound i) (of : IsOfBook c.limits book c) (legs : content i ≡ book.legs) where
+    (rest : IsAtRest c i) (sound : IsSoundIndex i) (of : IsOfBook c.limits book c) (legs : content i ≡ book.legs) where
   abbrev s : Store
   s = i.cache.store
 

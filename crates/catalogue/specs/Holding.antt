@@ -11,7 +11,7 @@ use Rattle.pages.specs.declared.payload.Payload.{Payload}
 use Rattle.pagecache.specs.Cache.{fresh, stored_payload, IsClean}
 use Rattle.tbtree.specs.declared.tree.Place.{Place}
 use Rattle.tbtree.specs.declared.tree.TbTree.{TbTree}
-use Rattle.boxsearch.specs.Index.{content, written, IndexView, IsSound}
+use Rattle.boxsearch.specs.Index.{content, written, IndexView, IsSoundIndex}
 use Rattle.header.specs.Front.{IsUnfinished}
 use Rattle.register.specs.Lasting.{IsKept}
 use Rattle.register.specs.Saved.{CatalogueView}
@@ -45,7 +45,7 @@ pub record HoldsBook (s : Store) (shape : ShapeView) (limits : LimitsView)
   pub kept : IsKept (stored_payload s) s.count catalogue tree places
   pub shape_is : tree.shape ≡ shape
   pub of : IsOfBook limits book catalogue
-  pub sound : IsSound (index_over s tree places (length book.legs))
+  pub sound : IsSoundIndex (index_over s tree places (length book.legs))
   pub legs : content (index_over s tree places (length book.legs)) ≡ book.legs
 
 -- all pages of a store but page 0 are those of one that holds a book, and are synced
@@ -74,5 +74,5 @@ pub record AnswersBook (shape : ShapeView) (limits : LimitsView) (book : Book) (
     (index : IndexView) : Type 0 where
   pub shape_is : index.tree.shape ≡ shape
   pub of : IsOfBook limits book c
-  pub sound : IsSound index
+  pub sound : IsSoundIndex index
   pub legs : content index ≡ book.legs

@@ -4,7 +4,7 @@ ghost use Rattle.pages.specs.Sealed.{sealed};
 ghost use Rattle.pages.specs.Unsealed.{unsealed};
 ghost use Rattle.pages.specs.Store.{Faulted, IsSynced, Keeps, Writes};
 ghost use Rattle.pagecache.specs.Cache.{IsClean, IsWritten, payload_of};
-ghost use Rattle.boxsearch.specs.Index.{content, IsMarked, IsSound};
+ghost use Rattle.boxsearch.specs.Index.{content, IsMarked, IsSoundIndex};
 ghost use Rattle.register.specs.ChainWriter.{IsAllowed};
 ghost use Rattle.catalogue.specs.Beginning.{IsCaused, IsFirst, IsLeft, IsLeftOver};
 ghost use Rattle.header.specs.Fields.{header_payload};
@@ -76,7 +76,7 @@ pub fn begin<S: PageStore>(
     // That page is synced, and no sync of the store ever failed.
     ensures synced { IfOk result (λ index. IsSynced index.cache.store) }
     // Over a faithful store the index is sound.
-    ensures sound { IfOk result (λ index. IsTrue (S.seen store).is_faithful → IsSound index) }
+    ensures sound { IfOk result (λ index. IsTrue (S.seen store).is_faithful → IsSoundIndex index) }
     // Over a faithful store page 0 as written says that the store is not finished.
     ensures marked { IfOk result (λ index. IsTrue (S.seen store).is_faithful
         → IsMarked index.cache) }

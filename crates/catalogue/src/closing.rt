@@ -6,7 +6,7 @@ ghost use Rattle.pages.specs.Store.{IsLawful, IsSynced, IsSyncedButFirst, Keeps}
 ghost use Rattle.pagecache.specs.Cache.{IsSettled};
 ghost use Rattle.timebase.specs.Instant.{IsMoment};
 ghost use Rattle.boxsearch.specs.Beside.{with_cache};
-ghost use Rattle.boxsearch.specs.Index.{content, IsMarked, IsSound};
+ghost use Rattle.boxsearch.specs.Index.{content, IsMarked, IsSoundIndex};
 ghost use Rattle.catalogue.specs.Closing.{IsClosingFault, IsNoStoreFault};
 ghost use Rattle.catalogue.specs.Holding.{HoldsBook, HoldsButFirst, IsOfBook, IsUnfinishedStore};
 ghost use Rattle.register.specs.Saving.{IsSavingStop, IsCaused};
@@ -47,17 +47,17 @@ fn save_and_finish<S: PageStore>(
     catalogue: &Catalogue,
     index: &mut TreeIndex<S>,
 ) -> Result<(), CatalogueFault>
-    ensures holds { OnOk result (IsLawful index.new.cache.store → IsSound index.old
+    ensures holds { OnOk result (IsLawful index.new.cache.store → IsSoundIndex index.old
         → IsMarked index.old.cache → (book : Book)
         → IsOfBook catalogue.now.limits book catalogue.now → content index.old ≡ book.legs
         → HoldsBook index.new.cache.store index.old.tree.shape catalogue.now.limits book) }
     ensures synced { OnOk result (IsSynced index.new.cache.store) }
-    ensures only { IfErr result (λ fault. IsSound index.old → (book : Book)
+    ensures only { IfErr result (λ fault. IsSoundIndex index.old → (book : Book)
         → IsOfBook catalogue.now.limits book catalogue.now → content index.old ≡ book.legs
         → IsSavingStop fault) }
     ensures unfinished { IfErr result (λ fault. IsNoStoreFault fault → IsMarked index.old.cache
         → IsUnfinishedStore index.new.cache.store) }
-    ensures refused { OnErr result (IsLawful index.new.cache.store → IsSound index.old
+    ensures refused { OnErr result (IsLawful index.new.cache.store → IsSoundIndex index.old
         → IsMarked index.old.cache → (book : Book)
         → IsOfBook catalogue.now.limits book catalogue.now → content index.old ≡ book.legs
         → IsUnfinishedStore index.new.cache.store
@@ -89,14 +89,14 @@ pub fn close<S: PageStore>(
     mut index: TreeIndex<S>,
 ) -> (S, Result<(), CatalogueFault>)
     // The store then holds the book that index and catalogue are of.
-    ensures holds { OnOk result.1 (IsSound index → IsMarked index.cache → (book : Book)
+    ensures holds { OnOk result.1 (IsSoundIndex index → IsMarked index.cache → (book : Book)
         → IsOfBook catalogue.now.limits book catalogue.now → content index ≡ book.legs
         → HoldsBook (S.seen result.0) index.tree.shape catalogue.now.limits book) }
 
     // After `Ok` every page is synced, and no sync of the store ever failed.
     ensures synced { OnOk result.1 (IsSynced (S.seen result.0)) }
     // Closing the index of a book fails only if memory runs out, or the store fails or is full.
-    ensures only { IfErr result.1 (λ fault. IsSound index → (book : Book)
+    ensures only { IfErr result.1 (λ fault. IsSoundIndex index → (book : Book)
         → IsOfBook catalogue.now.limits book catalogue.now → content index ≡ book.legs
         → IsSavingStop fault) }
     // If memory runs out or the store is full, a marked store says that it is not finished.
@@ -104,7 +104,7 @@ pub fn close<S: PageStore>(
         → IsUnfinishedStore (S.seen result.0)) }
 
     // Before page 0 may say that the store is finished, all else is written and synced.
-    ensures refused { OnErr result.1 (IsSound index → IsMarked index.cache → (book : Book)
+    ensures refused { OnErr result.1 (IsSoundIndex index → IsMarked index.cache → (book : Book)
         → IsOfBook catalogue.now.limits book catalogue.now → content index ≡ book.legs
         → IsUnfinishedStore (S.seen result.0)
         ⊎ HoldsButFirst (S.seen result.0) index.tree.shape catalogue.now.limits book) }

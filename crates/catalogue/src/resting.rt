@@ -4,7 +4,7 @@ ghost use Rattle.legs.specs.Asking.{Leaves};
 ghost use Rattle.legs.specs.Book.{Book};
 ghost use Rattle.pages.specs.Store.{IsLawful, Store};
 ghost use Rattle.pagecache.specs.Cache.{payload_of, stored_payload, Cache, IsSettled};
-ghost use Rattle.boxsearch.specs.Index.{content, words, IndexView, IsMarked, IsSound};
+ghost use Rattle.boxsearch.specs.Index.{content, words, IndexView, IsMarked, IsSoundIndex};
 ghost use Rattle.header.specs.Front.{SaysState};
 ghost use Rattle.catalogue.specs.Holding.{HoldsBook, IsAtRest, IsOfBook, IsUnfinishedStore};
 ghost use Rattle.register.specs.Lasting.{first_fault};
@@ -21,7 +21,7 @@ pub fn laws()
     // At rest the pages of a store hold the book that catalogue and index are of.
     ensures holds { (c : CatalogueView) (index : IndexView) (book : Book)
         → IsTrue index.cache.store.is_faithful → IsLawful index.cache.store → IsSettled index.cache
-        → IsAtRest c index → IsSound index → IsOfBook c.limits book c → content index ≡ book.legs
+        → IsAtRest c index → IsSoundIndex index → IsOfBook c.limits book c → content index ≡ book.legs
         → HoldsBook index.cache.store index.tree.shape c.limits book }
 
     // At rest page 0 is the header of a finished store, and where it is marked of one that is not.

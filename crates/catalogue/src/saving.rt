@@ -3,7 +3,7 @@ ghost use Rattle.std.specs.Prelude.{ℕ, ◌≡◌, ◌≢◌, ◌<◌, false, I
 ghost use Rattle.pages.specs.Store.{NoneUnsynced};
 ghost use Rattle.pagecache.specs.Cache.{is_changed, page_of, payload_of};
 ghost use Rattle.boxsearch.specs.Beside.{with_cache, IsBeside};
-ghost use Rattle.boxsearch.specs.Index.{content, IsSound};
+ghost use Rattle.boxsearch.specs.Index.{content, IsSoundIndex};
 ghost use Rattle.register.specs.Lasting.{Says};
 ghost use Rattle.register.specs.Saved.{Continues, IsWrittenButFirst, KeepsFront, SparesTree};
 ghost use Rattle.register.specs.Saving.{contents_of, HasFew, IsSavingStop, IsCatalogue, IsCaused};
@@ -64,7 +64,7 @@ pub fn save<S: PageStore>(
     // After `Ok` the index has the same legs.
     ensures content { OnOk result (content index.new ≡ content index.old) }
     // After `Ok` a sound index is sound.
-    ensures sound { OnOk result (IsSound index.old → IsSound index.new) }
+    ensures sound { OnOk result (IsSoundIndex index.old → IsSoundIndex index.new) }
     // With a page 0, and few features and rows, it fails only if memory runs out, or the store
     // fails or is full.
     ensures only { HasFew catalogue.now → IsTrue index.old.cache.store.is_faithful

@@ -10,8 +10,8 @@ use Rattle.pages.specs.declared.payload.Kind.{Kind}
 use Rattle.pages.specs.declared.payload.Kind.TheVariants.{Header, Leaf, Inner, Catalogue}
 use Rattle.pages.specs.declared.payload.Payload.{Payload}
 use Rattle.pagecache.specs.Cache.{Cache, payload_of}
-use Rattle.tbnode.specs.Form.{node_of, node_by, is_leaf, is_inner, leaf_of, inner_of, is_leg_at, leg_at, leg_count}
-use Rattle.tbnode.specs.Layout.{is_leg, has_moments, leg_of}
+use Rattle.tbnode.specs.Form.{node_of, node_by, is_leaf, is_inner, leaf_from_bytes, inner_of, is_leg_at, leaf_leg, leaf_leg_count}
+use Rattle.tbnode.specs.Layout.{is_leg, has_moments, leg_from_bytes}
 use Rattle.tbnode.specs.Parts.{all_below, slot}
 use Rattle.tbtree.specs.Nodes.{Node, ALeaf, AnInner, LeafView, pages_of_cache}
 use Rattle.legs.proofs.GroupLemmas.{some_none, some_same}
@@ -39,23 +39,23 @@ all_below-at p (suc n) i e h =
     (λ ge. let s : n ≡ i = omega arith in ap p (sym s) ∙ and_right (all_below p n) (p n) e)
     (cases_lt i n)
 
-leg_rises : (bytes : List ℕ) (i : ℕ) → is_leg_at bytes i ≡ true → Rises (leg_at bytes i)
-unfolding is_leg_at is_leg has_moments leg_of
+leg_rises : (bytes : List ℕ) (i : ℕ) → is_leg_at bytes i ≡ true → Rises (leaf_leg bytes i)
+unfolding is_leg_at is_leg has_moments leg_from_bytes
 leg_rises bytes i e =
     let one = and_left (is_leg (slot 80 i bytes)) _ e in
     let moments = and_left _ _ (and_left _ _ (and_left _ _ one)) in
-    lt_rises (leg_at bytes i).t0 (leg_at bytes i).t1 (and_left _ _ (and_left _ _ moments))
+    lt_rises (leaf_leg bytes i).t0 (leaf_leg bytes i).t1 (and_left _ _ (and_left _ _ moments))
 
-all_legs : (bytes : List ℕ) → is_leaf bytes ≡ true → all_below (is_leg_at bytes) (leg_count bytes) ≡ true
+all_legs : (bytes : List ℕ) → is_leaf bytes ≡ true → all_below (is_leg_at bytes) (leaf_leg_count bytes) ≡ true
 unfolding is_leaf
-all_legs bytes e = and_right _ (all_below (is_leg_at bytes) (leg_count bytes)) e
+all_legs bytes e = and_right _ (all_below (is_leg_at bytes) (leaf_leg_count bytes)) e
 
-leaf_rises : (bytes : List ℕ) → is_leaf bytes ≡ true → All Rises (leaf_of bytes).legs
-unfolding leaf_of
+leaf_rises : (bytes : List ℕ) → is_leaf bytes ≡ true → All Rises (leaf_from_bytes bytes).legs
+unfolding leaf_from_bytes
 leaf_rises bytes e = λ k d b.
-    let n = leg_count bytes in
-    let within : k < n = let l = length-map-range_with_len (leg_at bytes) 0 n in omega (arith, b, l) in
-    let is = get_or-map-range_with_len (leg_at bytes) 0 n k k d within (omega arith) in
+    let n = leaf_leg_count bytes in
+    let within : k < n = let l = length-map-range_with_len (leaf_leg bytes) 0 n in omega (arith, b, l) in
+    let is = get_or-map-range_with_len (leaf_leg bytes) 0 n k k d within (omega arith) in
     subst Rises (sym is) (leg_rises bytes k (all_below-at (is_leg_at bytes) n k (all_legs bytes e) within))
 
 abbrev leaf_node : LeafView LegView → Node LegView BoxView
@@ -79,7 +79,7 @@ no_leaf false page leaf h e = some_none (leaf_node leaf) (sym e)
 
 kind_rises : (kind : Kind) (bytes : List ℕ) (leaf : LeafView LegView) → node_by kind bytes ≡ Some (ALeaf leaf) → All Rises leaf.legs
 kind_rises Header bytes leaf e = absurd (some_none (leaf_node leaf) (sym e))
-kind_rises Leaf bytes leaf e = by_form (is_leaf bytes) (leaf_of bytes) leaf (leaf_rises bytes) e
+kind_rises Leaf bytes leaf e = by_form (is_leaf bytes) (leaf_from_bytes bytes) leaf (leaf_rises bytes) e
 kind_rises Inner bytes leaf e = absurd (no_leaf (is_inner bytes) (AnInner (inner_of bytes)) leaf (λ z. z) e)
 kind_rises Catalogue bytes leaf e = absurd (some_none (leaf_node leaf) (sym e))
 

@@ -10,9 +10,9 @@ use Rattle.std.proofs.lemmas.List.FromFn.{length-map-range_with_len}
 use Rattle.mfcsv.specs.declared.File.{File}
 use Rattle.mfcsv.specs.Views.{RecordView, IsRecord, leg_count}
 use Rattle.legs.specs.Legs.{LegView}
-use Rattle.legs.specs.Limits.{LimitsView, IsLimits, most}
+use Rattle.legs.specs.Limits.{LimitsView, IsLimits, greatest_limit}
 use Rattle.legs.specs.Index.{feature_count, last_end, is_of}
-use Rattle.legs.specs.Book.{Book, leg_at, record_legs, records_legs, with_record, with_records, with_file, has_fault, faults_of, record_faults, head_faults, file_faults, first_or, joined}
+use Rattle.legs.specs.Book.{Book, leg_added, record_legs, records_legs, with_record, with_records, with_file, has_join_fault, join_faults_of, record_faults, head_faults, file_faults, legs_or_fault, joined}
 use Rattle.legs.specs.Tracks.{TracksView, IsLawful, StandsFor}
 use Rattle.legs.specs.Counting.{names_after, Extends, AddsNames, counted}
 use Rattle.legs.specs.Joining.{IsJoinedBy, JoinedView}
@@ -42,15 +42,15 @@ kept_nil : {X : Type 0} (b : Bool) (x : X) (xs : List X) → cond b (x ∷ xs) x
 kept_nil true x xs e = absurd (let s : x ∷ xs ≡ [] = e in (cc))
 kept_nil false x xs e = (refl, e)
 
-pub faultless : (limits : LimitsView) (b : Book) (r : RecordView) → faults_of limits b r ≡ [] → (has_fault limits b r F19 ≡ false) × (has_fault limits b r F20 ≡ false)
-unfolding faults_of
+pub faultless : (limits : LimitsView) (b : Book) (r : RecordView) → join_faults_of limits b r ≡ [] → (has_join_fault limits b r F19 ≡ false) × (has_join_fault limits b r F20 ≡ false)
+unfolding join_faults_of
 faultless limits b r e =
-    let one = kept_nil (has_fault limits b r F18) F18 (filter (has_fault limits b r) (F19 ∷ F20 ∷ [])) e in
-    let two = kept_nil (has_fault limits b r F19) F19 (filter (has_fault limits b r) (F20 ∷ [])) one.1 in
-    let three = kept_nil (has_fault limits b r F20) F20 [] two.1 in
+    let one = kept_nil (has_join_fault limits b r F18) F18 (filter (has_join_fault limits b r) (F19 ∷ F20 ∷ [])) e in
+    let two = kept_nil (has_join_fault limits b r F19) F19 (filter (has_join_fault limits b r) (F20 ∷ [])) one.1 in
+    let three = kept_nil (has_join_fault limits b r F20) F20 [] two.1 in
     (two.0, three.0)
 
-pub few_after : (limits : LimitsView) (b : Book) (r : RecordView) → IsLimits limits → faults_of limits b r ≡ [] → (length (with_record b r).legs ≤ most) × (length (with_record b r).names ≤ most)
+pub few_after : (limits : LimitsView) (b : Book) (r : RecordView) → IsLimits limits → join_faults_of limits b r ≡ [] → (length (with_record b r).legs ≤ greatest_limit) × (length (with_record b r).names ≤ greatest_limit)
 few_after limits b r is e =
     let free = faultless limits b r e in
     let legs : length (with_record b r).legs ≤ limits.legs = grind (arith, nat_tests) in
@@ -66,7 +66,7 @@ pub record IsAccepted (b : Book) (records : List RecordView) : Type 0 where
   pub enough : length records ≤ length (records_legs b records)
 
 pub one_leg : (b : Book) (r : RecordView) → IsRecord r → 1 ≤ length (record_legs b r)
-one_leg b r is = omega (arith, length-map-range_with_len (leg_at b r) 0 (leg_count (length r.positions)), (leg_count-some (length r.positions) is.placed).1)
+one_leg b r is = omega (arith, length-map-range_with_len (leg_added b r) 0 (leg_count (length r.positions)), (leg_count-some (length r.positions) is.placed).1)
 
 pub accepted_records : (limits : LimitsView) → IsLimits limits → (records : List RecordView) (b : Book) → All IsRecord records → IsLawful b → record_faults limits b records ≡ [] → IsAccepted b records
 accepted_records limits is [] b all lawful none = record {
@@ -77,8 +77,8 @@ accepted_records limits is [] b all lawful none = record {
   enough = omega arith;
 }
 accepted_records limits is (r ∷ records) b all lawful none =
-    let here = map_nil (λ code. (code, r.number)) (faults_of limits b r) (first_nil (map (λ code. (code, r.number)) (faults_of limits b r)) (record_faults limits (with_record b r) records) none) in
-    let behind = second_nil (map (λ code. (code, r.number)) (faults_of limits b r)) (record_faults limits (with_record b r) records) none in
+    let here = map_nil (λ code. (code, r.number)) (join_faults_of limits b r) (first_nil (map (λ code. (code, r.number)) (join_faults_of limits b r)) (record_faults limits (with_record b r) records) none) in
+    let behind = second_nil (map (λ code. (code, r.number)) (join_faults_of limits b r)) (record_faults limits (with_record b r) records) none in
     let valid = All-head IsRecord r records all in
     let few = few_after limits b r is here in
     let next = lawful_more b r valid lawful few.0 few.1 in
@@ -92,7 +92,7 @@ accepted_records limits is (r ∷ records) b all lawful none =
       enough = omega (arith, others.enough, one_leg b r valid, length-append (record_legs b r) (records_legs (with_record b r) records));
     }
 
-pub first_or_ok : (faults : List (JoinCode × ℕ)) (all legs : List LegView) → first_or faults all ≡ Ok legs → (faults ≡ []) × (all ≡ legs)
+pub first_or_ok : (faults : List (JoinCode × ℕ)) (all legs : List LegView) → legs_or_fault faults all ≡ Ok legs → (faults ≡ []) × (all ≡ legs)
 first_or_ok [] all legs e = (refl, cc)
 first_or_ok (fault ∷ faults) all legs e = absurd (cc)
 
@@ -122,7 +122,7 @@ count_by-absent : (legs : List LegView) (f : ℕ) → feature_count legs ≤ f �
 count_by-absent legs f h = sym (length-filter (is_of f) legs) ∙ ap length (legs_of-absent legs f h)
 
 -- the code counts a leg
-so_far_more : (tracks : List Track) (legs : List LegView) (leg : LegView) → length legs < most → AreSoFar tracks legs → AreSoFar (counted tracks leg) (legs ++ leg ∷ [])
+so_far_more : (tracks : List Track) (legs : List LegView) (leg : LegView) → length legs < greatest_limit → AreSoFar tracks legs → AreSoFar (counted tracks leg) (legs ++ leg ∷ [])
 so_far_more tracks legs leg few so_far f d h =
     let n = length-set tracks leg.feature (record { end = leg.t1; legs = min ((get_or tracks leg.feature (record { end = leg.t1; legs = 0 })).legs + 1) (2 ^ 64 - 1) }) in
     let inside : f < length tracks = omega arith in
@@ -153,7 +153,7 @@ pub length-counted : (tracks : List Track) (legs : List LegView) → length (fol
 length-counted tracks [] = refl
 length-counted tracks (leg ∷ legs) = length-counted (counted tracks leg) legs ∙ length-set tracks leg.feature (record { end = leg.t1; legs = min ((get_or tracks leg.feature (record { end = leg.t1; legs = 0 })).legs + 1) (2 ^ 64 - 1) })
 
-so_far_all : (tracks : List Track) (before legs : List LegView) → length (before ++ legs) ≤ most → AreSoFar tracks before → AreSoFar (fold counted tracks legs) (before ++ legs)
+so_far_all : (tracks : List Track) (before legs : List LegView) → length (before ++ legs) ≤ greatest_limit → AreSoFar tracks before → AreSoFar (fold counted tracks legs) (before ++ legs)
 so_far_all tracks before [] few so_far = rw (append-nil before) so_far
 so_far_all tracks before (leg ∷ legs) few so_far =
     let n = length-append before (leg ∷ legs) in

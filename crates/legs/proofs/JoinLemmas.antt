@@ -11,7 +11,7 @@ use Rattle.mfcsv.specs.Views.{RecordView, IsRecord}
 use Rattle.legs.specs.Legs.{LegView}
 use Rattle.legs.specs.Limits.{LimitsView}
 use Rattle.legs.specs.Index.{CanFollowInTurn}
-use Rattle.legs.specs.Book.{Book, file_of, names_with, record_legs, records_legs, with_record, with_records, with_file, has_fault, faults_of, record_faults, head_faults, first_or, joined, same_columns, same_space}
+use Rattle.legs.specs.Book.{Book, file_of, names_with, record_legs, records_legs, with_record, with_records, with_file, has_join_fault, join_faults_of, record_faults, head_faults, legs_or_fault, joined, same_columns, same_space}
 use Rattle.legs.specs.FirstFault.{IsFirst, IsFirstOf}
 use Rattle.legs.specs.Counting.{names_after}
 use Rattle.legs.specs.Drafts.{IsDraft}
@@ -28,12 +28,12 @@ use Rattle.legs.proofs.NameLemmas.{cases_bool}
 use Rattle.legs.proofs.RecordLemmas.{with_record-legs, with_record-names, with_record-rows, follows_record, follow_append}
 
 -- without a fault the first test fails
-pub free_of : (limits : LimitsView) (b : Book) (r : RecordView) → faults_of limits b r ≡ [] → has_fault limits b r F18 ≡ false
-unfolding faults_of
+pub free_of : (limits : LimitsView) (b : Book) (r : RecordView) → join_faults_of limits b r ≡ [] → has_join_fault limits b r F18 ≡ false
+unfolding join_faults_of
 free_of limits b r e =
-    elim (cases_bool (has_fault limits b r F18)) [
+    elim (cases_bool (has_join_fault limits b r F18)) [
       | inl t ↦ absurd (
-          let s : F18 ∷ filter (has_fault limits b r) (F19 ∷ F20 ∷ []) ≡ [] = sym (ap (λ u. cond u (F18 ∷ filter (has_fault limits b r) (F19 ∷ F20 ∷ [])) (filter (has_fault limits b r) (F19 ∷ F20 ∷ []))) t) ∙ e in
+          let s : F18 ∷ filter (has_join_fault limits b r) (F19 ∷ F20 ∷ []) ≡ [] = sym (ap (λ u. cond u (F18 ∷ filter (has_join_fault limits b r) (F19 ∷ F20 ∷ [])) (filter (has_join_fault limits b r) (F19 ∷ F20 ∷ []))) t) ∙ e in
           (cc)
           )
       | inr t ↦ t
@@ -59,7 +59,7 @@ with_records-names book (r ∷ records) = with_records-names (with_record book r
 faults-append : (limits : LimitsView) (book : Book) (records more : List RecordView) → record_faults limits book (records ++ more) ≡ record_faults limits book records ++ record_faults limits (with_records book records) more
 faults-append limits book [] more = refl
 faults-append limits book (r ∷ records) more =
-    let here : List (JoinCode × ℕ) = map (λ code. (code, r.number)) (faults_of limits book r) in
+    let here : List (JoinCode × ℕ) = map (λ code. (code, r.number)) (join_faults_of limits book r) in
     ap (λ (fs : List (JoinCode × ℕ)). here ++ fs) (faults-append limits (with_record book r) records more)
     ∙ sym (append_assoc here (record_faults limits (with_record book r) records) (record_faults limits (with_records (with_record book r) records) more))
 
@@ -71,7 +71,7 @@ legs-append book (r ∷ records) more =
 
 -- one more is joined
 pub one_joined : (limits : LimitsView) (book : Book) (records : List RecordView) (r : RecordView) (legs legs' : List LegView) (d d' : Draft) → AreJoined limits book records legs d → IsRecord r
-    → faults_of limits (with_records book records) r ≡ [] → IsDraft d' (with_record (with_records book records) r) → legs' ≡ legs ++ record_legs (with_records book records) r → d'.names.names ≡ names_with d.names.names r.mfidref
+    → join_faults_of limits (with_records book records) r ≡ [] → IsDraft d' (with_record (with_records book records) r) → legs' ≡ legs ++ record_legs (with_records book records) r → d'.names.names ≡ names_with d.names.names r.mfidref
     → AreJoined limits book (records ++ r ∷ []) legs' d'
 one_joined limits book records r legs legs' d d' are is none draft more names =
     let now : Book = with_records book records in
@@ -89,7 +89,7 @@ one_joined limits book records r legs legs' d d' are is none draft more names =
     }
 
 -- a fault is met, and stays the first
-pub first_met : (limits : LimitsView) (book : Book) (records : List RecordView) (r : RecordView) (fault : JoinFault) → record_faults limits book records ≡ [] → IsFirstOf fault (faults_of limits (with_records book records) r) r.number
+pub first_met : (limits : LimitsView) (book : Book) (records : List RecordView) (r : RecordView) (fault : JoinFault) → record_faults limits book records ≡ [] → IsFirstOf fault (join_faults_of limits (with_records book records) r) r.number
     → IsFirst fault (record_faults limits book (records ++ r ∷ []))
 first_met limits book records r Memory none first = tt
 first_met limits book records r (Refused code number) none first =
@@ -119,7 +119,7 @@ no_fault limits book records joiner None n j = (refl, j)
 no_fault limits book records joiner (Some fault) n j = absurd (cc)
 
 pub joining_more : (limits : LimitsView) (book : Book) (records : List RecordView) (r : RecordView) (old new : JoiningView) → is_some old.fault ≡ false → IsJoining limits old book records → new.limits ≡ old.limits → new.fault ≡ old.fault
-    → new.draft.tracks.now ≡ old.draft.tracks.now → IsRecord r → ((now : Book) → IsDraft old.draft now → faults_of old.limits now r ≡ []) → ((now : Book) → IsDraft old.draft now → IsDraft new.draft (with_record now r))
+    → new.draft.tracks.now ≡ old.draft.tracks.now → IsRecord r → ((now : Book) → IsDraft old.draft now → join_faults_of old.limits now r ≡ []) → ((now : Book) → IsDraft old.draft now → IsDraft new.draft (with_record now r))
     → ((now : Book) → IsDraft old.draft now → new.legs ≡ old.legs ++ record_legs now r) → new.draft.names.names ≡ names_with old.draft.names.names r.mfidref → IsJoining limits new book (records ++ r ∷ [])
 joining_more limits book records r old new free is same fault tracks valid none draft legs names =
     let p = no_fault limits book records old old.fault free is.joined in
@@ -131,7 +131,7 @@ joining_more limits book records r old new free is same fault tracks valid none 
     }
 
 pub joining_met : (limits : LimitsView) (book : Book) (records : List RecordView) (r : RecordView) (old new : JoiningView) (fault : JoinFault) → is_some old.fault ≡ false → IsJoining limits old book records → new.limits ≡ old.limits → new.fault ≡ Some fault
-    → new.draft.tracks.now ≡ old.draft.tracks.now → ((now : Book) → IsDraft old.draft now → IsFirstOf fault (faults_of old.limits now r) r.number) → IsJoining limits new book (records ++ r ∷ [])
+    → new.draft.tracks.now ≡ old.draft.tracks.now → ((now : Book) → IsDraft old.draft now → IsFirstOf fault (join_faults_of old.limits now r) r.number) → IsJoining limits new book (records ++ r ∷ [])
 joining_met limits book records r old new fault free is same met tracks first =
     let p = no_fault limits book records old old.fault free is.joined in
     record {
@@ -177,9 +177,9 @@ all_joined limits book head records joiner first base count is none same headed 
     let n = length-append book.rows (map (λ (r : RecordView). r.attributes) records) in
     let m = length-map records (λ (r : RecordView). r.attributes) in
     record {
-      legs = ap (λ o. first_or (head_faults o head ++ record_faults limits book records) (records_legs book records)) same
-          ∙ ap (λ (fs : List (JoinCode × ℕ)). first_or (fs ++ record_faults limits book records) (records_legs book records)) headed
-          ∙ ap (λ fs. first_or fs (records_legs book records)) are.faultless ∙ ap Ok are.all;
+      legs = ap (λ o. legs_or_fault (head_faults o head ++ record_faults limits book records) (records_legs book records)) same
+          ∙ ap (λ (fs : List (JoinCode × ℕ)). legs_or_fault (fs ++ record_faults limits book records) (records_legs book records)) headed
+          ∙ ap (λ fs. legs_or_fault fs (records_legs book records)) are.faultless ∙ ap Ok are.all;
       follow = are.follow;
       names = are.names;
       fresh = ap (λ names. names_and names (fresh_names (length names) joiner.draft.names.names joiner.draft.names.latest)) (sym is.stands.names) ∙ are.draft_of.fresh ∙ with_records-names book records;

@@ -13,7 +13,7 @@ use Rattle.legs.specs.declared.head.BookHead.{BookHead}
 use Rattle.mfcsv.specs.Views.{RecordView, IsRecord, leg_count}
 use Rattle.legs.specs.Legs.{LegView}
 use Rattle.legs.specs.Limits.{LimitsView, IsLimits}
-use Rattle.legs.specs.Book.{Book, number_of, names_with, leg_at, record_legs, with_record, with_records, with_file, head_with, faults_of, record_faults, joined}
+use Rattle.legs.specs.Book.{Book, feature_number, names_with, leg_added, record_legs, with_record, with_records, with_file, head_with, join_faults_of, record_faults, joined}
 use Rattle.legs.specs.Tracks.{IsLawful}
 use Rattle.legs.specs.Law.{IsName, IsThere, IsOrdered, IsBook}
 use Rattle.legs.proofs.NameLemmas.{known_or_new, names_with-known, names_with-new, text_self, any_is_first, length-names_with}
@@ -45,8 +45,8 @@ other_at (n ∷ ns) name none zero d h = λ same.
     (cc)
 other_at (n ∷ ns) name none (suc k) d h = other_at ns name (or_false (bytes_eq name n) (list_any (bytes_eq name) ns) none).1 k d (omega arith)
 
-pub other_name : (names : List (List ℕ)) (name : List ℕ) → number_of names name ≡ length names → (k : ℕ) (d : List ℕ) → k < length names → get_or names k d ≢ name
-other_name names name new = other_at names name (any_is_first (bytes_eq name) names ∙ (let l : ltb (number_of names name) (length names) ≡ false = grind (arith, nat_tests) in l))
+pub other_name : (names : List (List ℕ)) (name : List ℕ) → feature_number names name ≡ length names → (k : ℕ) (d : List ℕ) → k < length names → get_or names k d ≢ name
+other_name names name new = other_at names name (any_is_first (bytes_eq name) names ∙ (let l : ltb (feature_number names name) (length names) ≡ false = grind (arith, nat_tests) in l))
 
 named_more : (names : List (List ℕ)) (name : List ℕ) → IsName name → All IsName names → All IsName (names_with names name)
 named_more names name is all =
@@ -70,13 +70,13 @@ names_longer names name =
     ]
 
 -- the legs of a record have their feature and their row in the book with it
-pub first_there : (b : Book) (r : RecordView) (n : ℕ) → All (IsThere (with_record b r)) (map (leg_at b r) (range_with_len 0 n))
+pub first_there : (b : Book) (r : RecordView) (n : ℕ) → All (IsThere (with_record b r)) (map (leg_added b r) (range_with_len 0 n))
 first_there b r n =
-    let feature : number_of b.names r.mfidref < length (with_record b r).names = rw (with_record-names b r) (length-names_with b.names r.mfidref) in
+    let feature : feature_number b.names r.mfidref < length (with_record b r).names = rw (with_record-names b r) (length-names_with b.names r.mfidref) in
     let row : length b.rows < length (with_record b r).rows = omega (arith, ap length (with_record-rows b r) ∙ length_push b.rows r.attributes) in
-    All-map (IsThere (with_record b r)) (leg_at b r) (range_with_len 0 n) (λ k d h. record { feature = feature; row = row })
+    All-map (IsThere (with_record b r)) (leg_added b r) (range_with_len 0 n) (λ k d h. record { feature = feature; row = row })
 
-ordered_more : (limits : LimitsView) (b : Book) (r : RecordView) → IsLimits limits → IsRecord r → IsOrdered limits b → faults_of limits b r ≡ [] → IsOrdered limits (with_record b r)
+ordered_more : (limits : LimitsView) (b : Book) (r : RecordView) → IsLimits limits → IsRecord r → IsOrdered limits b → join_faults_of limits b r ≡ [] → IsOrdered limits (with_record b r)
 ordered_more limits b r is valid law none =
     let free = faultless limits b r none in
     let few = few_after limits b r is none in
@@ -109,8 +109,8 @@ ordered_more limits b r is valid law none =
 ordered_all : (limits : LimitsView) → IsLimits limits → (records : List RecordView) (b : Book) → All IsRecord records → IsOrdered limits b → record_faults limits b records ≡ [] → IsOrdered limits (with_records b records)
 ordered_all limits is [] b all law none = law
 ordered_all limits is (r ∷ records) b all law none =
-    let here = map_nil (λ code. (code, r.number)) (faults_of limits b r) (first_nil (map (λ code. (code, r.number)) (faults_of limits b r)) (record_faults limits (with_record b r) records) none) in
-    let behind = second_nil (map (λ code. (code, r.number)) (faults_of limits b r)) (record_faults limits (with_record b r) records) none in
+    let here = map_nil (λ code. (code, r.number)) (join_faults_of limits b r) (first_nil (map (λ code. (code, r.number)) (join_faults_of limits b r)) (record_faults limits (with_record b r) records) none) in
+    let behind = second_nil (map (λ code. (code, r.number)) (join_faults_of limits b r)) (record_faults limits (with_record b r) records) none in
     ordered_all limits is records (with_record b r) (All-tail IsRecord r records all) (ordered_more limits b r is (All-head IsRecord r records all) law here) behind
 
 -- a book with a file has a head

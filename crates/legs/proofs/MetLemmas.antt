@@ -8,7 +8,7 @@ use Rattle.std.proofs.lemmas.Bool.Decides.{nat_tests}
 use Rattle.std.proofs.lemmas.Grind.{fold-append}
 use Rattle.std.proofs.lemmas.Option.{slice_get-get_or, slice_get_within, get_or_from_slice_get}
 use Rattle.std.proofs.lemmas.List.{append-nil, length_push, get_or_append_left, get_or-append_right, get_or-set_same, get_or-set_other, length-set, length-take-le, take_more}
-use Rattle.legs.specs.Book.{feature_of, number_of, names_with}
+use Rattle.legs.specs.Book.{feature_named, feature_number, names_with}
 use Rattle.legs.specs.Names.{NamesView, fresh_names, met, names_and, with_latest}
 use Rattle.legs.specs.declared.draft.Latest.{Latest}
 use Rattle.legs.proofs.CountLemmas.{key_added}
@@ -18,21 +18,21 @@ abbrev names_view : List (List ℕ) → List Latest → NamesView
 names_view names latest = record { names = names; latest = latest }
 
 -- a name that has a place is there, and one that has none is new
-pub placed : (names : List (List ℕ)) (name : List ℕ) (i : ℕ) → Some i ≡ feature_of names name → (number_of names name < length names) × (i ≡ number_of names name)
+pub placed : (names : List (List ℕ)) (name : List ℕ) (i : ℕ) → Some i ≡ feature_named names name → (feature_number names name < length names) × (i ≡ feature_number names name)
 placed names name i e =
     elim (known_or_new names name) [
-      | inl there ↦ (there, let s : Some i ≡ Some (number_of names name) = e ∙ feature_of-known names name there in cc)
+      | inl there ↦ (there, let s : Some i ≡ Some (feature_number names name) = e ∙ feature_of-known names name there in cc)
       | inr new ↦ absurd (let s : Some i ≡ None = e ∙ feature_of-new names name (omega arith) in (cc))
     ]
 
-pub unplaced : (names : List (List ℕ)) (name : List ℕ) → None ≡ feature_of names name → number_of names name ≡ length names
+pub unplaced : (names : List (List ℕ)) (name : List ℕ) → None ≡ feature_named names name → feature_number names name ≡ length names
 unplaced names name e =
     elim (known_or_new names name) [
-      | inl there ↦ absurd (let s : Some (number_of names name) ≡ None = sym (feature_of-known names name there) ∙ sym e in (cc))
+      | inl there ↦ absurd (let s : Some (feature_number names name) ≡ None = sym (feature_of-known names name there) ∙ sym e in (cc))
       | inr new ↦ new
     ]
 
-pub with_latest-names : (place : Option ℕ) (v : NamesView) (name : List ℕ) (last : Latest) → place ≡ feature_of v.names name → (with_latest place v name last).names ≡ names_with v.names name
+pub with_latest-names : (place : Option ℕ) (v : NamesView) (name : List ℕ) (last : Latest) → place ≡ feature_named v.names name → (with_latest place v name last).names ≡ names_with v.names name
 with_latest-names (Some i) v name last e = sym (names_with-known v.names name (placed v.names name i e).0)
 with_latest-names None v name last e = sym (names_with-new v.names name (unplaced v.names name e))
 
@@ -41,7 +41,7 @@ with_latest-paired (Some i) v name last e = length-set v.latest i last ∙ e
 with_latest-paired None v name last e = omega (arith, length_push v.latest last, length_push v.names name, e)
 
 -- the latest of that name, and of the others
-at_name : (place : Option ℕ) (v : NamesView) (name : List ℕ) (last : Latest) → place ≡ feature_of v.names name → length v.latest ≡ length v.names → slice_get (with_latest place v name last).latest (number_of v.names name) ≡ Some last
+at_name : (place : Option ℕ) (v : NamesView) (name : List ℕ) (last : Latest) → place ≡ feature_named v.names name → length v.latest ≡ length v.names → slice_get (with_latest place v name last).latest (feature_number v.names name) ≡ Some last
 at_name (Some i) v name last e paired =
     let p = placed v.names name i e in
     let inside : i < length v.latest = omega arith in
@@ -50,9 +50,9 @@ at_name (Some i) v name last e paired =
 at_name None v name last e paired =
     let n = unplaced v.names name e in
     let long = length_push v.latest last in
-    slice_get-get_or (v.latest ++ last ∷ []) (number_of v.names name) last (omega (arith, long)) ∙ ap Some (get_or-append_right v.latest (last ∷ []) (length v.latest) (number_of v.names name) last refl (omega arith) ∙ (grind (arith)))
+    slice_get-get_or (v.latest ++ last ∷ []) (feature_number v.names name) last (omega (arith, long)) ∙ ap Some (get_or-append_right v.latest (last ∷ []) (length v.latest) (feature_number v.names name) last refl (omega arith) ∙ (grind (arith)))
 
-at_other : (place : Option ℕ) (v : NamesView) (name : List ℕ) (last : Latest) (k : ℕ) → place ≡ feature_of v.names name → length v.latest ≡ length v.names → k < length v.names → k ≢ number_of v.names name
+at_other : (place : Option ℕ) (v : NamesView) (name : List ℕ) (last : Latest) (k : ℕ) → place ≡ feature_named v.names name → length v.latest ≡ length v.names → k < length v.names → k ≢ feature_number v.names name
     → slice_get (with_latest place v name last).latest k ≡ slice_get v.latest k
 at_other (Some i) v name last k e paired inside other =
     let p = placed v.names name i e in
@@ -64,19 +64,19 @@ at_other None v name last k e paired inside other =
     slice_get-get_or (v.latest ++ last ∷ []) k last (omega (arith, long)) ∙ ap Some (get_or_append_left v.latest (last ∷ []) last k (omega arith)) ∙ sym (slice_get-get_or v.latest k last (omega arith))
 
 -- what they tell then
-pub met_more : (place : Option ℕ) (v : NamesView) (name : List ℕ) (last : Latest) → place ≡ feature_of v.names name → length v.latest ≡ length v.names → (other : List ℕ)
+pub met_more : (place : Option ℕ) (v : NamesView) (name : List ℕ) (last : Latest) → place ≡ feature_named v.names name → length v.latest ≡ length v.names → (other : List ℕ)
     → met (with_latest place v name last) other ≡ cond (bytes_eq name other) (Some last) (met v other)
 met_more place v name last e paired other =
     let found : Option ℕ → Option Latest = option_and_then (slice_get (with_latest place v name last).latest) in
-    ap (λ ns. found (feature_of ns other)) (with_latest-names place v name last e) ∙ elim (cases_bool (bytes_eq name other)) [
+    ap (λ ns. found (feature_named ns other)) (with_latest-names place v name last e) ∙ elim (cases_bool (bytes_eq name other)) [
       | inl same ↦
-          ap (λ o. found (feature_of (names_with v.names name) o)) (sym (text_same name other same)) ∙ ap found (feature_of-with_same v.names name) ∙ at_name place v name last e paired
+          ap (λ o. found (feature_named (names_with v.names name) o)) (sym (text_same name other same)) ∙ ap found (feature_of-with_same v.names name) ∙ at_name place v name last e paired
           ∙ sym (ap (λ b. cond b (Some last) (met v other)) same)
       | inr differs ↦
           ap found (feature_of-with_other v.names name other differs) ∙ elim (known_or_new v.names other) [
             | inl there ↦
-                let ne : number_of v.names other ≢ number_of v.names name = λ s. absurd (let t : bytes_eq name other ≡ true = ap (bytes_eq name) (same_number v.names other name there s) ∙ text_self name in (cc)) in
-                ap found (feature_of-known v.names other there) ∙ at_other place v name last (number_of v.names other) e paired there ne ∙ sym (ap (option_and_then (slice_get v.latest)) (feature_of-known v.names other there))
+                let ne : feature_number v.names other ≢ feature_number v.names name = λ s. absurd (let t : bytes_eq name other ≡ true = ap (bytes_eq name) (same_number v.names other name there s) ∙ text_self name in (cc)) in
+                ap found (feature_of-known v.names other there) ∙ at_other place v name last (feature_number v.names other) e paired there ne ∙ sym (ap (option_and_then (slice_get v.latest)) (feature_of-known v.names other there))
             | inr absent ↦
                 let none = feature_of-new v.names other (omega arith) in
                 ap found none ∙ sym (ap (option_and_then (slice_get v.latest)) none)
@@ -120,13 +120,13 @@ and-longer names [] = omega arith
 and-longer names (name ∷ more) = omega (arith, with-longer names name, and-longer (names_with names name) more)
 
 -- a name that has no place stands in no list
-pub absent : (names : List (List ℕ)) (name : List ℕ) → feature_of names name ≡ None → list_any (bytes_eq name) names ≡ false
+pub absent : (names : List (List ℕ)) (name : List ℕ) → feature_named names name ≡ None → list_any (bytes_eq name) names ≡ false
 absent names name e =
     let n = unplaced names name (sym e) in
     any_is_first (bytes_eq name) names ∙ grind (arith, nat_tests)
 
 -- a name was pushed with its latest
-pub pushed : (keys keys' : List (String Global)) (latest latest' : List Latest) (key : String Global) (name : List ℕ) (last : Latest) → feature_of (map string_bytes keys) name ≡ None → string_bytes key ≡ name
+pub pushed : (keys keys' : List (String Global)) (latest latest' : List Latest) (key : String Global) (name : List ℕ) (last : Latest) → feature_named (map string_bytes keys) name ≡ None → string_bytes key ≡ name
     → keys' ≡ cond (list_any (string_eq key) keys) keys (keys ++ key ∷ []) → latest' ≡ latest ++ last ∷ [] → length latest ≡ length keys
     → (length latest' ≡ length keys') × ((map string_bytes keys' ≡ map string_bytes keys ++ name ∷ []) × (latest' ≡ latest ++ last ∷ []))
 pushed keys keys' latest latest' key name last none named inserted more paired =

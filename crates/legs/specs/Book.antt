@@ -30,25 +30,25 @@ abbrev pub empty_book : Book
 empty_book = record { head = None; names = []; legs = []; rows = [] }
 
 -- the number of a name, if it is there
-abbrev pub feature_of : List (List ℕ) → List ℕ → Option ℕ
-feature_of names name = position (bytes_eq name) names
+abbrev pub feature_named : List (List ℕ) → List ℕ → Option ℕ
+feature_named names name = position (bytes_eq name) names
 
 -- the number of a name; a new one gets the next
-abbrev pub number_of : List (List ℕ) → List ℕ → ℕ
-number_of names name = position_or_len (bytes_eq name) names
+abbrev pub feature_number : List (List ℕ) → List ℕ → ℕ
+feature_number names name = position_or_len (bytes_eq name) names
 
 -- the names, with that one
 abbrev pub names_with : List (List ℕ) → List ℕ → List (List ℕ)
 names_with names name = if list_any (bytes_eq name) names then names else names ++ name ∷ []
 
 -- leg k of a record, in a book
-abbrev pub leg_at : Book → RecordView → ℕ → LegView
-leg_at book r k =
-    leg_of (length book.legs + k) (number_of book.names r.mfidref) (length book.rows) (step_at r k)
+abbrev pub leg_added : Book → RecordView → ℕ → LegView
+leg_added book r k =
+    leg_of (length book.legs + k) (feature_number book.names r.mfidref) (length book.rows) (step_at r k)
 
 -- the legs of a record, in a book
 abbrev pub record_legs : Book → RecordView → List LegView
-record_legs book r = map (leg_at book r) (range_with_len 0 (leg_count (length r.positions)))
+record_legs book r = map (leg_added book r) (range_with_len 0 (leg_count (length r.positions)))
 
 -- the book with a record more
 unfoldable pub with_record : Book → RecordView → Book
@@ -90,7 +90,7 @@ with_file book file =
 -- when the last leg of a name ends
 abbrev pub name_end : Book → List ℕ → Option ℤ
 name_end book name =
-    option_and_then (λ feature. last_end feature book.legs) (feature_of book.names name)
+    option_and_then (λ feature. last_end feature book.legs) (feature_named book.names name)
 
 -- a moment is before an end
 abbrev pub is_before : ℤ → Option ℤ → Bool
@@ -98,22 +98,22 @@ is_before at (Some end) = int_lt at end
 is_before at None = false
 
 -- whether a joining fault holds of a record, given the book with the records before it
-abbrev pub has_fault : LimitsView → Book → RecordView → JoinCode → Bool
-has_fault limits book r F9 = false
-has_fault limits book r F10 = false
-has_fault limits book r F18 = is_before r.t0 (name_end book r.mfidref)
-has_fault limits book r F19 = nat_lt limits.legs (length (with_record book r).legs)
-has_fault limits book r F20 = nat_lt limits.features (length (with_record book r).names)
+abbrev pub has_join_fault : LimitsView → Book → RecordView → JoinCode → Bool
+has_join_fault limits book r F9 = false
+has_join_fault limits book r F10 = false
+has_join_fault limits book r F18 = is_before r.t0 (name_end book r.mfidref)
+has_join_fault limits book r F19 = nat_lt limits.legs (length (with_record book r).legs)
+has_join_fault limits book r F20 = nat_lt limits.features (length (with_record book r).names)
 
 -- the joining faults of a record, in the order of the table
-unfoldable pub faults_of : LimitsView → Book → RecordView → List JoinCode
-faults_of limits book r = filter (has_fault limits book r) (F18 ∷ F19 ∷ F20 ∷ [])
+unfoldable pub join_faults_of : LimitsView → Book → RecordView → List JoinCode
+join_faults_of limits book r = filter (has_join_fault limits book r) (F18 ∷ F19 ∷ F20 ∷ [])
 
 -- all joining faults of records, with their numbers
 abbrev pub record_faults : LimitsView → Book → List RecordView → List (JoinCode × ℕ)
 record_faults limits book [] = []
 record_faults limits book (r ∷ records) =
-    map (λ code. (code, r.number)) (faults_of limits book r)
+    map (λ code. (code, r.number)) (join_faults_of limits book r)
     ++ record_faults limits (with_record book r) records
 
 -- two columns have the same name and the same type
@@ -150,13 +150,13 @@ file_faults limits book file =
     head_faults book.head file.head ++ record_faults limits book file.records
 
 -- the first fault, if there is one; else the legs
-abbrev pub first_or : List (JoinCode × ℕ) → List LegView → Result (List LegView) (JoinCode × ℕ)
-first_or [] legs = Ok legs
-first_or (fault ∷ faults) legs = Err fault
+abbrev pub legs_or_fault : List (JoinCode × ℕ) → List LegView → Result (List LegView) (JoinCode × ℕ)
+legs_or_fault [] legs = Ok legs
+legs_or_fault (fault ∷ faults) legs = Err fault
 
 -- the legs by which a file is joined to a book, or the first joining fault
 abbrev pub joined : LimitsView → Book → File → Result (List LegView) (JoinCode × ℕ)
-joined limits book file = first_or (file_faults limits book file) (records_legs book file.records)
+joined limits book file = legs_or_fault (file_faults limits book file) (records_legs book file.records)
 
 -- the book after a file: with its legs, or as it was at a fault
 abbrev pub book_after : LimitsView → Book → File → Book

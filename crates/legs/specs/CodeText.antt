@@ -4,9 +4,9 @@ use Rattle.legs.specs.declared.joining.JoinCode.{JoinCode}
 use Rattle.legs.specs.declared.joining.JoinCode.TheVariants.{F9, F10, F18, F19, F20}
 
 -- the code of a joining fault, as it is printed
-abbrev pub code_text : JoinCode → List ℕ
-code_text F9 = codes "F9"
-code_text F10 = codes "F10"
-code_text F18 = codes "F18"
-code_text F19 = codes "F19"
-code_text F20 = codes "F20"
+abbrev pub join_code_text : JoinCode → List ℕ
+join_code_text F9 = codes "F9"
+join_code_text F10 = codes "F10"
+join_code_text F18 = codes "F18"
+join_code_text F19 = codes "F19"
+join_code_text F20 = codes "F20"

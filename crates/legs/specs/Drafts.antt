@@ -2,7 +2,7 @@
 use Rattle.std.specs.Prelude.{ℕ, ◌≡◌, ◌≤◌, ◌^◌, List, length, slice_get, Option}
 use Rattle.std.specs.Option.{option_and_then, option_map, option_or}
 use Rattle.legs.specs.Index.{last_end}
-use Rattle.legs.specs.Book.{Book, feature_of}
+use Rattle.legs.specs.Book.{Book, feature_named}
 use Rattle.legs.specs.Names.{met, names_and, fresh_names}
 use Rattle.legs.specs.Tracks.{TracksView, IsLawful}
 use Rattle.legs.specs.declared.draft.Latest.{Latest}
@@ -13,14 +13,14 @@ abbrev pub latest_of : Book → List ℕ → Option Latest
 latest_of book name =
     option_and_then
     (λ feature. option_map (λ end. record { feature = feature; end = end })
-    (last_end feature book.legs)) (feature_of book.names name)
+    (last_end feature book.legs)) (feature_named book.names name)
 
 -- the latest of a name, in tracks
 abbrev pub latest_in : TracksView → List ℕ → Option Latest
 latest_in tracks name =
     option_and_then
     (λ feature. option_map (λ track. record { feature = feature; end = track.end })
-    (slice_get tracks.tracks feature)) (feature_of tracks.names name)
+    (slice_get tracks.tracks feature)) (feature_named tracks.names name)
 
 -- what a draft knows of a name: by a record of the file, or else by the tracks
 unfoldable pub known : Draft → List ℕ → Option Latest

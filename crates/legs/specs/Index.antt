@@ -27,10 +27,6 @@ live_legs_of feature period legs = filter (is_live period) (legs_of feature legs
 abbrev pub feature_count : List LegView → ℕ
 feature_count legs = fold (λ count leg. max count (leg.feature + 1)) 0 legs
 
--- how many there are once these legs came, where there were so many
-abbrev pub features_after : ℕ → List LegView → ℕ
-features_after features legs = fold (λ count leg. max count (leg.feature + 1)) features legs
-
 -- none of the legs skips a feature: each is of one that is there, or of the next one
 abbrev pub SkipNone : (features : ℕ) → List LegView → Type 0
 SkipNone features [] = Unit {0}
@@ -41,11 +37,6 @@ SkipNone features (leg ∷ legs) =
 abbrev pub last_end : ℕ → List LegView → Option ℤ
 last_end feature legs =
     fold (λ end leg. if leg.feature == feature then Some leg.t1 else end) None legs
-
--- the last leg of a feature
-abbrev pub last_leg_of : ℕ → List LegView → Option LegView
-last_leg_of feature legs =
-    fold (λ last leg. if leg.feature == feature then Some leg else last) None legs
 
 -- a leg may be put at the end of the list
 pub record CanFollow (legs : List LegView) (leg : LegView) : Type 0 where

@@ -1,7 +1,7 @@
 -- The names that a file has, and what is known of each.
 use Rattle.std.specs.Prelude.{ℕ, nat_le, if◌then◌else◌, List, [], ◌∷◌, ◌++◌, fold, Option, Some, None, slice_set, slice_get}
 use Rattle.std.specs.Option.{option_and_then}
-use Rattle.legs.specs.Book.{feature_of, names_with}
+use Rattle.legs.specs.Book.{feature_named, names_with}
 use Rattle.legs.specs.declared.draft.Latest.{Latest}
 
 -- the names of a file in order of first appearance, and of each the number of its feature and the
@@ -23,7 +23,7 @@ names_and names others = fold names_with names others
 
 -- what they tell of a name
 abbrev pub met : NamesView → List ℕ → Option Latest
-met names name = option_and_then (slice_get names.latest) (feature_of names.names name)
+met names name = option_and_then (slice_get names.latest) (feature_named names.names name)
 
 -- a name that has that place, or none yet, is last known so
 abbrev pub with_latest : Option ℕ → NamesView → List ℕ → Latest → NamesView

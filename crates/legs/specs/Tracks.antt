@@ -3,7 +3,7 @@ use Rattle.std.specs.Prelude.{ℕ, ◌≡◌, ◌<◌, ◌<ℤ◌, ◌≤◌, Li
 use Rattle.timebase.specs.Period.{PeriodView}
 use Rattle.legs.specs.Legs.{LegView}
 use Rattle.legs.specs.Index.{feature_count, last_end, is_of}
-use Rattle.legs.specs.Limits.{most}
+use Rattle.legs.specs.Limits.{greatest_limit}
 use Rattle.legs.specs.Book.{Book}
 use Rattle.legs.specs.declared.tracks.Track.{Track}
 
@@ -26,8 +26,8 @@ pub record IsLawful (book : Book) : Type 0 where
   pub numbered : feature_count book.legs ≡ length book.names
   pub led : (feature : ℕ) → feature < length book.names → last_end feature book.legs ≢ None
   pub rows : All (λ leg. leg.row < length book.rows) book.legs
-  pub few_legs : length book.legs ≤ most
-  pub few_names : length book.names ≤ most
+  pub few_legs : length book.legs ≤ greatest_limit
+  pub few_names : length book.names ≤ greatest_limit
 
 -- the tracks are those of a book
 pub record StandsFor (tracks : TracksView) (book : Book) : Type 0 where

@@ -4,7 +4,7 @@ ghost use Rattle.std.specs.Option.{option_map};
 ghost use Rattle.std.specs.List.{range_with_len};
 ghost use Rattle.mfcsv.specs.Views.{leg_count};
 ghost use Rattle.legs.specs.Legs.{leg_of, step_at};
-ghost use Rattle.legs.specs.Limits.{most};
+ghost use Rattle.legs.specs.Limits.{greatest_limit};
 ghost use Rattle.legs.specs.Book.{is_before};
 ghost use Rattle.legs.specs.Latest.{new_count, feature_or_next};
 
@@ -57,7 +57,7 @@ fn starts_before_end(record: &Record, latest: Option<Latest>) -> bool
 
 /// The number of a feature: that which is known, or the next one.
 fn feature_or_next(latest: Option<Latest>, features: u64) -> u32
-    requires { features + new_count latest ≤ most }
+    requires { features + new_count latest ≤ greatest_limit }
     ensures { result ≡ feature_or_next latest features }
 {
     match latest {
@@ -88,8 +88,8 @@ fn push_legs(
 impl<'a> Draft<'a> {
     ghost use Rattle.std.specs.Prelude.{◌≡◌, ◌≤◌, ◌+◌, ◌^◌, ◌++◌, [], ◌<◌, length, OnOk, IfErr, IfNone, IfSome};
     ghost use Rattle.mfcsv.specs.Views.{IsRecord};
-    ghost use Rattle.legs.specs.Limits.{most};
-    ghost use Rattle.legs.specs.Book.{Book, feature_of, names_with, record_legs, with_record, faults_of};
+    ghost use Rattle.legs.specs.Limits.{greatest_limit};
+    ghost use Rattle.legs.specs.Book.{Book, feature_named, names_with, record_legs, with_record, join_faults_of};
     ghost use Rattle.legs.specs.Tracks.{StandsFor};
     ghost use Rattle.legs.specs.FirstFault.{IsFirstOf, first_code};
     ghost use Rattle.legs.specs.Drafts.{IsDraft, known, latest_of};
@@ -114,7 +114,7 @@ impl<'a> Draft<'a> {
     /// What is known of a name that has that place among those of the file, or none.
     fn latest(&self, place: Option<usize>, name: &str) -> Option<Latest>
         requires { IfSome place (λ place. place < length self.now.names.latest) }
-        ensures { place ≡ feature_of self.now.names.names name.now
+        ensures { place ≡ feature_named self.now.names.names name.now
             → length self.now.tracks.now.names ≤ 2 ^ 32 → result ≡ known self.now name.now }
     {
         match place {
@@ -131,10 +131,10 @@ impl<'a> Draft<'a> {
     fn fault(&self, limits: &Limits, record: &Record, latest: Option<Latest>) -> Option<JoinCode>
         ensures first { (book : Book) → IsDraft self.now book
             → latest ≡ latest_of book «record».now.mfidref
-            → result ≡ first_code (faults_of limits.now book «record».now) }
+            → result ≡ first_code (join_faults_of limits.now book «record».now) }
         ensures few_legs { IfNone result (self.now.legs + leg_count
-            (length «record».now.positions) ≤ most) }
-        ensures few_features { IfNone result (self.now.features + new_count latest ≤ most) }
+            (length «record».now.positions) ≤ greatest_limit) }
+        ensures few_features { IfNone result (self.now.features + new_count latest ≤ greatest_limit) }
     {
         if starts_before_end(record, latest) {
             return Some(JoinCode::F18);
@@ -158,11 +158,11 @@ impl<'a> Draft<'a> {
         latest: Option<Latest>,
         legs: &mut Vec<Leg>,
     ) -> Result<(), AllocError>
-        requires place { place ≡ feature_of self.old.names.names «record».now.mfidref }
+        requires place { place ≡ feature_named self.old.names.names «record».now.mfidref }
         requires within { IfSome place (λ place. place < length self.old.names.latest) }
         requires few_rows { self.old.rows ≤ self.old.legs }
-        requires few_legs { self.old.legs + leg_count (length «record».now.positions) ≤ most }
-        requires few_features { self.old.features + new_count latest ≤ most }
+        requires few_legs { self.old.legs + leg_count (length «record».now.positions) ≤ greatest_limit }
+        requires few_features { self.old.features + new_count latest ≤ greatest_limit }
         ensures book { OnOk result ((book : Book) → IsDraft self.old book
             → latest ≡ latest_of book «record».now.mfidref
             → IsDraft self.new (with_record book «record».now)) }
@@ -197,7 +197,7 @@ impl<'a> Draft<'a> {
     ) -> Result<(), JoinFault>
         requires { self.old.rows ≤ self.old.legs }
         ensures faultless { OnOk result ((book : Book) → IsDraft self.old book
-            → faults_of limits.now book «record».now ≡ []) }
+            → join_faults_of limits.now book «record».now ≡ []) }
         ensures book { OnOk result ((book : Book) → IsDraft self.old book
             → IsDraft self.new (with_record book «record».now)) }
         ensures legs { OnOk result ((book : Book) → IsDraft self.old book
@@ -209,7 +209,7 @@ impl<'a> Draft<'a> {
         ensures record { IsRecord «record».now }
         ensures few_rows { self.new.rows ≤ self.new.legs }
         ensures refused { IfErr result (λ fault. (book : Book) → IsDraft self.old book
-            → IsFirstOf fault (faults_of limits.now book «record».now) «record».now.number) }
+            → IsFirstOf fault (join_faults_of limits.now book «record».now) «record».now.number) }
     {
         let place = self.names.find(record.mfidref.as_str());
         let latest = self.latest(place, record.mfidref.as_str());

@@ -34,11 +34,11 @@ pub enum JoinCode {
 
 impl JoinCode {
     ghost use Rattle.std.specs.Prelude.{◌≡◌};
-    ghost use Rattle.legs.specs.CodeText.{code_text};
+    ghost use Rattle.legs.specs.CodeText.{join_code_text};
 
     /// The code as it is printed, as `F18`.
     pub fn as_str(self) -> &'static str
-        ensures { result.now ≡ code_text self }
+        ensures { result.now ≡ join_code_text self }
     {
         match self {
             JoinCode::F9 => "F9",
@@ -52,9 +52,9 @@ impl JoinCode {
 
 impl fmt::Display for JoinCode {
     ghost use Rattle.std.specs.Prelude.{Some};
-    ghost use Rattle.legs.specs.CodeText.{code_text};
+    ghost use Rattle.legs.specs.CodeText.{join_code_text};
 
-    ghost output = { λ c. Some (code_text c) };
+    ghost output = { λ c. Some (join_code_text c) };
 
     fn fmt<W: fmt::Write>(&self, f: &mut fmt::Formatter<W>) -> fmt::Result {
         f.write_str(self.as_str())

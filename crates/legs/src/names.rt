@@ -38,7 +38,7 @@ impl Model for Names {
 
 impl Names {
     ghost use Rattle.std.specs.Prelude.{◌≡◌, ◌<◌, ◌++◌, ◌∷◌, [], length, slice_get, slice_set, None, Some, IfSome, OnOk};
-    ghost use Rattle.legs.specs.Book.{feature_of};
+    ghost use Rattle.legs.specs.Book.{feature_named};
     ghost use Rattle.legs.specs.Names.{with_latest};
 
     /// No names, which will be hashed with these keys.
@@ -70,7 +70,7 @@ impl Names {
 
     /// The place of a name.
     pub(crate) fn find(&self, name: &str) -> Option<usize>
-        ensures value { result ≡ feature_of self.now.names name.now }
+        ensures value { result ≡ feature_named self.now.names name.now }
         ensures within { IfSome result (λ place. place < length self.now.latest) }
     {
         self.names.get_index_of(name)
@@ -92,7 +92,7 @@ impl Names {
     }
 
     fn push(&mut self, name: &str, latest: Latest) -> Result<(), AllocError>
-        requires { feature_of self.old.names name.now ≡ None }
+        requires { feature_named self.old.names name.now ≡ None }
         ensures { OnOk result (self.new ≡ record {
           names = self.old.names ++ name.now ∷ [];
           latest = self.old.latest ++ latest ∷ [];
@@ -112,7 +112,7 @@ impl Names {
         name: &str,
         latest: Latest,
     ) -> Result<(), AllocError>
-        requires place { place ≡ feature_of self.old.names name.now }
+        requires place { place ≡ feature_named self.old.names name.now }
         requires within { IfSome place (λ place. place < length self.old.latest) }
         ensures { OnOk result (self.new ≡ with_latest place self.old name.now latest) }
     {

@@ -105,7 +105,7 @@ impl Tracks {
     ghost use Rattle.std.specs.Option.{option_copied, option_map};
     ghost use Rattle.legs.specs.Limits.{LimitsView, IsLimits};
     ghost use Rattle.mfcsv.specs.declared.File.{File};
-    ghost use Rattle.legs.specs.Book.{Book, empty_book, feature_of, with_file};
+    ghost use Rattle.legs.specs.Book.{Book, empty_book, feature_named, with_file};
     ghost use Rattle.legs.specs.Joining.{IsJoinedBy};
     ghost use Rattle.legs.specs.Names.{fresh_names};
     ghost use Rattle.legs.specs.Tracks.{IsOver, StandsFor};
@@ -169,7 +169,7 @@ impl Tracks {
 
     /// The number of the feature of that name.
     pub fn feature(&self, name: &str) -> Option<u32>
-        ensures { length self.now.names ≤ 2 ^ 32 → result ≡ feature_of self.now.names name.now }
+        ensures { length self.now.names ≤ 2 ^ 32 → result ≡ feature_named self.now.names name.now }
     {
         let feature = self.names.get_index_of(name)?;
         u32::try_from(feature).ok()

@@ -11,8 +11,8 @@ use Rattle.mfcsv.specs.Answer.{bounds_fault, data_fault}
 use Rattle.mfcsv.specs.declared.Dimension.{Dimension}
 use Rattle.mfcsv.specs.declared.Code.TheVariants.{F1, F2, F7, F8}
 use Rattle.mfcsv.specs.declared.header.Clock.{Clock}
-use Rattle.mfcsv.specs.declared.header.Kind.{Kind}
-use Rattle.mfcsv.specs.declared.header.Kind.TheVariants.{Skipped, Bounds, Columns, Other, Data}
+use Rattle.mfcsv.specs.declared.header.RowKind.{RowKind}
+use Rattle.mfcsv.specs.declared.header.RowKind.TheVariants.{Skipped, Bounds, Columns, Other, Data}
 
 -- a field that is no text comes before all else
 pub no_text_fault : (heads : HeadsView) (row : Row) → list_all is_utf8 row ≡ false → first_fault heads row ≡ Some F1
@@ -73,10 +73,10 @@ data_records number heads row dimension clock columns r k d s n e =
     ∙ ap (λ x. record_of number (Some dimension) x (columns_before heads) row) s ∙ ap (λ x. record_of number (Some dimension) (Some clock) x row) n ∙ e)
 
 -- no other line has a data record
-pub no_records : (number : ℕ) (heads : HeadsView) (row : Row) (kind : Kind) → kind_of row ≡ kind → is_data kind ≡ false → records_of (line_of number heads row) ≡ []
+pub no_records : (number : ℕ) (heads : HeadsView) (row : Row) (kind : RowKind) → kind_of row ≡ kind → is_data kind ≡ false → records_of (line_of number heads row) ≡ []
 no_records number heads row kind k e = ap (λ x. option_to_list (record_by x (line_of number heads row))) k ∙ none kind e
   where
-    none : (x : Kind) → is_data x ≡ false → option_to_list (record_by x (line_of number heads row)) ≡ []
+    none : (x : RowKind) → is_data x ≡ false → option_to_list (record_by x (line_of number heads row)) ≡ []
     none Data d = cc
     none Skipped d = refl
     none Bounds d = refl

@@ -16,8 +16,8 @@ use Rattle.mfcsv.specs.declared.Position.{Position}
 use Rattle.mfcsv.specs.declared.File.{File}
 use Rattle.mfcsv.specs.declared.FileFault.{FileFault}
 use Rattle.mfcsv.specs.declared.header.Clock.{Clock}
-use Rattle.mfcsv.specs.declared.header.Kind.{Kind}
-use Rattle.mfcsv.specs.declared.header.Kind.TheVariants.{Skipped, Bounds, Columns, Other, Data}
+use Rattle.mfcsv.specs.declared.header.RowKind.{RowKind}
+use Rattle.mfcsv.specs.declared.header.RowKind.TheVariants.{Skipped, Bounds, Columns, Other, Data}
 
 -- a list that is empty has empty parts
 first_nil : {X : Type 0} (xs ys : List X) → xs ++ ys ≡ [] → xs ≡ []
@@ -56,7 +56,7 @@ unrepeated heads row e =
     (b.0, i.0)
 
 -- the columns stay behind such a line
-kept_by : (kind : Kind) (number : ℕ) (heads : HeadsView) (row : Row) → is_repeated heads kind ≡ false → is_some heads.columns ≡ true → (heads_by kind number heads row).columns ≡ heads.columns
+kept_by : (kind : RowKind) (number : ℕ) (heads : HeadsView) (row : Row) → is_repeated heads kind ≡ false → is_some heads.columns ≡ true → (heads_by kind number heads row).columns ≡ heads.columns
 kept_by Bounds number heads row r s = refl
 kept_by Columns number heads row r s = cc
 kept_by Skipped number heads row r s = refl
@@ -101,7 +101,7 @@ wide_data : (number : ℕ) (dimension : Option Dimension) (clock : Option Clock)
 unfolding record_of
 wide_data number dimension clock columns row = wide_with number columns row _ _ _
 
-wide_by : (kind : Kind) (line : Line) → All (IsWide (columns_before line.heads)) (option_to_list (record_by kind line))
+wide_by : (kind : RowKind) (line : Line) → All (IsWide (columns_before line.heads)) (option_to_list (record_by kind line))
 wide_by Data line = wide_data line.number (dimension_before line.heads) (clock_before line.heads) (columns_before line.heads) line.row
 wide_by Skipped line = All-nil (IsWide (columns_before line.heads))
 wide_by Bounds line = All-nil (IsWide (columns_before line.heads))
@@ -109,7 +109,7 @@ wide_by Columns line = All-nil (IsWide (columns_before line.heads))
 wide_by Other line = All-nil (IsWide (columns_before line.heads))
 
 -- it stands behind both header lines
-headed_by : (kind : Kind) (heads : HeadsView) → (is_data kind && not (has_heads heads)) ≡ false → (is_some heads.columns ≡ true) ⊎ (is_data kind ≡ false)
+headed_by : (kind : RowKind) (heads : HeadsView) → (is_data kind && not (has_heads heads)) ≡ false → (is_some heads.columns ≡ true) ⊎ (is_data kind ≡ false)
 headed_by Skipped heads e = inr refl
 headed_by Bounds heads e = inr refl
 headed_by Columns heads e = inr refl
@@ -125,7 +125,7 @@ headed : (heads : HeadsView) (row : Row) → has_fault heads row F8 ≡ false �
 unfolding has_fault
 headed heads row e = headed_by (kind_of row) heads e
 
-no_data : (kind : Kind) (line : Line) (n : ℕ) → is_data kind ≡ false → All (IsWide n) (option_to_list (record_by kind line))
+no_data : (kind : RowKind) (line : Line) (n : ℕ) → is_data kind ≡ false → All (IsWide n) (option_to_list (record_by kind line))
 no_data Data line n e = absurd (cc)
 no_data Skipped line n e = All-nil (IsWide n)
 no_data Bounds line n e = All-nil (IsWide n)

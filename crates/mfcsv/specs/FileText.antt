@@ -12,8 +12,8 @@ use Rattle.mfcsv.specs.declared.Code.TheVariants.{F1, F2, F3, F4, F5, F6, F7, F8
 use Rattle.mfcsv.specs.declared.Dimension.{Dimension}
 use Rattle.mfcsv.specs.declared.File.{File}
 use Rattle.mfcsv.specs.declared.header.Clock.{Clock}
-use Rattle.mfcsv.specs.declared.header.Kind.{Kind}
-use Rattle.mfcsv.specs.declared.header.Kind.TheVariants.{Skipped, Bounds, Columns, Other, Data}
+use Rattle.mfcsv.specs.declared.header.RowKind.{RowKind}
+use Rattle.mfcsv.specs.declared.header.RowKind.TheVariants.{Skipped, Bounds, Columns, Other, Data}
 
 -- a unit and a start instant, where both are read
 abbrev pub clock_of : Option Unit → Option ℤ → Option Clock
@@ -93,7 +93,7 @@ abbrev pub faults_of : Line → List (Code × ℕ)
 faults_of line = map (λ code. (code, line.number)) (filter (has_fault line.heads line.row) table)
 
 -- the data record of a line, if it is one
-abbrev pub record_by : Kind → Line → Option RecordView
+abbrev pub record_by : RowKind → Line → Option RecordView
 record_by Data line =
     record_of line.number (dimension_before line.heads) (clock_before line.heads)
     (columns_before line.heads) line.row

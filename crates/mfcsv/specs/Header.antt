@@ -9,8 +9,8 @@ use Rattle.mfcsv.specs.Views.{BoundsView, ColumnsView, HeadsView}
 use Rattle.mfcsv.specs.declared.Column.{Column}
 use Rattle.mfcsv.specs.declared.Dimension.{Dimension}
 use Rattle.mfcsv.specs.declared.Dimension.TheVariants.{Two, Three}
-use Rattle.mfcsv.specs.declared.header.Kind.{Kind}
-use Rattle.mfcsv.specs.declared.header.Kind.TheVariants.{Skipped, Bounds, Columns, Other, Data}
+use Rattle.mfcsv.specs.declared.header.RowKind.{RowKind}
+use Rattle.mfcsv.specs.declared.header.RowKind.TheVariants.{Skipped, Bounds, Columns, Other, Data}
 
 -- a record of one blank field
 abbrev pub is_blank_row : Row → Bool
@@ -21,7 +21,7 @@ abbrev pub is_header_row : Row → Bool
 is_header_row row = slice_index (field row 0) 0 == 64
 
 -- what kind of line a record is
-unfoldable pub kind_of : Row → Kind
+unfoldable pub kind_of : Row → RowKind
 kind_of row =
     if is_blank_row row then Skipped
     else if not (is_header_row row) then Data
@@ -30,7 +30,7 @@ kind_of row =
     else Other
 
 -- the row is an `@stboundedby` line
-abbrev pub is_bounds : Kind → Bool
+abbrev pub is_bounds : RowKind → Bool
 is_bounds Bounds = true
 is_bounds Skipped = false
 is_bounds Columns = false
@@ -38,7 +38,7 @@ is_bounds Other = false
 is_bounds Data = false
 
 -- the row is an `@columns` line
-abbrev pub is_columns : Kind → Bool
+abbrev pub is_columns : RowKind → Bool
 is_columns Columns = true
 is_columns Skipped = false
 is_columns Bounds = false
@@ -46,7 +46,7 @@ is_columns Other = false
 is_columns Data = false
 
 -- the row is a data record
-abbrev pub is_data : Kind → Bool
+abbrev pub is_data : RowKind → Bool
 is_data Data = true
 is_data Skipped = false
 is_data Bounds = false
@@ -54,7 +54,7 @@ is_data Columns = false
 is_data Other = false
 
 -- a header line of a kind that was met before
-abbrev pub is_repeated : HeadsView → Kind → Bool
+abbrev pub is_repeated : HeadsView → RowKind → Bool
 is_repeated heads Bounds = is_some heads.bounds
 is_repeated heads Columns = is_some heads.columns
 is_repeated heads Skipped = false
@@ -140,7 +140,7 @@ abbrev pub columns_line_of : ℕ → Row → ColumnsView
 columns_line_of number row = record { number = number; columns = columns_of row }
 
 -- the header lines after a record of that number
-abbrev pub heads_by : Kind → ℕ → HeadsView → Row → HeadsView
+abbrev pub heads_by : RowKind → ℕ → HeadsView → Row → HeadsView
 heads_by Bounds number heads row = record heads { bounds = Some (bounds_of number row) }
 heads_by Columns number heads row = record heads { columns = Some (columns_line_of number row) }
 heads_by Skipped number heads row = heads

@@ -17,7 +17,7 @@ use timebase::{Ms, TimeFault, Unit, read_instant};
 
 /// What kind of line a record is.
 #[derive(Clone, Copy)]
-pub(crate) enum Kind {
+pub(crate) enum RowKind {
     /// A record of one blank field.
     Skipped,
     /// `@stboundedby`.
@@ -44,21 +44,21 @@ fn is_header(tag: &str) -> bool
 
 /// What kind of line a record is.
 #[tactic(auto, unfolding(crate::specs::Header::kind_of))]
-pub(crate) fn kind_of(row: &StringRecord) -> Kind
+pub(crate) fn kind_of(row: &StringRecord) -> RowKind
     ensures { result ≡ kind_of (cells row.now) }
 {
     if is_blank_row(row) {
-        return Kind::Skipped;
+        return RowKind::Skipped;
     }
     let tag = field_at(row, 0);
     if !is_header(tag) {
-        Kind::Data
+        RowKind::Data
     } else if is_word(tag, "@stboundedby") {
-        Kind::Bounds
+        RowKind::Bounds
     } else if is_word(tag, "@columns") {
-        Kind::Columns
+        RowKind::Columns
     } else {
-        Kind::Other
+        RowKind::Other
     }
 }
 
@@ -277,7 +277,7 @@ impl Heads {
         number: u64,
         row: &StringRecord,
     ) -> Result<(), RowFault>
-        requires kind { kind_of (cells row.now) ≡ Kind.Bounds }
+        requires kind { kind_of (cells row.now) ≡ RowKind.Bounds }
         requires text { list_all is_utf8 (cells row.now) ≡ true }
         ensures { Judges result (first_fault self.old (cells row.now)) (λ _. self.new
             ≡ heads_after number self.old (cells row.now)) }
@@ -297,7 +297,7 @@ impl Heads {
         number: u64,
         row: &StringRecord,
     ) -> Result<(), RowFault>
-        requires kind { kind_of (cells row.now) ≡ Kind.Columns }
+        requires kind { kind_of (cells row.now) ≡ RowKind.Columns }
         requires text { list_all is_utf8 (cells row.now) ≡ true }
         ensures { Judges result (first_fault self.old (cells row.now)) (λ _. self.new
             ≡ heads_after number self.old (cells row.now)) }

@@ -11,7 +11,7 @@ ghost use Rattle.mfcsv.specs.declared.Code.{Code};
 ghost use Rattle.mfcsv.specs.declared.FileFault.{FileFault};
 
 use crate::data_record::read_record;
-use crate::header::{Heads, Kind, kind_of};
+use crate::header::{Heads, RowKind, kind_of};
 use crate::rows::{RowFault, next_row, read_rows};
 use crate::{Code, FileFault, Head, Record};
 use csv::{Reader, StringRecord};
@@ -25,7 +25,7 @@ fn data_of(
     number: u64,
     row: &StringRecord,
 ) -> Result<Record, RowFault>
-    requires kind { kind_of (cells row.now) ≡ Kind.Data }
+    requires kind { kind_of (cells row.now) ≡ RowKind.Data }
     requires text { list_all is_utf8 (cells row.now) ≡ true }
     ensures { Judges result (first_fault heads.now (cells row.now)) (λ r.
         records_of (line_of number heads.now (cells row.now)) ≡ r ∷ []) }
@@ -49,16 +49,16 @@ fn take(
         × (records_of (line_of number heads.old (cells row.now)) ≡ option_to_list found)) }
 {
     match kind_of(row) {
-        Kind::Bounds => {
+        RowKind::Bounds => {
             heads.take_bounds(alloc, number, row)?;
             Ok(None)
         }
-        Kind::Columns => {
+        RowKind::Columns => {
             heads.take_columns(alloc, number, row)?;
             Ok(None)
         }
-        Kind::Data => Ok(Some(data_of(heads, alloc, number, row)?)),
-        Kind::Skipped | Kind::Other => Ok(None),
+        RowKind::Data => Ok(Some(data_of(heads, alloc, number, row)?)),
+        RowKind::Skipped | RowKind::Other => Ok(None),
     }
 }
 

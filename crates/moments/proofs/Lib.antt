@@ -4,7 +4,4 @@ pub mod StayLemmas
 pub mod CodeLemmas
 pub mod ListLemmas
 pub mod EverLemmas
-pub mod PlaceLemmas
-pub mod LengthLemmas
 pub mod VisitLemmas
-pub mod DwellLemmas

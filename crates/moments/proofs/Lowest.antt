@@ -9,7 +9,7 @@ use Rattle.std.specs.Int.{IsGcd, ◌∣◌}
 use Rattle.std.specs.Int.RustNames.{int_div, int_rem}
 use Rattle.clipping.proofs.Products.{products}
 use Rattle.clipping.proofs.Fractions.{cancel}
-use Rattle.timebase.specs.Instant.{first_moment, last_moment}
+use Rattle.timebase.specs.Instant.{least_moment, greatest_moment}
 use Rattle.moments.specs.Fractions.{IsInTime, IsLowest, IsSame}
 
 no_rest : (n : ℤ) (g : ℕ) → unsigned_abs n % g ≡ 0 → int_rem n (pos g) ≡ pos 0
@@ -72,8 +72,8 @@ module _ (n m : ℤ) (d e g : ℕ) (positive : 0 < d) (common : IsGcd d (unsigne
   pub still_in_time : IsInTime n d → IsInTime m e
   still_in_time within =
       let g0 : pos 0 <ℤ pos g = let h = divisor_positive in omega (arith, ints, h) in (
-        cancel (first_moment *ℤ pos e) m (pos g) g0 (by_le (sym (regrouped first_moment)) (sym is) within.0),
-        cancel m (last_moment *ℤ pos e) (pos g) g0 (by_le (sym is) (sym (regrouped last_moment)) within.1),
+        cancel (least_moment *ℤ pos e) m (pos g) g0 (by_le (sym (regrouped least_moment)) (sym is) within.0),
+        cancel m (greatest_moment *ℤ pos e) (pos g) g0 (by_le (sym is) (sym (regrouped greatest_moment)) within.1),
       )
 
   pub still_same : IsSame m e n d

@@ -2,7 +2,7 @@
 use Rattle.std.proofs.Common.{ℕ, ◌<◌, ◌≤◌, ◌≡◌, ◌∙◌, ℤ, pos, ◌+ℤ◌, ◌-ℤ◌, ◌*ℤ◌, ◌≤ℤ◌, ◌<ℤ◌, arith, ap, sym, subst}
 use Rattle.std.proofs.lemmas.Int.{ints, by_lt_z}
 use Rattle.fixedpoint.specs.Number.{IsInRange}
-use Rattle.timebase.specs.Instant.{IsMoment, first_moment, last_moment}
+use Rattle.timebase.specs.Instant.{IsMoment, least_moment, greatest_moment}
 use Rattle.timebase.specs.Period.{PeriodView}
 use Rattle.legs.specs.Legs.{LegView}
 use Rattle.legs.specs.Boxes.{RectView}
@@ -15,7 +15,7 @@ use Rattle.clipping.specs.declared.line.Frac.{Frac}
 use Rattle.moments.specs.Fractions.{IsInTime, IsSame}
 use Rattle.moments.specs.Parts.{IsAt, IsPart, IsWhole}
 use Rattle.moments.specs.Stays.{IsCoordAt, IsFirst, IsInsideFrom, IsLast}
-use Rattle.moments.proofs.Quotients.{negative_times, sum_times}
+use Rattle.visiting.proofs.Quotients.{negative_times, sum_times}
 
 grouped : (a b z : ℤ) → (a *ℤ b) *ℤ z ≡ a *ℤ (b *ℤ z)
 grouped a b z = omega (arith, ints, products)
@@ -240,12 +240,12 @@ in_time_from t0 t1 part k rises m0 m1 at den =
     let q0 : pos 0 ≤ℤ q = let h = part.positive in omega (arith, ints, h) in
     let less = scale p q w w0 at.1 in
     let some = scale (pos 0) p w w0 at.0 in
-    let a = scale first_moment t0 q q0 m0.0 in
-    let b = scale t1 last_moment q q0 m1.1 in
+    let a = scale least_moment t0 q q0 m0.0 in
+    let b = scale t1 greatest_moment q q0 m1.1 in
     let c : w *ℤ p ≡ p *ℤ w = omega (arith, ints) in
     let d : q *ℤ w ≡ w *ℤ q = omega (arith, ints) in
     let e = difference_times t1 t0 q in
-    subst (λ z. ((first_moment *ℤ z) ≤ℤ (t0 *ℤ q +ℤ w *ℤ p)) × ((t0 *ℤ q +ℤ w *ℤ p) ≤ℤ (last_moment *ℤ z))) den
+    subst (λ z. ((least_moment *ℤ z) ≤ℤ (t0 *ℤ q +ℤ w *ℤ p)) × ((t0 *ℤ q +ℤ w *ℤ p) ≤ℤ (greatest_moment *ℤ z))) den
     (omega (arith, ints, a, some, c), omega (arith, ints, b, less, c, d, e))
 
 -- the ends of a cut are parts

@@ -3,7 +3,5 @@ pub mod Parts
 pub mod Stays
 pub mod Ends
 pub mod Lengths
-pub mod Places
 pub mod Visits
-pub mod Dwells
 pub mod Asking

@@ -1,7 +1,10 @@
--- Visits: stays of a feature that go on over several legs.
-use Rattle.std.specs.Prelude.{ℕ, ◌+◌, ◌-◌, ◌^◌, ◌==◌, min, Bool, cond, ◌&&◌, List, [], ◌∷◌, ◌++◌, get_or, set, fold, Option, Some, None}
+-- Visits: stays of a feature that go on over several legs. Dwells are made of them.
+use Rattle.std.specs.Prelude.{ℕ, ◌+◌, ◌-◌, ◌^◌, ◌==◌, min, Bool, ◌&&◌, List}
 use Rattle.std.specs.Ordering.{int_eq}
-use Rattle.moments.specs.Places.{last_place}
+use Rattle.visiting.specs.Joining.{joined}
+use Rattle.visiting.specs.Dwells as dwells
+use Rattle.visiting.specs.declared.dwells.Dwell.{Dwell}
+use Rattle.moments.specs.Lengths.{least_of, most_of}
 use Rattle.moments.specs.declared.stay.Stay.{Stay}
 use Rattle.moments.specs.declared.visits.Visit.{Visit}
 
@@ -34,18 +37,11 @@ visit_with visit stay =
       legs = min (visit.legs + 1) (2 ^ 64 - 1);
     }
 
--- the visits with a stay more, where the last visit of its feature is at that place
-abbrev pub visits_at : List Visit → Stay → Option ℕ → List Visit
-visits_at visits stay None = visits ++ visit_of stay ∷ []
-visits_at visits stay (Some place) = let last =
-    get_or visits place (visit_of stay) in cond (goes_on last stay)
-    (set visits place (visit_with last stay)) (visits ++ visit_of stay ∷ [])
-
--- the last visit of the stay's feature goes on with it, where the stay begins as that ends; else the stay begins a visit
-abbrev pub visits_with : List Visit → Stay → List Visit
-visits_with visits stay =
-    visits_at visits stay (last_place (λ visit. visit.feature) stay.leg.feature visits)
-
--- the visits of stays
+-- the visits of stays: the last visit of a stay's feature goes on with it, where the stay begins as that ends; else the
+-- stay begins a visit
 abbrev pub visits_of : List Stay → List Visit
-visits_of stays = fold visits_with [] stays
+visits_of = joined (λ visit. visit.feature) (λ stay. stay.leg.feature) visit_of goes_on visit_with
+
+-- the dwells of visits, in the order of the features' first visits
+abbrev pub dwells_of : List Visit → List Dwell
+dwells_of = dwells.dwells_of (λ visit. visit.feature) least_of most_of

@@ -2,6 +2,7 @@
 ghost use Rattle.std.specs.Prelude.{◌↔◌, ◌*ℤ◌, ◌≡◌, IsTrue, pos};
 ghost use Rattle.moments.specs.Ends.{IsEndBy};
 
+use crate::edges::Edges;
 use crate::moment::Moment;
 use timebase::Ms;
 
@@ -12,13 +13,13 @@ pub enum End {
     Leg,
     /// The period does.
     Period,
-    /// Neither: the leg meets an edge of the rectangle there.
-    Edge,
+    /// Neither: the leg meets these edges of the rectangle there.
+    Edge(Edges),
 }
 
 impl End {
     ghost use Rattle.std.specs.Prelude.{◌≡◌};
-    ghost use Rattle.moments.specs.Ends.{end_text};
+    ghost use Rattle.moments.specs.Ends.{end_text, met_text};
 
     /// The end as it is printed.
     pub fn as_str(self) -> &'static str
@@ -27,7 +28,18 @@ impl End {
         match self {
             End::Leg => "leg",
             End::Period => "period",
-            End::Edge => "edge",
+            End::Edge(_) => "edge",
+        }
+    }
+
+    /// The edges that are met there, as they are printed; empty where none is.
+    pub fn met_edges(self) -> &'static str
+        ensures { result.now ≡ met_text self }
+    {
+        match self {
+            End::Leg => "",
+            End::Period => "",
+            End::Edge(edges) => edges.as_str(),
         }
     }
 }
@@ -39,8 +51,8 @@ fn is_at(moment: Moment, at: Ms) -> bool
     moment.num == at.millis() as i128 * moment.den as i128
 }
 
-/// What a moment is, of a leg's own end and a period's.
-pub(crate) fn end_by(moment: Moment, leg: Ms, period: Ms) -> End
+/// What a moment is, of a leg's own end and a period's; else the leg meets these edges.
+pub(crate) fn end_by(moment: Moment, leg: Ms, period: Ms, edges: Edges) -> End
     ensures { IsEndBy moment leg period result }
 {
     if is_at(moment, leg) {
@@ -48,6 +60,6 @@ pub(crate) fn end_by(moment: Moment, leg: Ms, period: Ms) -> End
     } else if is_at(moment, period) {
         End::Period
     } else {
-        End::Edge
+        End::Edge(edges)
     }
 }

@@ -3,6 +3,7 @@
 
 mod asking;
 mod dwells;
+mod edges;
 mod ends;
 mod gaps;
 mod listing;
@@ -11,10 +12,12 @@ mod stay;
 mod visits;
 
 pub use asking::stays;
-pub use dwells::{Dwell, dwells_of};
+pub use dwells::dwells_of;
+pub use edges::{Bound, Edges};
 pub use ends::End;
 pub use gaps::{Gap, gaps_of};
 pub use listing::stays_of;
 pub use moment::Moment;
 pub use stay::{Stay, stay_of};
+pub use visiting::Dwell;
 pub use visits::{Visit, visits_of};

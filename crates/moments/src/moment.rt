@@ -39,7 +39,8 @@ fn exact_quotient(num: i128, divisor: u64) -> i128
 
 impl Moment {
     ghost use Rattle.std.specs.Prelude.{◌<◌, ◌^◌, ◌≡◌, ◌-ℤ◌, ◌*ℤ◌, pos, unsigned_abs};
-    ghost use Rattle.moments.specs.Fractions.{IsCeiling, IsFloor, IsInTime, IsLowest, IsSame};
+    ghost use Rattle.visiting.specs.Fractions.{IsCeiling, IsFloor};
+    ghost use Rattle.moments.specs.Fractions.{IsInTime, IsLowest, IsSame};
     ghost use Rattle.moments.specs.Lengths.{micros_down, micros_up};
     ghost use Rattle.std.specs.Int.{int_div_euclid};
     ghost use Rattle.timebase.specs.Instant.{IsMoment};

@@ -4,6 +4,7 @@ ghost use Rattle.clipping.specs.Inside.{HasMomentInside};
 ghost use Rattle.moments.specs.Parts.{IsAt, IsPart, IsWhole};
 ghost use Rattle.moments.specs.Stays.{IsStay};
 
+use crate::edges::{edges_in, edges_out};
 use crate::ends::{End, end_by};
 use crate::moment::Moment;
 use clipping::{Frac, clip};
@@ -32,7 +33,7 @@ pub struct Stay {
 }
 
 /// The product of two small numbers.
-fn product(a: i64, b: i64) -> i128
+pub(crate) fn product(a: i64, b: i64) -> i128
     requires a_small { unsigned_abs a < 2 ^ 52 }
     requires b_small { unsigned_abs b < 2 ^ 52 }
     ensures value { result ≡ a *ℤ b }
@@ -104,7 +105,7 @@ pub fn stay_of(leg: &Leg, rect: &Rect, period: &Period) -> Option<Stay>
         leaves,
         entry: position_at(leg, cut.lo),
         exit: position_at(leg, cut.hi),
-        enters_by: end_by(enters, leg.t0, period.start()),
-        leaves_by: end_by(leaves, leg.t1, period.end()),
+        enters_by: end_by(enters, leg.t0, period.start(), edges_in(leg, rect, cut.lo)),
+        leaves_by: end_by(leaves, leg.t1, period.end(), edges_out(leg, rect, cut.hi)),
     })
 }

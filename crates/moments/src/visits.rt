@@ -1,17 +1,15 @@
 //! Visits of features: stays that go on over several legs, joined.
-ghost use Rattle.std.specs.Prelude.{◌≡◌, ◌<◌, ◌++◌, ◌∷◌, [], All, get_or, IfOk, length, MatchOption, ℕ, set, Some};
-ghost use Rattle.std.specs.BTreeMap.{get};
-ghost use Rattle.std.specs.Ordering.{nat_cmp};
-ghost use Rattle.moments.specs.Lengths.{IsNoLater, not_below_0};
-ghost use Rattle.moments.specs.Places.{last_place};
-ghost use Rattle.moments.specs.Visits.{visit_of, visit_with, visits_of, visits_with};
+ghost use Rattle.std.specs.Prelude.{◌≡◌, All, IfOk};
+ghost use Rattle.visiting.specs.Lengths.{not_below_0};
+ghost use Rattle.moments.specs.Lengths.{IsNoLater};
+ghost use Rattle.moments.specs.Visits.{visits_of};
 
 use crate::ends::End;
 use crate::moment::Moment;
 use crate::stay::Stay;
 use mfcsv::Position;
 use std::alloc::{AllocError, Global};
-use std::collections::BTreeMap;
+use visiting::{Joined, Lasting, joined_of};
 
 /// A visit: one stay of a feature, or several, each of which begins at the moment at which the one before it ends.
 #[derive(Clone, Copy, PartialEq, Eq, Debug)]
@@ -43,43 +41,6 @@ fn not_below_0(number: i64) -> u64
 impl Visit {
     ghost use Rattle.std.specs.Prelude.{◌≡◌};
     ghost use Rattle.moments.specs.Lengths.{IsBetween, IsNoLater, least_of, most_of};
-    ghost use Rattle.moments.specs.Visits.{goes_on, visit_of, visit_with};
-
-    /// The visit of one stay.
-    fn of(stay: &Stay) -> Visit
-        ensures { result ≡ visit_of stay.now }
-    {
-        Visit {
-            feature: stay.leg.feature,
-            enters: stay.enters,
-            leaves: stay.leaves,
-            entry: stay.entry,
-            exit: stay.exit,
-            enters_by: stay.enters_by,
-            leaves_by: stay.leaves_by,
-            legs: 1,
-        }
-    }
-
-    /// Whether a stay of the same feature begins at the moment at which the visit ends.
-    fn goes_on(&self, stay: &Stay) -> bool
-        ensures { result ≡ goes_on self.now stay.now }
-    {
-        self.leaves.num == stay.enters.num && self.leaves.den == stay.enters.den
-    }
-
-    /// The visit with a stay more at its end.
-    fn with(self, stay: &Stay) -> Visit
-        ensures { result ≡ visit_with self stay.now }
-    {
-        Visit {
-            leaves: stay.leaves,
-            exit: stay.exit,
-            leaves_by: stay.leaves_by,
-            legs: self.legs.saturating_add(1),
-            ..self
-        }
-    }
 
     /// How long the visit lasts, in whole microseconds: at least the first number and at most the second.
     pub fn lasts(&self) -> (u64, u64)
@@ -98,23 +59,75 @@ impl Visit {
     }
 }
 
-/// The place of the visit that a stay goes on: the last one of its feature, if it ends where the stay begins.
-fn place_of(last: &BTreeMap<u32, usize>, visits: &[Visit], stay: &Stay) -> Option<usize>
-    requires places { (f : ℕ)
-        → get nat_cmp last.now f ≡ last_place (λ visit. visit.feature) f visits.now }
-    ensures { MatchOption result
-        (visits_with visits.now stay.now ≡ visits.now ++ visit_of stay.now ∷ [])
-        (λ place. (place < length visits.now)
-        × (last_place (λ visit. visit.feature) stay.now.leg.feature visits.now ≡ Some place)
-        × (visits_with visits.now stay.now
-        ≡ set visits.now place
-        (visit_with (get_or visits.now place (visit_of stay.now)) stay.now))) }
-{
-    let place = *last.get(&stay.leg.feature)?;
-    if place < visits.len() && visits[place].goes_on(stay) {
-        Some(place)
-    } else {
-        None
+impl Joined<Stay> for Visit {
+    ghost use Rattle.std.specs.Prelude.{refl};
+    ghost use Rattle.moments.specs.Visits as visits;
+
+    ghost feature = { λ visit. visit.feature };
+
+    ghost part_feature = { λ stay. stay.leg.feature };
+
+    ghost of = { visits.visit_of };
+
+    ghost goes_on = { visits.goes_on };
+
+    ghost with_part = { visits.visit_with };
+
+    ghost begins = { λ stay. refl };
+
+    ghost keeps = { λ visit stay. refl };
+
+    fn feature_of(stay: &Stay) -> u32 {
+        stay.leg.feature
+    }
+
+    fn of(stay: &Stay) -> Visit {
+        Visit {
+            feature: stay.leg.feature,
+            enters: stay.enters,
+            leaves: stay.leaves,
+            entry: stay.entry,
+            exit: stay.exit,
+            enters_by: stay.enters_by,
+            leaves_by: stay.leaves_by,
+            legs: 1,
+        }
+    }
+
+    fn goes_on(&self, stay: &Stay) -> bool {
+        self.leaves.num == stay.enters.num && self.leaves.den == stay.enters.den
+    }
+
+    fn with_part(self, stay: &Stay) -> Visit {
+        Visit {
+            leaves: stay.leaves,
+            exit: stay.exit,
+            leaves_by: stay.leaves_by,
+            legs: self.legs.saturating_add(1),
+            ..self
+        }
+    }
+}
+
+impl Lasting for Visit {
+    ghost use Rattle.moments.specs.Lengths.{least_of, most_of};
+    ghost use Rattle.visiting.proofs.LengthLemmas.{always_near};
+
+    ghost feature = { λ visit. visit.feature };
+
+    ghost least = { least_of };
+
+    ghost most = { most_of };
+
+    ghost near = { λ visit. always_near visit.enters.num visit.leaves.num visit.enters.den
+        visit.leaves.den visit.enters.positive visit.leaves.positive };
+
+    fn feature(&self) -> u32 {
+        self.feature
+    }
+
+    fn lasts(&self) -> (u64, u64) {
+        self.lasts()
     }
 }
 
@@ -130,16 +143,5 @@ pub fn visits_of(alloc: Global, stays: &[Stay]) -> Result<Vec<Visit>, AllocError
         (λ visits. All (λ stay. IsNoLater stay.enters stay.leaves) stays.now
         → All (λ visit. IsNoLater visit.enters visit.leaves) visits.items) }
 {
-    let mut visits = Vec::new(alloc);
-    let mut last = BTreeMap::new(alloc);
-    for stay in stays {
-        match place_of(&last, &visits, stay) {
-            Some(place) => visits[place] = visits[place].with(stay),
-            None => {
-                last.insert(stay.leg.feature, visits.len())?;
-                visits.push(Visit::of(stay))?;
-            }
-        }
-    }
-    Ok(visits)
+    joined_of::<Stay, Visit>(alloc, stays)
 }

@@ -1,6 +1,7 @@
 //! An output whose answers are followed.
 ghost use Rattle.std.specs.Prelude.{◌≡◌};
 
+use crate::answer::Answer;
 use crate::notes::Notes;
 use crate::progress::Progress;
 use outputs::{Output, OutputFault};
@@ -31,10 +32,11 @@ impl<'a, 'b, O: Output + Drop, R: Clock + Eprint> Followed<'a, 'b, O, R> {
     }
 
     /// An answer was taken.
-    fn follow(&mut self, answer: &[u8])
+    fn follow(&mut self, bytes: &[u8])
         ensures { self.new.out ≡ self.old.out }
     {
         let (place, text) = self.progress.at();
+        let answer = Answer::read(bytes);
         self.notes.note(answer, place, text, self.progress.legs());
         self.progress.answered(answer);
     }

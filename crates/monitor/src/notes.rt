@@ -1,4 +1,5 @@
 //! What is noted of a run's answers, to be said in words.
+use crate::answer::Answer;
 use predicates::Predicate;
 use querylang::{Command, parse_line};
 use reasons::Refusal;
@@ -67,8 +68,8 @@ pub struct Notes {
 }
 
 /// What an answer to a command is worth a note for, be it that of a store without legs.
-fn doubt_in(command: &Command, answer: &[u8], is_empty: bool) -> Option<What> {
-    let is_none = answer == b"ok 0\n".as_slice();
+fn doubt_in(command: &Command, answer: Answer, is_empty: bool) -> Option<What> {
+    let is_none = answer == Answer::Nothing;
     match command {
         Command::Load(_) | Command::Write => None,
         _ if is_empty => Some(What::NoLegs),
@@ -83,7 +84,7 @@ fn doubt_in(command: &Command, answer: &[u8], is_empty: bool) -> Option<What> {
 }
 
 /// What an answer to a line is worth a note for, where it is no refusal.
-fn doubt_of(alloc: Global, answer: &[u8], text: &[u8], is_empty: bool) -> Option<What> {
+fn doubt_of(alloc: Global, answer: Answer, text: &[u8], is_empty: bool) -> Option<What> {
     match parse_line(alloc, text) {
         Ok(Some(command)) => doubt_in(&command, answer, is_empty),
         _ => None,
@@ -154,26 +155,23 @@ impl Notes {
     }
 
     /// Notes what is to be said of the answer to a line, as so many legs were loaded.
-    pub fn note(&mut self, answer: &[u8], place: LineSpan, text: &[u8], legs: u64) {
+    pub fn note(&mut self, answer: Option<Answer>, place: LineSpan, text: &[u8], legs: u64) {
+        let Some(answer) = answer else {
+            return;
+        };
         let is_empty = self.is_empty && legs == 0;
-        let what = match self.count(answer) {
-            Some(refusal) => Some(What::Refused(refusal)),
-            None if self.is_told => doubt_of(self.alloc, answer, text, is_empty),
-            None => None,
+        let what = match answer {
+            Answer::Refused(refusal) => {
+                self.refused = self.refused.saturating_add(1);
+                Some(What::Refused(refusal))
+            }
+            _ if self.is_told => doubt_of(self.alloc, answer, text, is_empty),
+            _ => None,
         };
         if let Some(what) = what
             && self.is_new(what)
         {
             self.keep(Note { place, what });
         }
-    }
-
-    /// The refusal that an answer is, which is counted.
-    fn count(&mut self, answer: &[u8]) -> Option<Refusal> {
-        let read = Refusal::read(answer);
-        if read.is_some() {
-            self.refused = self.refused.saturating_add(1);
-        }
-        read
     }
 }

@@ -1,4 +1,5 @@
 //! What a long run is doing, said on standard error.
+use crate::answer::Answer;
 use crate::notes::LineSpan;
 use std::cell::Cell;
 use std::fmt;
@@ -102,21 +103,6 @@ fn command_of(line: &[u8]) -> Option<&str> {
     match str::from_utf8(word.unwrap_or(b"".as_slice())) {
         Ok(word) if !word.is_empty() => Some(word),
         _ => Some("?"),
-    }
-}
-
-/// How many legs the answer to a load tells; 0 where it tells none.
-fn legs_in(answer: &[u8]) -> u64 {
-    let mut lines = answer.split(|c| *c == b'\n');
-    if lines.next() != Some(b"ok 1".as_slice()) {
-        return 0;
-    }
-    let Ok(record) = str::from_utf8(lines.next().unwrap_or(b"".as_slice())) else {
-        return 0;
-    };
-    match record.split(',').nth(1) {
-        Some(legs) => legs.parse::<u64>().unwrap_or(0),
-        None => 0,
     }
 }
 
@@ -234,11 +220,12 @@ impl<'a, R: Clock + Eprint> Progress<'a, R> {
     }
 
     /// A command was answered so.
-    pub fn answered(&self, answer: &[u8]) {
-        if self.command.get() == "load" && answer.starts_with(b"ok ".as_slice()) {
+    pub fn answered(&self, answer: Option<Answer>) {
+        if self.command.get() == "load"
+            && let Some(Answer::Records(legs)) = answer
+        {
             self.loads.set(self.loads.get().saturating_add(1));
-            self.legs
-                .set(self.legs.get().saturating_add(legs_in(answer)));
+            self.legs.set(self.legs.get().saturating_add(legs));
         }
         if self.told == Told::Lines {
             let said = self.said(self.millis());

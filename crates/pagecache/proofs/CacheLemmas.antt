@@ -15,13 +15,14 @@ use Rattle.pages.specs.Store as store
 use Rattle.pages.specs.Unsealed.{unsealed}
 use Rattle.pagecache.proofs.PageLemmas.{same_rest, slice_get-put_page, slice_get-put_other, slice_get-take, slice_get-take_none}
 use Rattle.pages.specs.declared.payload.Payload.{Payload}
-use Rattle.pagecache.specs.Cache.{Cache, in_memory, pages_as_written, page_of, sealed_payload, stored_payload, payload_of, is_changed, IsSettled, IsWritten, IsRefused, KeepsPayloads, UnsyncsNone, WritesNone, Writes, Adds}
+use Rattle.pagecache.specs.Cache.{Cache, in_memory, pages_as_written, page_of, sealed_payload, stored_payload, payload_of, is_changed, IsSettled, IsWritten, IsNotAdded, IsRefused, IsStopped, KeepsPayloads, UnsyncsNone, WritesNone, Writes, Adds}
 use Rattle.pagecache.proofs.CallerLemmas.{stays-trans, unsyncs-trans}
 use Rattle.pagecache.proofs.UnsyncedLemmas.{unsyncs_none, unsyncs_torn, unsyncs_written}
-use Rattle.pagecache.specs.Slots.{HasFailed, IsSound, HasRoom, IsWithin, OnLeaving, IsFirst, Steps, changed_numbers, seen_of}
+use Rattle.pagecache.specs.Slots.{HasFailed, IsSound, HasRoom, IsWithin, OnLeaving, IsFirst, Steps, WritesBack, changed_numbers, seen_of}
 use Rattle.pagecache.specs.declared.slots.Held.{Held}
 use Rattle.pagecache.specs.declared.slots.Slots.{Slots}
 use Rattle.pagecache.specs.declared.fault.CacheFault.{CacheFault}
+use Rattle.pagecache.specs.declared.fault.CacheFault.TheVariants as fault
 
 pub is_some_of : {X : Type 0} (o : Option X) (x : X) → o ≡ Some x → IsSome o
 is_some_of o x e = rw e refl
@@ -119,7 +120,7 @@ reordered c d s t look count capacity =
 
 pub reordered_step : (c d : Cache) → IsSound c → store.Stays c.store d.store → ((m : ℕ) → in_memory d m ≡ in_memory c m)
     → d.count ≡ c.count → d.capacity ≡ c.capacity → d.asked ≡ c.asked → Steps c d
-reordered_step c d s t look count capacity asked = let r = reordered c d s t look count capacity in record { sound = r.0; stays = r.1; unsynced = unsyncs_none c d t.unsynced; asked = asked }
+reordered_step c d s t look count capacity asked = let r = reordered c d s t look count capacity in record { sound = r.0; stays = r.1; unsynced = unsyncs_none c d t.unsynced; asked = asked; length = t.count }
 
 pub store_rests : (s : Store) → store.Stays s s
 store_rests s = record { keeps = record { most = refl; faithful = refl; faults = omega arith; lost = λ l. l }; count = refl; pages = λ _. refl; unsynced = inl refl }
@@ -182,6 +183,7 @@ written c d n page h w s l here marked payload unmarked reads t unsynced look co
       sound = sound;
       asked = asked;
       unsynced = unsyncs_written c d n (changed_there c n h here marked) unsynced;
+      length = let k = t.count in omega (arith, clamps, k, s.within, below);
       stays = record {
         keeps = record {
           store = t.keeps;
@@ -223,6 +225,7 @@ torn c d n h s l here marked t unsynced look count capacity asked =
       sound = sound;
       asked = asked;
       unsynced = unsyncs_torn c d n (changed_there c n h here marked) unsynced;
+      length = ⊎_elim (λ e. e) (λ e. let z : n ≡ c.store.count = e.0 in absurd (omega (arith, z, s.within, below))) t.count;
       stays = record {
         keeps = record { store = t.keeps; capacity = capacity; settled = settled d sound; written = λ f m _ u. other f m u };
         count = count;
@@ -271,6 +274,7 @@ fetched c d n w s below absent unmarked at t look count capacity asked =
       sound = sound;
       asked = asked;
       unsynced = unsyncs_none c d t.unsynced;
+      length = t.count;
       stays = record {
         keeps = record { store = t.keeps; capacity = capacity; written = λ f m _ _. pages f m; settled = settled d sound };
         count = count;
@@ -493,6 +497,7 @@ steps-trans a b c t u = record {
   stays = stays-trans a b c t.stays u.stays;
   unsynced = unsyncs-trans a b c t.stays.changed t.unsynced u.unsynced;
   asked = u.asked ∙ t.asked;
+  length = u.length ∙ t.length;
 }
 
 -- a page has come in first, and the last has left where the cache was full
@@ -621,6 +626,32 @@ empty_written c l e none =
 -- the store has failed
 pub failed_refused : (a b : Cache) (n : ℕ) (e : CacheFault) → HasFailed e a b → IsRefused n e a b
 failed_refused a b n e r = subst (λ x. IsRefused n x a b) (sym r.0) r.1
+
+pub failed_stopped : (a b : Cache) (e : CacheFault) → HasFailed e a b → IsStopped e a b
+failed_stopped a b e r = subst (λ x. IsStopped x a b) (sym r.0) r.1
+
+pub failed_not_added : (a b : Cache) (e : CacheFault) → HasFailed e a b → IsNotAdded e a b
+failed_not_added a b e r = subst (λ x. IsNotAdded x a b) (sym r.0) r.1
+
+-- so it has after a step before it
+pub failed_after : (a b c : Cache) (e : CacheFault) → Steps a b → HasFailed e b c → HasFailed e a c
+failed_after a b c e s r = (r.0, let f = r.1 in omega (arith, f, s.stays.keeps.store.faults))
+
+-- what stops a page from coming in after a step keeps it from being added
+pub stopped_not_added : (a b c : Cache) (e : CacheFault) → store.Keeps a.store b.store → IsStopped e b c → IsNotAdded e a c
+stopped_not_added a b c fault.NoPage s r = absurd r
+stopped_not_added a b c fault.Store s r = omega (arith, r, s.faults)
+stopped_not_added a b c (fault.Damaged m) s r = absurd r
+stopped_not_added a b c fault.StoreFull s r = absurd r
+stopped_not_added a b c fault.Memory s r = tt
+
+-- nothing was to be written
+pub writes_none : (c : Cache) → IsSound c → WritesBack c c (Ok tt)
+writes_none c s = record { steps = rests c s; keys = refl; cause = tt }
+
+-- pages are written after a step that keeps those in memory
+pub writes-trans : (a b c : Cache) (r : Result (Unit {0}) CacheFault) → Steps a b → keys_of b.held ≡ keys_of a.held → WritesBack b c r → WritesBack a c r
+writes-trans a b c r s k w = record { steps = steps-trans a b c s w.steps; keys = w.keys ∙ k; cause = on_err r (λ e. failed_after a b c e s) w.cause }
 
 -- there is no page at the count or above
 pub payload_of-beyond : (c : Cache) (n : ℕ) → IsSound c → c.count ≤ n → payload_of c n ≡ None

@@ -1,10 +1,10 @@
 -- What contracts see of a cache, and what a call does to it.
-use Rattle.std.specs.Prelude.{ℕ, Bool, false, ◌≡◌, ◌≢◌, ◌⊎◌, ◌+◌, ◌-◌, ◌^◌, ◌<◌, ◌≤◌, ◌==◌, if◌then◌else◌, min, List, [], take, drop, Option, Some, None, option_map, option_and_then, unwrap_or, slice_get, nat_eq, IsTrue, ⊤}
+use Rattle.std.specs.Prelude.{ℕ, Bool, false, ◌≡◌, ◌≢◌, ◌⊎◌, ◌+◌, ◌-◌, ◌^◌, ◌<◌, ◌≤◌, ◌==◌, if◌then◌else◌, min, List, [], take, drop, Option, Some, None, option_map, option_and_then, unwrap_or, slice_get, nat_eq, IsTrue, ⊤, Result, Err, IfErr, IfOk, IsErrOf, OnErr, OnOk}
 use Rattle.std.specs.Option.{option_or}
 use Rattle.std.specs.Map.{lookup}
 use Rattle.std.specs.Box.{box_value}
 use Rattle.pages.specs.Unsealed.{unsealed}
-use Rattle.pages.specs.Store.{Store, Faulted, IsSyncedButFirst}
+use Rattle.pages.specs.Store.{Store, Faulted, IsSynced, IsSyncedButFirst}
 use Rattle.pages.specs.Store as store
 use Rattle.pages.specs.declared.payload.Payload.{Payload}
 use Rattle.pagecache.specs.declared.slots.Held.{Held}
@@ -150,6 +150,44 @@ IsNotAdded fault.Store old new = Faulted old.store new.store
 IsNotAdded (fault.Damaged m) old new = ⊥
 IsNotAdded fault.StoreFull old new = old.count ≡ old.store.most
 IsNotAdded fault.Memory old new = ⊤
+
+-- what adding a page with the payload w leaves, and why it is refused
+pub record AddsPage (w : Payload) (old new : Cache) (result : Result ℕ CacheFault) : Type 0 where
+  -- there is one page more, with this payload, and no other payload changes
+  pub adds : OnOk result (Adds w old new)
+  -- its number is the count before
+  pub number : IfOk result (λ number. number ≡ old.count)
+  -- no page had this number or a greater one
+  pub none_before : (n : ℕ) → old.count ≤ n → payload_of old n ≡ None
+  -- the cache counts all pages of the store, if it did before
+  pub length : OnOk result (old.count ≡ old.store.count → new.count ≡ new.store.count)
+  -- after an error no payload has changed
+  pub refused : OnErr result (KeepsPayloads old new)
+  -- one ask is counted
+  pub asks : AsksOnce old new
+  -- the store failed only if it did, and is full only if it has as many pages as it may
+  pub cause : IfErr result (λ fault. IsNotAdded fault old new)
+  -- a store that has as many pages as it may is always full
+  pub full : old.count ≡ old.store.most → result ≡ Err fault.StoreFull
+
+-- what writing every changed page leaves, and why it is refused
+pub record Flushes (old new : Cache) (result : Result (Unit {0}) CacheFault) : Type 0 where
+  -- after `Ok` no page is changed, and the store's pages seal the payloads
+  pub written : OnOk result (IsWritten new)
+  -- after `Ok` every page is synced, and no sync of the store ever failed
+  pub synced : OnOk result (IsSynced new.store)
+  -- no payload changes, on an error too
+  pub stays : KeepsPayloads old new
+  -- if no page is changed, none more is unsynced
+  pub unsynced : UnsyncsNone old new
+  -- the store has as many pages as before
+  pub length : SameLength old new
+  -- no ask is counted
+  pub asked : new.asked ≡ old.asked
+  -- if memory runs out, the cache is as it was
+  pub memory : IsErrOf result fault.Memory → new ≡ old
+  -- it fails only if memory runs out or the store failed
+  pub cause : IfErr result (λ fault. IsStopped fault old new)
 
 -- a call for page n that answers: the page has the payload w
 pub record Lends (n : ℕ) (w : Payload) (old new : Cache) : Type 0 where

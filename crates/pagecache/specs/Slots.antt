@@ -1,11 +1,12 @@
 -- What is seen of the inner cache, and what holds of it.
-use Rattle.std.specs.Prelude.{ℕ, Bool, List, [], map, slice_index, slice_index_or, filter, false, Option, option_map, IfSome, ◌≡◌, ◌-◌, ◌<◌, ◌≤◌, Some, length, slice_get, IsTrue, IsSome}
+use Rattle.std.specs.Prelude.{ℕ, Bool, List, [], map, slice_index, slice_index_or, filter, false, Option, option_map, IfSome, ◌≡◌, ◌-◌, ◌<◌, ◌≤◌, Some, length, slice_get, IsTrue, IsSome, IfErr, IfOk, OnErr, OnOk, Result}
 use Rattle.std.specs.Box.{box_value}
+use Rattle.std.specs.Map.{keys_of}
 use Rattle.pages.specs.Store as store
 use Rattle.pages.specs.Unsealed.{unsealed}
 use Rattle.pages.specs.declared.payload.Payload.{Payload}
 use Rattle.pages.specs.Store.{Faulted}
-use Rattle.pagecache.specs.Cache.{Cache, in_memory, page_of, sealed_payload, is_changed, KeepsPayloads, UnsyncsNone}
+use Rattle.pagecache.specs.Cache.{Cache, in_memory, page_of, sealed_payload, is_changed, Adds, KeepsPayloads, SameLength, UnsyncsNone}
 use Rattle.pagecache.specs.declared.fault.CacheFault.{CacheFault}
 use Rattle.pagecache.specs.declared.fault.CacheFault.TheVariants.{Store}
 use Rattle.pagecache.specs.declared.slots.Held.{Held}
@@ -68,6 +69,22 @@ pub record Steps (old new : Cache) : Type 0 where
   pub stays : KeepsPayloads old new
   pub unsynced : UnsyncsNone old new
   pub asked : new.asked ≡ old.asked
+  pub length : SameLength old new
+
+-- a page comes in behind the last one, with the payload w, or none does
+pub record Appends (w : Payload) (old new : Cache) (result : Result ℕ CacheFault) : Type 0 where
+  pub sound : IsSound new
+  pub adds : OnOk result (Adds w old new)
+  pub number : IfOk result (λ number. number ≡ old.count)
+  pub length : OnOk result (old.count ≡ old.store.count → new.count ≡ new.store.count)
+  pub stays : OnErr result (KeepsPayloads old new)
+  pub asked : new.asked ≡ old.asked
+
+-- a step that writes changed pages, or is refused since the store failed
+pub record WritesBack (old new : Cache) (result : Result (Unit {0}) CacheFault) : Type 0 where
+  pub steps : Steps old new
+  pub keys : keys_of new.held ≡ keys_of old.held
+  pub cause : IfErr result (λ fault. HasFailed fault old new)
 
 -- the numbers of the changed pages
 abbrev pub changed_numbers : List (ℕ × Held) → List ℕ

@@ -1,7 +1,7 @@
 //! Several pages are brought into memory at once: eight digests cost less than four one by one.
 ghost use Rattle.std.specs.Prelude.{ℕ, ◌≡◌, ◌<◌, [], None, IsTrue, IfOk, slice_index_or};
 ghost use Rattle.digests.specs.Pages.{digest_of};
-ghost use Rattle.pagecache.specs.Cache.{SameLength, in_memory};
+ghost use Rattle.pagecache.specs.Cache.{in_memory};
 ghost use Rattle.pagecache.specs.Slots.{AreRead, IsRead, IsSound, Steps, seen_of};
 
 use crate::fault::CacheFault;
@@ -73,7 +73,6 @@ impl<S: PageStore> Slots<S> {
     fn read_absent(&mut self, number: u32, page: &mut [u8; 4096]) -> Result<bool, CacheFault>
         requires { IsSound (seen_of S.seen self.old) }
         ensures steps { Steps (seen_of S.seen self.old) (seen_of S.seen self.new) }
-        ensures length { SameLength (seen_of S.seen self.old) (seen_of S.seen self.new) }
         ensures read { IfOk result
             (λ is_read. IsTrue is_read → IsRead (seen_of S.seen self.new) number page.new) }
     {
@@ -92,7 +91,6 @@ impl<S: PageStore> Slots<S> {
     ) -> Result<[bool; 8], CacheFault>
         requires { IsSound (seen_of S.seen self.old) }
         ensures steps { Steps (seen_of S.seen self.old) (seen_of S.seen self.new) }
-        ensures length { SameLength (seen_of S.seen self.old) (seen_of S.seen self.new) }
         ensures read { IfOk result
             (λ found. AreRead (seen_of S.seen self.new) numbers.now found pages.new 8) }
     {
@@ -117,8 +115,7 @@ impl<S: PageStore> Slots<S> {
         requires sound { IsSound (seen_of S.seen self.old) }
         requires read { IsTrue found → IsRead (seen_of S.seen self.old) number page.now }
         requires digest { digest.now ≡ digest_of page.now }
-        ensures steps { Steps (seen_of S.seen self.old) (seen_of S.seen self.new) }
-        ensures length { SameLength (seen_of S.seen self.old) (seen_of S.seen self.new) }
+        ensures { Steps (seen_of S.seen self.old) (seen_of S.seen self.new) }
     {
         if !found {
             return Ok(());
@@ -151,8 +148,7 @@ impl<S: PageStore> Slots<S> {
     ) -> Result<(), CacheFault>
         requires sound { IsSound (seen_of S.seen self.old) }
         requires read { AreRead (seen_of S.seen self.old) numbers.now found pages.now 8 }
-        ensures steps { Steps (seen_of S.seen self.old) (seen_of S.seen self.new) }
-        ensures length { SameLength (seen_of S.seen self.old) (seen_of S.seen self.new) }
+        ensures { Steps (seen_of S.seen self.old) (seen_of S.seen self.new) }
     {
         let all = digests_of(pages);
         'places: for place in 0..8 {
@@ -168,8 +164,7 @@ impl<S: PageStore> Slots<S> {
     /// not few.
     fn bring_eight(&mut self, numbers: &[u32; 8]) -> Result<(), CacheFault>
         requires { IsSound (seen_of S.seen self.old) }
-        ensures steps { Steps (seen_of S.seen self.old) (seen_of S.seen self.new) }
-        ensures length { SameLength (seen_of S.seen self.old) (seen_of S.seen self.new) }
+        ensures { Steps (seen_of S.seen self.old) (seen_of S.seen self.new) }
     {
         if self.absent(numbers) < FEW {
             return Ok(());
@@ -240,8 +235,7 @@ impl<S: PageStore> Slots<S> {
     /// sixteen. What it does not bring is left to its own ask.
     pub(crate) fn look_ahead(&mut self, number: u32, next: &[u32])
         requires { IsSound (seen_of S.seen self.old) }
-        ensures steps { Steps (seen_of S.seen self.old) (seen_of S.seen self.new) }
-        ensures length { SameLength (seen_of S.seen self.old) (seen_of S.seen self.new) }
+        ensures { Steps (seen_of S.seen self.old) (seen_of S.seen self.new) }
     {
         if next.is_empty() || self.held.cap().get() < 16 || !self.is_absent(number) {
             return;

@@ -1,8 +1,8 @@
 //! The cache as its callers see it.
-ghost use Rattle.std.specs.Prelude.{ℕ, ◌≡◌, ◌<◌, ◌≤◌, false, Some, None, IsTrue, IfOk, IfErr, OnOk, OnErr, IsErrOf, length};
+ghost use Rattle.std.specs.Prelude.{◌≡◌, ◌<◌, ◌≤◌, false, Some, IsTrue, IfOk, IfErr, OnOk, length};
 ghost use Rattle.std.specs.Borrow.{sem};
-ghost use Rattle.pagecache.specs.Cache.{fresh, is_changed, payload_of, Adds, KeepsPayloads, SameLength, AsksOnce, IsNotAdded, IsSettled, IsStopped, IsWritten, UnsyncsNone};
-ghost use Rattle.pages.specs.Store.{IsLawful, IsSynced};
+ghost use Rattle.pagecache.specs.Cache.{fresh, is_changed, payload_of, AddsPage, Flushes, IsSettled, IsWritten};
+ghost use Rattle.pages.specs.Store.{IsLawful};
 ghost use Rattle.pages.specs.Zero.{zero_payload};
 ghost use Rattle.pagecache.specs.PageLends.{LendsPage, ShowsPage};
 
@@ -107,27 +107,11 @@ impl<S: PageStore> PageCache<S> {
     /// Adds a page with a payload to the store, and returns its number, the count so far. No number from
     /// there on had a payload. The page is sealed and written at once, with that payload.
     pub fn add(&mut self, payload: Payload) -> Result<u32, CacheFault>
-        // There is one page more, with this payload, and no other payload changes.
-        ensures adds { OnOk result (Adds payload self.old self.new) }
+        // There is one page more, with this payload, and no other payload changes; or none, and an
+        // error says why.
+        ensures page { AddsPage payload self.old self.new result }
         // The new page is not changed: as written it seals that payload.
         ensures clean { OnOk result (is_changed self.new self.old.count ≡ false) }
-        // Its number is the count before.
-        ensures number { IfOk result (λ number. number ≡ self.old.count) }
-        // No page had this number or a greater one.
-        ensures none_before { (n : ℕ) → self.old.count ≤ n → payload_of self.old n ≡ None }
-        // The cache counts all pages of the store, if it did before.
-        ensures length { OnOk result (self.old.count ≡ self.old.store.count
-            → self.new.count ≡ self.new.store.count) }
-        // After an error no payload has changed.
-        ensures refused { OnErr result (KeepsPayloads self.old self.new) }
-        // One ask is counted.
-        ensures asks { AsksOnce self.old self.new }
-        // `Store` is returned only if the store failed, and `StoreFull` only if it has as many
-        // pages as it may.
-        ensures cause { IfErr result (λ fault. IsNotAdded fault self.old self.new) }
-        // A store that has as many pages as it may is always `StoreFull`.
-        ensures full { self.old.count ≡ self.old.store.most
-            → result ≡ Err CacheFault.StoreFull }
     {
         self.slots.add(payload)
     }
@@ -137,25 +121,9 @@ impl<S: PageStore> PageCache<S> {
     /// memory, or by `flush`; until then the store has zero bytes in its place, which are no sealed
     /// page. Where there is no memory to hold it, it is refused.
     pub fn add_changed(&mut self, payload: Payload) -> Result<u32, CacheFault>
-        // There is one page more, with this payload, and no other payload changes.
-        ensures adds { OnOk result (Adds payload self.old self.new) }
-        // Its number is the count before.
-        ensures number { IfOk result (λ number. number ≡ self.old.count) }
-        // No page had this number or a greater one.
-        ensures none_before { (n : ℕ) → self.old.count ≤ n → payload_of self.old n ≡ None }
-        // The cache counts all pages of the store, if it did before.
-        ensures length { OnOk result (self.old.count ≡ self.old.store.count
-            → self.new.count ≡ self.new.store.count) }
-        // After an error no payload has changed.
-        ensures refused { OnErr result (KeepsPayloads self.old self.new) }
-        // One ask is counted.
-        ensures asks { AsksOnce self.old self.new }
-        // `Store` is returned only if the store failed, and `StoreFull` only if it has as many
-        // pages as it may.
-        ensures cause { IfErr result (λ fault. IsNotAdded fault self.old self.new) }
-        // A store that has as many pages as it may is always `StoreFull`.
-        ensures full { self.old.count ≡ self.old.store.most
-            → result ≡ Err CacheFault.StoreFull }
+        // There is one page more, with this payload, and no other payload changes; or none, and an
+        // error says why.
+        ensures { AddsPage payload self.old self.new result }
     {
         self.slots.add_changed(payload)
     }
@@ -163,27 +131,11 @@ impl<S: PageStore> PageCache<S> {
     /// Adds a page with a zero payload to the store, and returns its number, the count so far. No
     /// number from there on had a payload. The page is sealed and written at once, with zeros.
     pub fn add_page(&mut self, kind: Kind) -> Result<u32, CacheFault>
-        // There is one page more, of zero bytes, and no other payload changes.
-        ensures adds { OnOk result (Adds (zero_payload kind) self.old self.new) }
-        // The new page is not changed: as written it seals these zero bytes.
+        // There is one page more, with this payload, and no other payload changes; or none, and an
+        // error says why.
+        ensures page { AddsPage (zero_payload kind) self.old self.new result }
+        // The new page is not changed: as written it seals that payload.
         ensures clean { OnOk result (is_changed self.new self.old.count ≡ false) }
-        // Its number is the count before.
-        ensures number { IfOk result (λ number. number ≡ self.old.count) }
-        // No page had this number or a greater one.
-        ensures none_before { (n : ℕ) → self.old.count ≤ n → payload_of self.old n ≡ None }
-        // The cache counts all pages of the store, if it did before.
-        ensures length { OnOk result (self.old.count ≡ self.old.store.count
-            → self.new.count ≡ self.new.store.count) }
-        // After an error no payload has changed.
-        ensures refused { OnErr result (KeepsPayloads self.old self.new) }
-        // One ask is counted.
-        ensures asks { AsksOnce self.old self.new }
-        // `Store` is returned only if the store failed, and `StoreFull` only if it has as many
-        // pages as it may.
-        ensures cause { IfErr result (λ fault. IsNotAdded fault self.old self.new) }
-        // A store that has as many pages as it may is always `StoreFull`.
-        ensures full { self.old.count ≡ self.old.store.most
-            → result ≡ Err CacheFault.StoreFull }
     {
         self.add(Payload::zero(kind))
     }
@@ -191,22 +143,9 @@ impl<S: PageStore> PageCache<S> {
     /// Writes every changed page to the store, and makes the store last. A page that is not
     /// changed is not written.
     pub fn flush(&mut self) -> Result<(), CacheFault>
-        // After `Ok` no page is changed, and the store's pages seal the payloads.
-        ensures written { OnOk result (IsWritten self.new) }
-        // After `Ok` every page is synced, and no sync of the store ever failed.
-        ensures synced { OnOk result (IsSynced self.new.store) }
-        // No payload changes, on an error too.
-        ensures stays { KeepsPayloads self.old self.new }
-        // If no page is changed, none more is unsynced.
-        ensures unsynced { UnsyncsNone self.old self.new }
-        // The store has as many pages as before.
-        ensures length { SameLength self.old self.new }
-        // No ask is counted.
-        ensures asked { self.new.asked ≡ self.old.asked }
-        // If memory runs out, the cache is as it was.
-        ensures memory { IsErrOf result CacheFault.Memory → self.new ≡ self.old }
-        // It fails only if memory runs out or the store failed.
-        ensures cause { IfErr result (λ fault. IsStopped fault self.old self.new) }
+        // After `Ok` no page is changed, each is written, and the store is synced. No payload
+        // changes, and an error says why it failed.
+        ensures { Flushes self.old self.new result }
     {
         self.slots.flush()
     }

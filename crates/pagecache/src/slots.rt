@@ -1,11 +1,10 @@
 //! The pages in memory, over the store: a step of the cache each.
-ghost use Rattle.std.specs.Prelude.{ℕ, ◌≡◌, ◌<◌, ◌≤◌, ◌↔◌, false, Some, None, IsTrue, IsSome, OnOk, OnErr, IfOk, IfErr, IfNone, IfSome, IsErrOf, slice_get, slice_index, EachIndex, length};
+ghost use Rattle.std.specs.Prelude.{ℕ, ◌≡◌, ◌<◌, ◌≤◌, ◌↔◌, false, Some, None, IsTrue, IsSome, OnOk, OnErr, IfOk, IfErr, IfNone, IfSome, slice_get, length};
 ghost use Rattle.std.specs.Borrow.{sem};
-ghost use Rattle.std.specs.Map.{keys_of};
-ghost use Rattle.pagecache.specs.Cache.{fresh, AsksOnce, KeepsPayloads, SameLength, Adds, IsRefused, IsStopped, IsNotAdded, IsWritten, in_memory, sealed_payload, is_changed, payload_of, UnsyncsNone};
+ghost use Rattle.pagecache.specs.Cache.{fresh, AddsPage, Flushes, IsRefused, IsStopped, IsWritten, Rests, in_memory, sealed_payload, is_changed, payload_of};
 ghost use Rattle.pages.specs.Store.{IsSynced, Stays as StoreStays};
 ghost use Rattle.pagecache.specs.SlotLends.{LendsSlot};
-ghost use Rattle.pagecache.specs.Slots.{HasFailed, HasRoom, IsFirst, IsSound, IsWithin, OnLeaving, Steps, changed_numbers, seen_of};
+ghost use Rattle.pagecache.specs.Slots.{Appends, HasFailed, HasRoom, IsFirst, IsSound, IsWithin, OnLeaving, Steps, WritesBack, changed_numbers, seen_of};
 
 use crate::fault::CacheFault;
 use lru::LruCache;
@@ -112,12 +111,8 @@ impl<S: PageStore> Slots<S> {
     /// Writes the page that would leave, where it is changed, and others that are to leave soon.
     pub(crate) fn make_room(&mut self) -> Result<(), CacheFault>
         requires { IsSound (seen_of S.seen self.old) }
-        ensures steps { Steps (seen_of S.seen self.old) (seen_of S.seen self.new) }
-        ensures length { SameLength (seen_of S.seen self.old) (seen_of S.seen self.new) }
+        ensures writes { WritesBack (seen_of S.seen self.old) (seen_of S.seen self.new) result }
         ensures room { OnOk result (HasRoom (seen_of S.seen self.new)) }
-        ensures keys { keys_of self.new.held.entries ≡ keys_of self.old.held.entries }
-        ensures cause { IfErr result
-            (λ fault. HasFailed fault (seen_of S.seen self.old) (seen_of S.seen self.new)) }
     {
         match self.leaving() {
             None => Ok(()),
@@ -134,7 +129,6 @@ impl<S: PageStore> Slots<S> {
         requires same { IsTrue (S.seen self.old.store).is_faithful
             → sealed_payload (seen_of S.seen self.old) number ≡ Some payload }
         ensures steps { Steps (seen_of S.seen self.old) (seen_of S.seen self.new) }
-        ensures store { S.seen self.new.store ≡ S.seen self.old.store }
         ensures first { OnOk result (IsFirst (seen_of S.seen self.new) number) }
         ensures cause { IfErr result (λ fault. fault ≡ CacheFault.Memory) }
     {
@@ -159,7 +153,6 @@ impl<S: PageStore> Slots<S> {
         requires absent { in_memory (seen_of S.seen self.old) number ≡ None }
         requires room { HasRoom (seen_of S.seen self.old) }
         ensures steps { Steps (seen_of S.seen self.old) (seen_of S.seen self.new) }
-        ensures length { SameLength (seen_of S.seen self.old) (seen_of S.seen self.new) }
         ensures first { OnOk result (IsFirst (seen_of S.seen self.new) number) }
         ensures cause { IfErr result (λ fault. IsRefused number fault
             (seen_of S.seen self.old) (seen_of S.seen self.new)) }
@@ -187,7 +180,6 @@ impl<S: PageStore> Slots<S> {
         requires sound { IsSound (seen_of S.seen self.old) }
         requires below { number < self.old.count }
         ensures steps { Steps (seen_of S.seen self.old) (seen_of S.seen self.new) }
-        ensures length { SameLength (seen_of S.seen self.old) (seen_of S.seen self.new) }
         ensures first { OnOk result (IsFirst (seen_of S.seen self.new) number) }
         ensures cause { IfErr result (λ fault. IsRefused number fault
             (seen_of S.seen self.old) (seen_of S.seen self.new)) }
@@ -209,10 +201,7 @@ impl<S: PageStore> Slots<S> {
     pub(crate) fn ready(&mut self, number: u32, next: &[u32]) -> Result<(), CacheFault>
         requires { IsSound (seen_of S.seen self.old) }
         ensures sound { IsSound (seen_of S.seen self.new) }
-        ensures stays { KeepsPayloads (seen_of S.seen self.old) (seen_of S.seen self.new) }
-        ensures unsynced { UnsyncsNone (seen_of S.seen self.old) (seen_of S.seen self.new) }
-        ensures length { SameLength (seen_of S.seen self.old) (seen_of S.seen self.new) }
-        ensures asks { AsksOnce (seen_of S.seen self.old) (seen_of S.seen self.new) }
+        ensures rests { Rests (seen_of S.seen self.old) (seen_of S.seen self.new) }
         ensures below { OnOk result (number < self.old.count) }
         ensures first { OnOk result (IsFirst (seen_of S.seen self.new) number) }
         ensures cause { IfErr result (λ fault. IsRefused number fault
@@ -304,14 +293,8 @@ impl<S: PageStore> Slots<S> {
     /// Writes every changed page, and makes the store last.
     pub(crate) fn flush(&mut self) -> Result<(), CacheFault>
         requires { IsSound (seen_of S.seen self.old) }
-        ensures steps { Steps (seen_of S.seen self.old) (seen_of S.seen self.new) }
-        ensures length { SameLength (seen_of S.seen self.old) (seen_of S.seen self.new) }
-        ensures written { OnOk result (IsWritten (seen_of S.seen self.new)) }
-        ensures synced { OnOk result (IsSynced (S.seen self.new.store)) }
-        ensures memory { IsErrOf result CacheFault.Memory
-            → seen_of S.seen self.new ≡ seen_of S.seen self.old }
-        ensures cause { IfErr result
-            (λ fault. IsStopped fault (seen_of S.seen self.old) (seen_of S.seen self.new)) }
+        ensures sound { IsSound (seen_of S.seen self.new) }
+        ensures flushes { Flushes (seen_of S.seen self.old) (seen_of S.seen self.new) result }
     {
         let numbers = match self.changed() {
             Ok(numbers) => numbers,
@@ -335,16 +318,9 @@ impl<S: PageStore> Slots<S> {
     fn append(&mut self, payload: &Payload) -> Result<u32, CacheFault>
         requires sound { IsSound (seen_of S.seen self.old) }
         requires room { self.old.count < (S.seen self.old.store).most }
-        ensures sound { IsSound (seen_of S.seen self.new) }
-        ensures adds { OnOk result
-            (Adds payload.now (seen_of S.seen self.old) (seen_of S.seen self.new)) }
-        ensures number { IfOk result (λ number. number ≡ self.old.count) }
-        ensures length { OnOk result (self.old.count ≡ (S.seen self.old.store).count
-            → self.new.count ≡ (S.seen self.new.store).count) }
-        ensures stays { OnErr result
-            (KeepsPayloads (seen_of S.seen self.old) (seen_of S.seen self.new)) }
+        ensures appends { Appends payload.now (seen_of S.seen self.old)
+            (seen_of S.seen self.new) result }
         ensures held { self.new.held ≡ self.old.held }
-        ensures asked { self.new.asked ≡ self.old.asked }
         ensures cause { IfErr result
             (λ fault. HasFailed fault (seen_of S.seen self.old) (seen_of S.seen self.new)) }
     {
@@ -363,20 +339,9 @@ impl<S: PageStore> Slots<S> {
     pub(crate) fn add(&mut self, payload: Payload) -> Result<u32, CacheFault>
         requires { IsSound (seen_of S.seen self.old) }
         ensures sound { IsSound (seen_of S.seen self.new) }
-        ensures adds { OnOk result
-            (Adds payload (seen_of S.seen self.old) (seen_of S.seen self.new)) }
+        ensures page { AddsPage payload (seen_of S.seen self.old) (seen_of S.seen self.new) result }
         ensures clean { OnOk result
             (is_changed (seen_of S.seen self.new) self.old.count ≡ false) }
-        ensures number { IfOk result (λ number. number ≡ self.old.count) }
-        ensures length { OnOk result (self.old.count ≡ (S.seen self.old.store).count
-            → self.new.count ≡ (S.seen self.new.store).count) }
-        ensures stays { OnErr result
-            (KeepsPayloads (seen_of S.seen self.old) (seen_of S.seen self.new)) }
-        ensures asks { AsksOnce (seen_of S.seen self.old) (seen_of S.seen self.new) }
-        ensures cause { IfErr result
-            (λ fault. IsNotAdded fault (seen_of S.seen self.old) (seen_of S.seen self.new)) }
-        ensures full { self.old.count ≡ (S.seen self.old.store).most
-            → result ≡ Err CacheFault.StoreFull }
     {
         self.asked = self.asked.saturating_add(1);
         if self.is_full() {
@@ -402,15 +367,8 @@ impl<S: PageStore> Slots<S> {
         requires sound { IsSound (seen_of S.seen self.old) }
         requires most { self.old.count < (S.seen self.old.store).most }
         requires room { HasRoom (seen_of S.seen self.old) }
-        ensures sound { IsSound (seen_of S.seen self.new) }
-        ensures adds { OnOk result
-            (Adds payload (seen_of S.seen self.old) (seen_of S.seen self.new)) }
-        ensures number { IfOk result (λ number. number ≡ self.old.count) }
-        ensures length { OnOk result (self.old.count ≡ (S.seen self.old.store).count
-            → self.new.count ≡ (S.seen self.new.store).count) }
-        ensures stays { OnErr result
-            (KeepsPayloads (seen_of S.seen self.old) (seen_of S.seen self.new)) }
-        ensures asked { self.new.asked ≡ self.old.asked }
+        ensures appends { Appends payload (seen_of S.seen self.old)
+            (seen_of S.seen self.new) result }
         ensures cause { IfErr result
             (λ fault. IsStopped fault (seen_of S.seen self.old) (seen_of S.seen self.new)) }
     {
@@ -441,18 +399,7 @@ impl<S: PageStore> Slots<S> {
     pub(crate) fn add_changed(&mut self, payload: Payload) -> Result<u32, CacheFault>
         requires { IsSound (seen_of S.seen self.old) }
         ensures sound { IsSound (seen_of S.seen self.new) }
-        ensures adds { OnOk result
-            (Adds payload (seen_of S.seen self.old) (seen_of S.seen self.new)) }
-        ensures number { IfOk result (λ number. number ≡ self.old.count) }
-        ensures length { OnOk result (self.old.count ≡ (S.seen self.old.store).count
-            → self.new.count ≡ (S.seen self.new.store).count) }
-        ensures stays { OnErr result
-            (KeepsPayloads (seen_of S.seen self.old) (seen_of S.seen self.new)) }
-        ensures asks { AsksOnce (seen_of S.seen self.old) (seen_of S.seen self.new) }
-        ensures cause { IfErr result
-            (λ fault. IsNotAdded fault (seen_of S.seen self.old) (seen_of S.seen self.new)) }
-        ensures full { self.old.count ≡ (S.seen self.old.store).most
-            → result ≡ Err CacheFault.StoreFull }
+        ensures page { AddsPage payload (seen_of S.seen self.old) (seen_of S.seen self.new) result }
     {
         self.asked = self.asked.saturating_add(1);
         if self.is_full() {

@@ -1,9 +1,8 @@
 //! Changed pages are written eight at a time: to seal eight costs less than to seal four one by one.
-ghost use Rattle.std.specs.Prelude.{ℕ, ◌≡◌, ◌<◌, [], false, OnOk, IfErr, slice_index, slice_index_or, EachIndex, length};
-ghost use Rattle.std.specs.Map.{keys_of};
+ghost use Rattle.std.specs.Prelude.{ℕ, ◌≡◌, ◌<◌, [], false, OnOk, slice_index, slice_index_or, EachIndex, length};
 ghost use Rattle.std.specs.Option.{unwrap_or};
-ghost use Rattle.pagecache.specs.Cache.{SameLength, is_changed};
-ghost use Rattle.pagecache.specs.Slots.{HasFailed, IsSound, SameInMemory, Seals, Steps, held_payload, seen_of};
+ghost use Rattle.pagecache.specs.Cache.{is_changed};
+ghost use Rattle.pagecache.specs.Slots.{IsSound, SameInMemory, Seals, WritesBack, held_payload, seen_of};
 
 use crate::fault::CacheFault;
 use crate::slots::{Slots, blank};
@@ -83,13 +82,9 @@ impl<S: PageStore> Slots<S> {
     fn write_sealed(&mut self, number: u32, page: &[u8; 4096]) -> Result<(), CacheFault>
         requires sound { IsSound (seen_of S.seen self.old) }
         requires seals { Seals (seen_of S.seen self.old) number page.now }
-        ensures steps { Steps (seen_of S.seen self.old) (seen_of S.seen self.new) }
-        ensures length { SameLength (seen_of S.seen self.old) (seen_of S.seen self.new) }
+        ensures writes { WritesBack (seen_of S.seen self.old) (seen_of S.seen self.new) result }
         ensures written { OnOk result (is_changed (seen_of S.seen self.new) number ≡ false) }
-        ensures keys { keys_of self.new.held.entries ≡ keys_of self.old.held.entries }
         ensures memory { SameInMemory (seen_of S.seen self.old) (seen_of S.seen self.new) }
-        ensures cause { IfErr result
-            (λ fault. HasFailed fault (seen_of S.seen self.old) (seen_of S.seen self.new)) }
     {
         match self.held.peek_mut(&number) {
             None => Ok(()),
@@ -106,12 +101,8 @@ impl<S: PageStore> Slots<S> {
     /// Writes a page that is changed.
     fn write_back(&mut self, number: u32) -> Result<(), CacheFault>
         requires { IsSound (seen_of S.seen self.old) }
-        ensures steps { Steps (seen_of S.seen self.old) (seen_of S.seen self.new) }
-        ensures length { SameLength (seen_of S.seen self.old) (seen_of S.seen self.new) }
+        ensures writes { WritesBack (seen_of S.seen self.old) (seen_of S.seen self.new) result }
         ensures written { OnOk result (is_changed (seen_of S.seen self.new) number ≡ false) }
-        ensures keys { keys_of self.new.held.entries ≡ keys_of self.old.held.entries }
-        ensures cause { IfErr result
-            (λ fault. HasFailed fault (seen_of S.seen self.old) (seen_of S.seen self.new)) }
     {
         if self.is_changed(number) {
             let page = self.sealed(number);
@@ -124,11 +115,7 @@ impl<S: PageStore> Slots<S> {
     /// Writes those of eight pages that are changed.
     fn write_eight(&mut self, numbers: &[u32; 8]) -> Result<(), CacheFault>
         requires { IsSound (seen_of S.seen self.old) }
-        ensures steps { Steps (seen_of S.seen self.old) (seen_of S.seen self.new) }
-        ensures length { SameLength (seen_of S.seen self.old) (seen_of S.seen self.new) }
-        ensures keys { keys_of self.new.held.entries ≡ keys_of self.old.held.entries }
-        ensures cause { IfErr result
-            (λ fault. HasFailed fault (seen_of S.seen self.old) (seen_of S.seen self.new)) }
+        ensures { WritesBack (seen_of S.seen self.old) (seen_of S.seen self.new) result }
     {
         let pages = self.sealed_eight(numbers);
         'places: for place in 0..8 {
@@ -157,11 +144,7 @@ impl<S: PageStore> Slots<S> {
     /// Writes the changed pages that were used longest ago, where there are enough of them.
     fn write_cold(&mut self, leaving: u32) -> Result<(), CacheFault>
         requires { IsSound (seen_of S.seen self.old) }
-        ensures steps { Steps (seen_of S.seen self.old) (seen_of S.seen self.new) }
-        ensures length { SameLength (seen_of S.seen self.old) (seen_of S.seen self.new) }
-        ensures keys { keys_of self.new.held.entries ≡ keys_of self.old.held.entries }
-        ensures cause { IfErr result
-            (λ fault. HasFailed fault (seen_of S.seen self.old) (seen_of S.seen self.new)) }
+        ensures { WritesBack (seen_of S.seen self.old) (seen_of S.seen self.new) result }
     {
         let cold = self.cold(leaving);
         if cold.count < FEW {
@@ -175,12 +158,8 @@ impl<S: PageStore> Slots<S> {
     /// written with it and stay, unchanged.
     pub(crate) fn write_leaving(&mut self, number: u32) -> Result<(), CacheFault>
         requires { IsSound (seen_of S.seen self.old) }
-        ensures steps { Steps (seen_of S.seen self.old) (seen_of S.seen self.new) }
-        ensures length { SameLength (seen_of S.seen self.old) (seen_of S.seen self.new) }
+        ensures writes { WritesBack (seen_of S.seen self.old) (seen_of S.seen self.new) result }
         ensures written { OnOk result (is_changed (seen_of S.seen self.new) number ≡ false) }
-        ensures keys { keys_of self.new.held.entries ≡ keys_of self.old.held.entries }
-        ensures cause { IfErr result
-            (λ fault. HasFailed fault (seen_of S.seen self.old) (seen_of S.seen self.new)) }
     {
         match self.write_cold(number) {
             Ok(()) => {}
@@ -195,10 +174,7 @@ impl<S: PageStore> Slots<S> {
     /// Writes those of some pages that are changed, but for a rest of few.
     fn write_groups(&mut self, numbers: &[u32]) -> Result<(), CacheFault>
         requires { IsSound (seen_of S.seen self.old) }
-        ensures steps { Steps (seen_of S.seen self.old) (seen_of S.seen self.new) }
-        ensures length { SameLength (seen_of S.seen self.old) (seen_of S.seen self.new) }
-        ensures cause { IfErr result
-            (λ fault. HasFailed fault (seen_of S.seen self.old) (seen_of S.seen self.new)) }
+        ensures { WritesBack (seen_of S.seen self.old) (seen_of S.seen self.new) result }
     {
         'groups: for group in 0..(numbers.len() + 8 - FEW) / 8 {
             match self.write_eight(&eight_of(numbers, 8 * group)) {
@@ -212,12 +188,9 @@ impl<S: PageStore> Slots<S> {
     /// Writes those of some pages that are changed.
     pub(crate) fn write_all(&mut self, numbers: &[u32]) -> Result<(), CacheFault>
         requires { IsSound (seen_of S.seen self.old) }
-        ensures steps { Steps (seen_of S.seen self.old) (seen_of S.seen self.new) }
-        ensures length { SameLength (seen_of S.seen self.old) (seen_of S.seen self.new) }
+        ensures writes { WritesBack (seen_of S.seen self.old) (seen_of S.seen self.new) result }
         ensures written { OnOk result (EachIndex numbers.now
             (λ k. is_changed (seen_of S.seen self.new) (slice_index numbers.now k) ≡ false)) }
-        ensures cause { IfErr result
-            (λ fault. HasFailed fault (seen_of S.seen self.old) (seen_of S.seen self.new)) }
     {
         match self.write_groups(numbers) {
             Ok(()) => {}

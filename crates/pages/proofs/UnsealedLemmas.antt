@@ -7,14 +7,14 @@ use Rattle.std.proofs.lemmas.Slice.Eq.{bytes_eq-Decides}
 use Rattle.sha2.specs.Sha256.{sha256}
 use Rattle.sha2.proofs.Facts256.{length-sha256}
 use Rattle.pages.specs.Sealed.{front, sealed, code_of}
-use Rattle.pages.specs.Unsealed.{kind_of, payload_at, unsealed}
+use Rattle.pages.specs.Unsealed.{kind_coded, payload_at, unsealed}
 use Rattle.pages.proofs.SealedLemmas.{front_of_sealed, body_of_front}
 use Rattle.pages.specs.declared.payload.Kind.{Kind}
 use Rattle.pages.specs.declared.payload.Kind.TheVariants.{Header, Leaf, Inner, Catalogue}
 use Rattle.pages.specs.declared.payload.Payload.{Payload}
 
-pub kind_of-code_of : (k : Kind) → kind_of (code_of k) ≡ Some k
-unfolding kind_of
+pub kind_of-code_of : (k : Kind) → kind_coded (code_of k) ≡ Some k
+unfolding kind_coded
 kind_of-code_of Header = refl
 kind_of-code_of Leaf = refl
 kind_of-code_of Inner = refl
@@ -43,7 +43,7 @@ chosen false p q e = absurd (cc)
 pub sealed-unsealed : (n : ℕ) (page : List ℕ) (p : Payload) → unsealed n page ≡ Some p → page ≡ sealed n p
 unfolding unsealed
 sealed-unsealed n page p e =
-    option_and_then_some (λ k. cond (bytes_eq (sealed n (payload_at page k)) page) (Some (payload_at page k)) None) (kind_of (get_or page 4 0)) p e
+    option_and_then_some (λ k. cond (bytes_eq (sealed n (payload_at page k)) page) (Some (payload_at page k)) None) (kind_coded (get_or page 4 0)) p e
     (λ k f g. let h = chosen _ _ _ g in
     sym ((bytes_eq-Decides (sealed n (payload_at page k)) page).0 h.0) ∙ ap (sealed n) h.1)
 

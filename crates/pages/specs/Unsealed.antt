@@ -8,8 +8,8 @@ use Rattle.pages.specs.declared.payload.Kind.TheVariants.{Header, Leaf, Inner, C
 use Rattle.pages.specs.declared.payload.Payload.{Payload}
 
 -- the kind that a byte says
-unfoldable pub kind_of : ℕ → Option Kind
-kind_of code =
+unfoldable pub kind_coded : ℕ → Option Kind
+kind_coded code =
     if code == 1 then Some Header
     else (if code == 2 then Some Leaf
     else (if code == 3 then Some Inner
@@ -24,4 +24,4 @@ unfoldable pub unsealed : ℕ → List ℕ → Option Payload
 unsealed n page =
     option_and_then (λ kind. let p = payload_at page kind in
     if bytes_eq (sealed n p) page then Some p else None)
-    (kind_of (slice_index page 4))
+    (kind_coded (slice_index page 4))

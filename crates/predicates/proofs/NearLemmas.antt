@@ -8,17 +8,17 @@ use Rattle.timebase.specs.Period.{PeriodView}
 use Rattle.legs.specs.Legs.{LegView, IsLeg, is_live}
 use Rattle.legs.specs.Boxes.{RectView, box_of, box_over, boxes_meet, intervals_meet}
 use Rattle.predicates.specs.Predicates.{Holds}
-use Rattle.predicates.specs.Near.{box_near, plane_over, most}
+use Rattle.predicates.specs.Near.{box_near, plane_over, greatest_coordinate}
 use Rattle.predicates.specs.declared.Predicate.{Predicate}
 use Rattle.predicates.specs.declared.Predicate.TheVariants.{Ever, Always, Enters, Leaves, Crosses, Bypasses}
 use Rattle.predicates.proofs.LegLemmas.{and_true, le_to, ordered}
 use Rattle.predicates.proofs.PredicateLemmas.{holds_live, holds_meets}
 
 -- two coordinates lie in the plane
-in_plane : (a b : ℤ) → IsInRange a → IsInRange b → intervals_meet (int_min a b) (int_max a b) (neg_ℤ most) most ≡ true
+in_plane : (a b : ℤ) → IsInRange a → IsInRange b → intervals_meet (int_min a b) (int_max a b) (neg_ℤ greatest_coordinate) greatest_coordinate ≡ true
 in_plane a b p q =
-    and_true (int_le (int_min a b) most) (int_le (neg_ℤ most) (int_max a b))
-    (le_to (int_min a b) most (omega (arith, ints, clamps, p, q))) (le_to (neg_ℤ most) (int_max a b) (omega (arith, ints, clamps, p, q)))
+    and_true (int_le (int_min a b) greatest_coordinate) (int_le (neg_ℤ greatest_coordinate) (int_max a b))
+    (le_to (int_min a b) greatest_coordinate (omega (arith, ints, clamps, p, q))) (le_to (neg_ℤ greatest_coordinate) (int_max a b) (omega (arith, ints, clamps, p, q)))
 
 plane_meets : (leg : LegView) (period : PeriodView) → IsLeg leg → is_live period leg ≡ true → boxes_meet (box_of leg) (plane_over period) ≡ true
 plane_meets leg period lawful live =

@@ -9,18 +9,18 @@ use Rattle.predicates.specs.declared.Predicate.{Predicate}
 use Rattle.predicates.specs.declared.Predicate.TheVariants.{Ever, Always, Enters, Leaves, Crosses, Bypasses}
 
 -- the greatest coordinate
-abbrev pub most : ℤ
-most = pos most_units
+abbrev pub greatest_coordinate : ℤ
+greatest_coordinate = pos most_units
 
 -- the box over a period, of all x and y
 abbrev pub plane_over : PeriodView → BoxView
 plane_over period =
     record {
-      x_min = neg_ℤ most;
-      y_min = neg_ℤ most;
+      x_min = neg_ℤ greatest_coordinate;
+      y_min = neg_ℤ greatest_coordinate;
       t_min = period.start;
-      x_max = most;
-      y_max = most;
+      x_max = greatest_coordinate;
+      y_max = greatest_coordinate;
       t_max = period.end;
     }
 

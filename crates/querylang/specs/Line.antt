@@ -61,8 +61,8 @@ over command (Ok rect) (Err e) = Err e
 over command (Err e) period = Err e
 
 -- `box X1 Y1 X2 Y2 T1 T2`
-abbrev pub box_of : List (List ℕ) → Result Command LineCode
-box_of ws = if length ws == 7 then over Box (rect_behind 1 ws) (period_behind 5 ws) else Err Q3
+abbrev pub box_command : List (List ℕ) → Result Command LineCode
+box_command ws = if length ws == 7 then over Box (rect_behind 1 ws) (period_behind 5 ws) else Err Q3
 
 -- which predicate a word is, in lower case only
 unfoldable pub predicate_of : List ℕ → Option Predicate
@@ -93,7 +93,7 @@ question_of ws =
 -- a command of a predicate, a rectangle and a period
 abbrev pub tested : (Predicate → RectView → PeriodView → Command) → Result Question LineCode
     → Result Command LineCode
-tested command (Ok asked) = Ok (command asked.predicate asked.rect asked.period)
+tested command (Ok asked_in_words) = Ok (command asked_in_words.predicate asked_in_words.rect asked_in_words.period)
 tested command (Err e) = Err e
 
 -- a command of one word
@@ -101,8 +101,8 @@ abbrev pub alone : Command → List (List ℕ) → Result Command LineCode
 alone command ws = if length ws == 1 then Ok command else Err Q3
 
 -- a name: the rest of the line, with its inner blanks kept
-abbrev pub name_of : List ℕ → Result (List ℕ) LineCode
-name_of rest = if is_empty (cut rest) then Err Q3 else Ok (cut rest)
+abbrev pub name_read : List ℕ → Result (List ℕ) LineCode
+name_read rest = if is_empty (cut rest) then Err Q3 else Ok (cut rest)
 
 -- a command of a name
 abbrev pub named : (List ℕ → Command) → Result (List ℕ) LineCode → Result Command LineCode
@@ -122,19 +122,19 @@ keyword_of word =
     else keyword.Unknown
 
 -- what a text asks for whose first word is that command
-abbrev pub asked : Keyword → List ℕ → Result Command LineCode
-asked keyword.Load text = named Load (name_of (behind_word is_blank text))
-asked keyword.Count text = alone Count (words text)
-asked keyword.Box text = box_of (words text)
-asked keyword.Legs text = tested Legs (question_of (words text))
-asked keyword.Features text = tested Features (question_of (words text))
-asked keyword.Trajectory text = named Trajectory (name_of (behind_word is_blank text))
-asked keyword.Write text = alone Write (words text)
-asked keyword.Unknown text = Err Q2
+abbrev pub asked_in_words : Keyword → List ℕ → Result Command LineCode
+asked_in_words keyword.Load text = named Load (name_read (behind_word is_blank text))
+asked_in_words keyword.Count text = alone Count (words text)
+asked_in_words keyword.Box text = box_command (words text)
+asked_in_words keyword.Legs text = tested Legs (question_of (words text))
+asked_in_words keyword.Features text = tested Features (question_of (words text))
+asked_in_words keyword.Trajectory text = named Trajectory (name_read (behind_word is_blank text))
+asked_in_words keyword.Write text = alone Write (words text)
+asked_in_words keyword.Unknown text = Err Q2
 
 -- what a text asks for that is cut
 unfoldable pub command_of : List ℕ → Result Command LineCode
-command_of text = asked (keyword_of (first_word is_blank text)) text
+command_of text = asked_in_words (keyword_of (first_word is_blank text)) text
 
 -- a blank line, or one whose first byte is then `#`
 abbrev pub is_no_command : List ℕ → Bool
@@ -146,8 +146,8 @@ some_command (Ok command) = Ok (Some command)
 some_command (Err code) = Err code
 
 -- what a line asks for, if it is a command; or why it is refused
-unfoldable pub line_of : List ℕ → Result (Option Command) LineCode
-line_of line =
+unfoldable pub line_command : List ℕ → Result (Option Command) LineCode
+line_command line =
     let text = cut line in
     if is_no_command text then Ok None
     else if not (is_utf8 text) then Err Q1

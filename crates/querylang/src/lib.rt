@@ -39,11 +39,11 @@ pub enum LineCode {
 
 impl LineCode {
     ghost use Rattle.std.specs.Prelude.{◌≡◌};
-    ghost use Rattle.querylang.specs.CodeText.{code_text};
+    ghost use Rattle.querylang.specs.CodeText.{line_code_text};
 
     /// The code as it is printed, as `Q1`.
     pub fn as_str(self) -> &'static str
-        ensures { result.now ≡ code_text self }
+        ensures { result.now ≡ line_code_text self }
     {
         match self {
             LineCode::Q1 => "Q1",
@@ -60,9 +60,9 @@ impl LineCode {
 
 impl fmt::Display for LineCode {
     ghost use Rattle.std.specs.Prelude.{Some};
-    ghost use Rattle.querylang.specs.CodeText.{code_text};
+    ghost use Rattle.querylang.specs.CodeText.{line_code_text};
 
-    ghost output = { λ c. Some (code_text c) };
+    ghost output = { λ c. Some (line_code_text c) };
 
     fn fmt<W: fmt::Write>(&self, f: &mut fmt::Formatter<W>) -> fmt::Result {
         f.write_str(self.as_str())

@@ -1,7 +1,7 @@
 //! Reading a line.
 ghost use Rattle.std.specs.Prelude.{◌≡◌, ◌==◌, ◌≤◌, ◌<◌, ◌+◌, ◌||◌, length, map, true, false, IfOk, IsErrOf, None, MatchOption, slice_index, slice_index_or, []};
 ghost use Rattle.std.specs.Str.{is_utf8};
-ghost use Rattle.querylang.specs.Line.{alone, box_of, command_of, keyword_of, named, is_no_command, line_of, name_of, period_behind, predicate_of, question_of, rect_behind, tested};
+ghost use Rattle.querylang.specs.Line.{alone, box_command, command_of, keyword_of, named, is_no_command, line_command, name_read, period_behind, predicate_of, question_of, rect_behind, tested};
 ghost use Rattle.querylang.specs.Line.{words, word_at};
 ghost use Rattle.querylang.specs.Answer.{Gives};
 ghost use Rattle.querylang.specs.declared.Command.TheVariants.{Features, Legs, Load, Trajectory};
@@ -63,7 +63,7 @@ fn read_period(words: &[&str], place: usize) -> Result<Period, LineCode>
 
 /// `box X1 Y1 X2 Y2 T1 T2`.
 fn read_box(words: &[&str]) -> Result<Command, LineCode>
-    ensures { result ≡ box_of (map (λ w. w.now) words.now) }
+    ensures { result ≡ box_command (map (λ w. w.now) words.now) }
 {
     if words.len() != 7 {
         return Err(LineCode::Q3);
@@ -174,7 +174,7 @@ fn refused(command: Result<Command, LineCode>) -> Result<Command, LineFault>
 
 /// The name behind a first word.
 fn read_name(alloc: Global, rest: &str) -> Result<Name, LineFault>
-    ensures { Gives result (name_of rest.now) }
+    ensures { Gives result (name_read rest.now) }
 {
     let name = cut_text(rest);
     if name.is_empty() {
@@ -185,7 +185,7 @@ fn read_name(alloc: Global, rest: &str) -> Result<Name, LineFault>
 
 /// `load NAME`.
 fn read_load(alloc: Global, rest: &str) -> Result<Command, LineFault>
-    ensures { Gives result (named Load (name_of rest.now)) }
+    ensures { Gives result (named Load (name_read rest.now)) }
 {
     match read_name(alloc, rest) {
         Ok(name) => Ok(Command::Load(name)),
@@ -195,7 +195,7 @@ fn read_load(alloc: Global, rest: &str) -> Result<Command, LineFault>
 
 /// `trajectory NAME`.
 fn read_trajectory(alloc: Global, rest: &str) -> Result<Command, LineFault>
-    ensures { Gives result (named Trajectory (name_of rest.now)) }
+    ensures { Gives result (named Trajectory (name_read rest.now)) }
 {
     match read_name(alloc, rest) {
         Ok(name) => Ok(Command::Trajectory(name)),
@@ -279,13 +279,13 @@ fn text_of(line: &[u8]) -> Option<&str>
 /// whose first byte behind its blanks is `#`.
 ///
 /// The error is the first code that applies, or `Memory` if memory ran out.
-#[tactic(auto, unfolding(crate::specs::Line::line_of))]
+#[tactic(auto, unfolding(crate::specs::Line::line_command))]
 pub fn parse_line(alloc: Global, line: &[u8]) -> Result<Option<Command>, LineFault>
     // It returns exactly the command of the line, or none, or its first refusal, unless memory runs
     // out.
-    ensures gives { Gives result (line_of line.now) }
+    ensures gives { Gives result (line_command line.now) }
     // Memory is not wanted for a line that asks for nothing.
-    ensures memory { IsErrOf result LineFault.Memory → line_of line.now ≡ Ok None → ⊥ }
+    ensures memory { IsErrOf result LineFault.Memory → line_command line.now ≡ Ok None → ⊥ }
 {
     let text = cut(line);
     if text.is_empty() || text[0] == b'#' {

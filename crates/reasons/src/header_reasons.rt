@@ -5,7 +5,7 @@ use crate::finding::{Found, Heads, column_count, has_tag};
 use crate::known::Known;
 use crate::line_reasons::instant_fault;
 use crate::shown::Shown;
-use crate::sources::source_hint;
+use crate::sources::source_of;
 use legs::BookHead;
 use mfcsv::{Column, Dimension};
 use std::alloc::{AllocError, Global};
@@ -68,8 +68,11 @@ fn missing(heads: &Heads) -> &'static str {
 
 /// A data record before both header lines.
 pub(crate) fn early_record(alloc: Global, found: &Found) -> Result<String, AllocError> {
-    let (missing, hint) = (missing(&found.heads), source_hint(found));
-    format!(in alloc; "a data record before {missing}{hint}")
+    let missing = missing(&found.heads);
+    match source_of(found) {
+        Some(source) => format!(in alloc; "a data record before {missing}; {source}"),
+        None => format!(in alloc; "a data record before {missing}"),
+    }
 }
 
 /// A file that ends without both header lines.

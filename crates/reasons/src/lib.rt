@@ -19,6 +19,7 @@ pub use codes::Code;
 pub use file_reasons::file_words;
 pub use known::Known;
 pub use line_reasons::line_words;
-pub use reach::reach_words;
+pub use reach::{Area, reach_words};
 pub use refusal::Refusal;
 pub use shown::{Shown, is_seen};
+pub use sources::source_words;

@@ -40,21 +40,43 @@ fn range_of(alloc: Global, least: i64, most: i64) -> Result<String, AllocError> 
     format!(in alloc; "{least} to {most}")
 }
 
-/// What is said besides where a rectangle meets no leg.
-fn exchange_hint(asked: &Box3, reach: &Box3) -> &'static str {
-    if meet_exchanged(asked, reach) {
-        "; with x and y exchanged it would"
-    } else {
-        ""
-    }
+/// What a question asks of.
+#[derive(Clone, Copy, PartialEq, Eq, Debug)]
+pub enum Area {
+    /// A rectangle.
+    Rectangle,
+    /// A zone, by its least box.
+    Zone,
 }
 
-/// Why a rectangle meets no leg.
-fn off_in_plane(alloc: Global, asked: &Box3, reach: &Box3) -> Result<String, AllocError> {
-    let x = range_of(alloc, reach.x_min, reach.x_max)?;
-    let y = range_of(alloc, reach.y_min, reach.y_max)?;
-    let (x, y, hint) = (x.as_str(), y.as_str(), exchange_hint(asked, reach));
-    format!(in alloc; "the rectangle does not meet x {x}, y {y}, where the store has legs{hint}")
+impl Area {
+    /// What it is called.
+    fn name(self) -> &'static str {
+        match self {
+            Area::Rectangle => "rectangle",
+            Area::Zone => "zone",
+        }
+    }
+
+    /// What is said besides where it meets no leg.
+    fn exchange_hint(self, asked: &Box3, reach: &Box3) -> &'static str {
+        if !meet_exchanged(asked, reach) {
+            return "";
+        }
+        match self {
+            Area::Rectangle => "; with x and y exchanged it would",
+            Area::Zone => "; with x and y exchanged its least box would",
+        }
+    }
+
+    /// Why it meets no leg.
+    fn off_in_plane(self, alloc: Global, asked: &Box3, reach: &Box3) -> Result<String, AllocError> {
+        let x = range_of(alloc, reach.x_min, reach.x_max)?;
+        let y = range_of(alloc, reach.y_min, reach.y_max)?;
+        let (x, y) = (x.as_str(), y.as_str());
+        let (name, hint) = (self.name(), self.exchange_hint(asked, reach));
+        format!(in alloc; "the {name} does not meet x {x}, y {y}, where the store has legs{hint}")
+    }
 }
 
 /// From one moment to another one, as they are printed.
@@ -81,15 +103,16 @@ fn period_in(reach: &Box3) -> Option<(Ms, Ms)> {
     }
 }
 
-/// Why a rectangle and a period meet no leg of a store whose legs all lie in that box; `None` where the box does not
-/// tell.
+/// Why an area of that box and a period meet no leg of a store whose legs all lie in that other box; `None` where the
+/// boxes do not tell.
 pub fn reach_words(
     alloc: Global,
+    area: Area,
     asked: &Box3,
     reach: &Box3,
 ) -> Result<Option<String>, AllocError> {
     if !meet_in_plane(asked, reach) {
-        return Ok(Some(off_in_plane(alloc, asked, reach)?));
+        return Ok(Some(area.off_in_plane(alloc, asked, reach)?));
     }
     if !meet(asked.t_min, asked.t_max, reach.t_min, reach.t_max) {
         return match period_in(reach) {

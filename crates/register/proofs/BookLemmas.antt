@@ -14,7 +14,7 @@ use Rattle.legs.specs.Limits.{IsLimits}
 use Rattle.legs.specs.Tracks.{IsTrack, StandsFor, TracksView}
 use Rattle.legs.specs.declared.tracks.Track.{Track}
 use Rattle.tbtree.specs.declared.tree.Place.{Place}
-use Rattle.register.specs.Lasting.{IsLawful, IsLawfulFeature}
+use Rattle.register.specs.Lasting.{IsLawfulCatalogue, IsLawfulFeature}
 use Rattle.register.specs.Saved.{CatalogueView}
 use Rattle.register.specs.declared.contents.Feature.{Feature}
 
@@ -166,7 +166,7 @@ sum_tracks (f ∷ fs) =
     let on = sum_tracks fs in
     omega (arith, one, two, on)
 
-pub stands_for_some : (count : ℕ) (c : CatalogueView) (places : List Place) → IsLawful count c places → IsLimits c.limits
+pub stands_for_some : (count : ℕ) (c : CatalogueView) (places : List Place) → IsLawfulCatalogue count c places → IsLimits c.limits
     → (book : Book) × StandsFor c.tracks book × (book.head ≡ c.head) × (book.names ≡ c.tracks.names) × (book.rows ≡ c.rows)
 stands_for_some count c places lawful limits =
     let fs = lawful.features in

@@ -18,7 +18,7 @@ use Rattle.legs.specs.declared.tracks.Track.{Track}
 use Rattle.tbtree.specs.declared.tree.Place.{Place}
 use Rattle.register.specs.Building.{capped, with_track, AddsFeature, AreLawful, IsKnown, IsOf}
 use Rattle.register.specs.Lasting.{tracks_of, IsLawfulFeature}
-use Rattle.register.specs.Saved.{dimension_of, head_of, CatalogueView}
+use Rattle.register.specs.Saved.{dimensions_of, head_of, CatalogueView}
 use Rattle.timebase.specs.Instant.{IsMoment}
 use Rattle.header.specs.declared.header_fields.Fields.{Fields}
 use Rattle.register.specs.Saving.{end_of, feature_at, features_of}
@@ -124,7 +124,7 @@ pub empty_is : (count : ℕ) (fields : Fields) (c : CatalogueView) (places : Lis
 empty_is count fields c places head limits two tracks rows none = record {
   contents_are = ap (option_map (λ h. record { head = head_of h; lists = record { features = features_of c.tracks places; rows = c.rows } })) head;
   limits = limits;
-  dimension = ap dimension_of head ∙ sym two;
+  dimension = ap dimensions_of head ∙ sym two;
   lawful = record {
     features = [];
     tracks_are = tracks ∙ ap (λ (l : List (List (List ℕ))). tracks_of [] (length l)) (sym rows);
@@ -155,9 +155,6 @@ module _ (count : ℕ) (fields : Fields) (contents : Contents) (c : CatalogueVie
           ∙ some_same (sym (ap (option_map (λ h. record { head = head_of h; lists = record { features = features_of c.tracks places; rows = c.rows } })) some.1) ∙ of.contents_are),
     )
   ]
-
-  pub of_head : (h : BookHead) × (IsMoment h.base) × (head_of h ≡ contents.head) × (dimension_of (Some h) ≡ fields.dimension)
-  of_head = let x = of_contents in (x.0, of.lawful.base x.0 x.1, ap (λ (k : Contents). k.head) x.2, ap dimension_of (sym x.1) ∙ of.dimension)
 
   pub of_lawful : AreLawful count contents.lists.features
   of_lawful = subst (λ l. AreLawful count l) (ap (λ (k : Contents). k.lists.features) of_contents.2) (record { each = of.lawful.each; apart = of.lawful.apart })
@@ -212,7 +209,7 @@ contents_few count fields (Some contents) c places of =
 
 -- a lawful catalogue of contents
 pub whole_is : (count : ℕ) (fields : Fields) (contents : Contents) (c : CatalogueView) (places : List Place) (known : Known) (h : BookHead)
-    → IsKnown count contents.lists.features known → IsMoment h.base → head_of h ≡ contents.head → dimension_of (Some h) ≡ fields.dimension
+    → IsKnown count contents.lists.features known → IsMoment h.base → head_of h ≡ contents.head → dimensions_of (Some h) ≡ fields.dimension
     → length known.tracks.names ≤ fields.limits.features → known.tracks.legs ≤ fields.limits.legs → fields.limits.legs < 2 ^ 64 - 1 → length contents.lists.rows ≤ known.tracks.legs → (0 < known.tracks.legs → 0 < length contents.lists.rows)
     → c.head ≡ Some h → c.limits ≡ fields.limits → c.tracks ≡ record known.tracks { rows = length contents.lists.rows } → c.rows ≡ contents.lists.rows → places ≡ known.places.items
     → IsOf count fields (Some contents) c places
@@ -227,7 +224,7 @@ whole_is count fields contents c places known h is base of_h dimension few_names
       contents_are = ap (option_map (λ k. record { head = head_of k; lists = record { features = features_of c.tracks places; rows = c.rows } })) head
           ∙ (λ i. Some (record { head = of_h i; lists = record { features = same i; rows = rows i } }));
       limits = limits;
-      dimension = ap dimension_of head ∙ dimension;
+      dimension = ap dimensions_of head ∙ dimension;
       lawful = record {
         features = fs;
         tracks_are = all;

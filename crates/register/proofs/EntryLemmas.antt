@@ -3,8 +3,8 @@ use Rattle.std.proofs.Common.{ℕ, ◌≡◌, ◌-◌, ◌^◌, min, List, ◌++
 use Rattle.std.specs.List.{flat_map}
 use Rattle.byteorder.specs.Endian.{big_bytes}
 use Rattle.tbnode.specs.Parts.{signed_bytes}
-use Rattle.register.specs.Text.{short_text, column_text, columns_text, contents_text, feature_text, features_text, head_text, kept_text, lists_text, row_text, rows_text, space_text, leg_sum, AreColumns, AreFeatures, AreFewRows, AreRead, AreRows, HasColumns, HasFeatures, IsColumn, IsFeature, IsHead, IsKept, IsNumber, IsRead, IsShortText, IsSigned, IsSpace}
-use Rattle.register.specs.declared.contents.Head.{Head}
+use Rattle.register.specs.Text.{short_text, column_text, columns_text, contents_text, feature_text, features_bytes, head_text, kept_text, lists_text, row_text, rows_text, space_text, leg_sum, AreColumns, AreFeatures, AreFewRows, AreRead, AreRows, HasColumns, HasFeatures, IsColumn, IsFeature, IsHead, FitsKept, IsNumber, IsRead, IsShortText, IsSigned, IsSpace}
+use Rattle.register.specs.declared.contents.CatalogueHead.{CatalogueHead}
 use Rattle.register.proofs.PrefixLemmas.{numbers_free, short_free, signed_free, features_free, head_free}
 use Rattle.register.proofs.SequenceLemmas.{IsPair}
 
@@ -13,7 +13,7 @@ abbrev pub column_pair : IsPair column_text IsColumn short_text IsShortText shor
 column_pair = record { left = λ v. v.name; right = λ v. v.kind; free = short_free; parts = λ v k. (k.name, k.kind); whole = λ v. refl }
 
 -- a feature: its name, and what is kept of it
-abbrev pub feature_pair : IsPair feature_text IsFeature short_text IsShortText kept_text (λ _. IsKept)
+abbrev pub feature_pair : IsPair feature_text IsFeature short_text IsShortText kept_text (λ _. FitsKept)
 feature_pair = record { left = λ v. v.name; right = λ v. v.kept; free = short_free; parts = λ v k. (k.name, k.kept); whole = λ v. refl }
 
 -- a coordinate reference system, and columns
@@ -25,11 +25,11 @@ abbrev pub head_pair : IsPair head_text IsHead signed_bytes IsSigned space_text 
 head_pair = record { left = λ v. v.base; right = λ v. v.space; free = signed_free; parts = λ v k. (k.base, k.space); whole = λ v. refl }
 
 -- a head of that base, whatever it is written as
-pub head_made : (v : Head) (base : ℤ) → base ≡ v.base → IsSigned base → IsSpace v.space → IsHead v × (base ≡ v.base)
+pub head_made : (v : CatalogueHead) (base : ℤ) → base ≡ v.base → IsSigned base → IsSpace v.space → IsHead v × (base ≡ v.base)
 head_made v base same h k = (record { base = subst IsSigned same h; space = k }, same)
 
 -- features, and no more rows than they have legs
-abbrev pub lists_pair : (columns most : ℕ) → IsPair lists_text (AreRead columns most) features_text HasFeatures rows_text (λ features. AreFewRows columns (min (leg_sum features) (2 ^ 64 - 1)))
+abbrev pub lists_pair : (columns most : ℕ) → IsPair lists_text (AreRead columns most) features_bytes HasFeatures rows_text (λ features. AreFewRows columns (min (leg_sum features) (2 ^ 64 - 1)))
 lists_pair columns most = record {
   left = λ v. v.features;
   right = λ v. v.rows;
@@ -58,7 +58,7 @@ abbrev pub columns_pair : IsPair columns_text HasColumns (big_bytes 8) (IsNumber
 columns_pair = counted_pair column_text 8 64 refl HasColumns AreColumns (λ v k. (k.few, record { each = k.each; many = refl }))
 
 -- features behind theirs
-abbrev pub features_pair : IsPair features_text HasFeatures (big_bytes 4) (IsNumber 32) (λ l. flat_map feature_text l) AreFeatures
+abbrev pub features_pair : IsPair features_bytes HasFeatures (big_bytes 4) (IsNumber 32) (λ l. flat_map feature_text l) AreFeatures
 features_pair = counted_pair feature_text 4 32 refl HasFeatures AreFeatures (λ v k. (k.few, record { each = k.each; many = refl }))
 
 -- and so few rows behind theirs

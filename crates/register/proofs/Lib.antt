@@ -17,3 +17,4 @@ pub mod RestoreLemmas
 pub mod SameLemmas
 pub mod HeaderTextLemmas
 pub mod StateLemmas
+pub mod SummaryLemmas

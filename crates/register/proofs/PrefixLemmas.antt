@@ -9,10 +9,10 @@ use Rattle.mfcsv.specs.declared.Column.{Column}
 use Rattle.tbnode.specs.Parts.{signed_bytes}
 use Rattle.std.proofs.lemmas.Int.{to_z-of_z}
 use Rattle.std.proofs.Math.Facts.{Fits-of_z}
-use Rattle.register.specs.Text.{short_text, column_text, columns_text, contents_text, catalogue_text, feature_text, features_text, head_text, kept_text, lists_text, row_text, rows_text, space_text, AreContents, AreLists, HasColumns, HasFeatures, HasRows, IsColumn, IsFeature, IsHead, IsKept, IsNumber, IsRow, IsShortText, IsSigned, IsSpace, IsWhole}
+use Rattle.register.specs.Text.{short_text, column_text, columns_text, contents_text, catalogue_text, feature_text, features_bytes, head_text, kept_text, lists_text, row_text, rows_text, space_text, AreContents, AreLists, HasColumns, HasFeatures, HasRows, IsColumn, IsFeature, IsHead, FitsKept, IsNumber, IsRow, IsShortText, IsSigned, IsSpace, IsWhole}
 use Rattle.register.specs.declared.contents.Lists.{Lists}
 use Rattle.register.specs.declared.contents.Space.{Space}
-use Rattle.register.specs.declared.contents.Head.{Head}
+use Rattle.register.specs.declared.contents.CatalogueHead.{CatalogueHead}
 use Rattle.register.specs.declared.contents.Feature.{Feature}
 use Rattle.register.proofs.ValueLemmas.{big_same}
 use Rattle.header.proofs.FieldsLemmas.{same_front}
@@ -90,7 +90,7 @@ kept_parts a b c d e s =
     ∙ ap (λ l. a ++ (b ++ l)) (append_assoc c (d ++ e) s)
     ∙ ap (λ l. a ++ (b ++ (c ++ l))) (append_assoc d e s)
 
-pub kept_free : IsFree kept_text IsKept
+pub kept_free : IsFree kept_text FitsKept
 unfolding kept_text
 kept_free a b s t h k e =
     let e' = sym (kept_parts (signed_bytes a.end) (big_bytes 4 a.place.first) (big_bytes 4 a.place.last) (big_bytes 4 a.place.last_index) (big_bytes 8 a.place.legs) s) ∙ e
@@ -104,7 +104,7 @@ kept_free a b s t h k e =
 
 pub feature_free : IsFree feature_text IsFeature
 feature_free a b s t h k e =
-    pair_free short_text kept_text IsShortText IsKept short_free kept_free (λ (f : Feature). f.name) (λ (f : Feature). f.kept)
+    pair_free short_text kept_text IsShortText FitsKept short_free kept_free (λ (f : Feature). f.name) (λ (f : Feature). f.kept)
     (λ v w p q i. record { name = p i; kept = q i }) a b s t (h.name, h.kept) (k.name, k.kept) e
 
 -- lists behind their number
@@ -119,7 +119,7 @@ module _ {V : Type 0} (text : V → List ℕ) (ok : V → Type 0) (free : IsFree
 pub columns_free : IsFree columns_text HasColumns
 columns_free a b s t h k e = counted_free column_text IsColumn column_free 8 64 refl a b s t h.each k.each h.few k.few e
 
-pub features_free : IsFree features_text HasFeatures
+pub features_free : IsFree features_bytes HasFeatures
 features_free a b s t h k e = counted_free feature_text IsFeature feature_free 4 32 refl a b s t h.each k.each h.few k.few e
 
 pub space_free : IsFree space_text IsSpace
@@ -129,7 +129,7 @@ space_free a b s t h k e =
 
 pub head_free : IsFree head_text IsHead
 head_free a b s t h k e =
-    pair_free signed_bytes space_text IsSigned IsSpace signed_free space_free (λ (v : Head). v.base) (λ (v : Head). v.space)
+    pair_free signed_bytes space_text IsSigned IsSpace signed_free space_free (λ (v : CatalogueHead). v.base) (λ (v : CatalogueHead). v.space)
     (λ v w p q i. record { base = p i; space = q i }) a b s t (h.base, h.space) (k.base, k.space) e
 
 pub rows_free : (columns : ℕ) → IsFree rows_text (HasRows columns)
@@ -137,14 +137,14 @@ rows_free columns a b s t h k e = counted_free row_text (IsRow columns) (row_fre
 
 pub lists_free : (columns : ℕ) → IsFree lists_text (AreLists columns)
 lists_free columns a b s t h k e =
-    pair_free features_text rows_text HasFeatures (HasRows columns) features_free (rows_free columns) (λ (v : Lists). v.features) (λ (v : Lists). v.rows)
+    pair_free features_bytes rows_text HasFeatures (HasRows columns) features_free (rows_free columns) (λ (v : Lists). v.features) (λ (v : Lists). v.rows)
     (λ v w p q i. record { features = p i; rows = q i }) a b s t (h.features, h.rows) (k.features, k.rows) e
 
 pub contents_free : IsFree contents_text AreContents
 contents_free a b s t h k e =
     let e' = sym (append_assoc (head_text a.head) (lists_text a.lists) s) ∙ e ∙ append_assoc (head_text b.head) (lists_text b.lists) t in
     let x = head_free a.head b.head (lists_text a.lists ++ s) (lists_text b.lists ++ t) h.head k.head e' in
-    let y = lists_free (length a.head.space.columns) a.lists b.lists s t h.lists (subst (λ (v : Head). AreLists (length v.space.columns) b.lists) (sym x.0) k.lists) x.1 in
+    let y = lists_free (length a.head.space.columns) a.lists b.lists s t h.lists (subst (λ (v : CatalogueHead). AreLists (length v.space.columns) b.lists) (sym x.0) k.lists) x.1 in
     ((λ i. record { head = x.0 i; lists = y.0 i }), y.1)
 
 pub whole_free : IsFree catalogue_text IsWhole

@@ -8,9 +8,9 @@ use Rattle.pages.specs.declared.payload.Payload.{Payload}
 use Rattle.tbtree.specs.declared.tree.Place.{Place}
 use Rattle.tbtree.specs.declared.tree.TbTree.{TbTree}
 use Rattle.register.specs.Building.{number_of, tree_of, IsOf}
-use Rattle.register.specs.Lasting.{tracks_of, IsKept, IsLawful, IsSame}
+use Rattle.register.specs.Lasting.{tracks_of, IsKept, IsLawfulCatalogue, IsSame}
 use Rattle.register.specs.Restoring.{IsRest}
-use Rattle.register.specs.Saved.{dimension_of, head_of, CatalogueView}
+use Rattle.register.specs.Saved.{dimensions_of, head_of, CatalogueView}
 use Rattle.register.specs.Saving.{contents_of, features_of}
 use Rattle.register.specs.declared.contents.Contents.{Contents}
 use Rattle.header.specs.declared.header_fields.Fields.{Fields}
@@ -23,7 +23,7 @@ same_dimension Two Three e = absurd (omega (arith, e))
 same_dimension Three Two e = absurd (omega (arith, e))
 same_dimension Three Three e = refl
 
-same_head : (a b : BookHead) → head_of a ≡ head_of b → dimension_of (Some a) ≡ dimension_of (Some b) → a ≡ b
+pub same_head : (a b : BookHead) → head_of a ≡ head_of b → dimensions_of (Some a) ≡ dimensions_of (Some b) → a ≡ b
 same_head a b e d =
     let dimension = same_dimension a.dimension b.dimension d in
     (λ i. record { crs = (e i).space.crs; dimension = dimension i; base = (e i).base; columns = (e i).space.columns })
@@ -32,7 +32,7 @@ no_rows : (xs : List (List (List ℕ))) → length xs ≤ 0 → xs ≡ []
 no_rows [] h = refl
 no_rows (x ∷ xs) h = absurd (omega (arith, h))
 
-no_head : (k : CatalogueView) (l : List Place) → contents_of k l ≡ None → k.head ≡ None
+pub no_head : (k : CatalogueView) (l : List Place) → contents_of k l ≡ None → k.head ≡ None
 no_head k l e = elim (some_or_none k.head) [
   | inl none ↦ none
   | inr some ↦ absurd (none_some (sym (sym (ap (option_map (λ h. record { head = head_of h; lists = record { features = features_of k.tracks l; rows = k.rows } })) some.1) ∙ e)))
@@ -45,7 +45,7 @@ of_same count fields None c d places others p q =
     let hd : d.head ≡ None = no_head d others q.contents_are in
     let fc = p.lawful.none hc in
     let fd = q.lawful.none hd in
-    let rows : (k : CatalogueView) (l : List Place) (lawful : IsLawful count k l) → lawful.features ≡ [] → k.rows ≡ [] = λ k l lawful e.
+    let rows : (k : CatalogueView) (l : List Place) (lawful : IsLawfulCatalogue count k l) → lawful.features ≡ [] → k.rows ≡ [] = λ k l lawful e.
     no_rows k.rows (let t = ap (λ (t : TracksView). t.legs) (lawful.tracks_are ∙ ap (λ fs. tracks_of fs (length k.rows)) e) in let few = lawful.few_rows in omega (arith, t, few)) in
     let rc = rows c places p.lawful fc in
     let rd = rows d others q.lawful fd in
@@ -64,7 +64,7 @@ of_same count fields (Some contents) c d places others p q =
     let both = x.2 ∙ sym y.2 in
     let features = ap (λ (k : Contents). k.lists.features) both in
     let rows = ap (λ (k : Contents). k.lists.rows) both in
-    let same = same_head x.0 y.0 (ap (λ (k : Contents). k.head) both) (ap dimension_of (sym x.1) ∙ p.dimension ∙ sym q.dimension ∙ ap dimension_of y.1) in
+    let same = same_head x.0 y.0 (ap (λ (k : Contents). k.head) both) (ap dimensions_of (sym x.1) ∙ p.dimension ∙ sym q.dimension ∙ ap dimensions_of y.1) in
     let head = x.1 ∙ ap Some same ∙ sym y.1 in
     let limits = p.limits ∙ sym q.limits in
     let tracks = p.lawful.tracks_are ∙ (λ i. tracks_of (features i) (length (rows i))) ∙ sym q.lawful.tracks_are in (

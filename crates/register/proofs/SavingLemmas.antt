@@ -20,7 +20,7 @@ use Rattle.std.specs.Option.{option_map}
 use Rattle.legs.specs.declared.head.BookHead.{BookHead}
 use Rattle.tbtree.specs.declared.tree.Place.{Place}
 use Rattle.register.specs.Saved.{head_of, CatalogueView, SparesTree}
-use Rattle.register.specs.Text.{catalogue_text, features_text, head_text, rows_text, HasFeatures, IsHead, IsNumber, IsRow, IsShortText, IsWhole}
+use Rattle.register.specs.Text.{catalogue_text, features_bytes, head_text, rows_text, HasFeatures, IsHead, IsNumber, IsRow, IsShortText, IsWhole}
 use Rattle.register.specs.Saving.{contents_of, features_of, HasPageZero, IsSavingStop, IsCatalogue, IsCaused, KeepsTree, Puts, Saves}
 use Rattle.register.specs.declared.fault.CatalogueFault.{CatalogueFault}
 use Rattle.register.specs.declared.fault.CatalogueFault.TheVariants.{Memory, Store, StoreFull, Damaged, Unfinished, Version, Malformed}
@@ -210,7 +210,7 @@ module _ {bytes : List ℕ} {a b c d : Cache} {w v : WriterView} (begun : Passes
 
 -- a catalogue in which a file was accepted: its head, and its lists
 pub with_head : {view saved : CatalogueView} {head : BookHead} {a b : Cache} {w v : WriterView} {r : Result (Unit {0}) CatalogueFault} (places : List Place) → view ≡ saved → view.head ≡ Some head
-    → Puts ((1 ∷ head_text (head_of head)) ++ (features_text (features_of view.tracks places) ++ rows_text view.rows)) a b w v r → Puts (catalogue_text (contents_of saved places)) a b w v r
+    → Puts ((1 ∷ head_text (head_of head)) ++ (features_bytes (features_of view.tracks places) ++ rows_text view.rows)) a b w v r → Puts (catalogue_text (contents_of saved places)) a b w v r
 with_head {view} {saved} {head} {a} {b} {w} {v} {r} places same is p =
     subst (λ c. Puts (catalogue_text (contents_of c places)) a b w v r) same
     (puts_same (ap (λ h. catalogue_text (option_map (λ (x : BookHead). record { head = head_of x; lists = record { features = features_of view.tracks places; rows = view.rows } }) h)) (sym is)) p)

@@ -6,9 +6,9 @@ use Rattle.mfcsv.specs.declared.Dimension.{Dimension}
 use Rattle.mfcsv.specs.declared.Dimension.TheVariants.{Two, Three}
 use Rattle.tbtree.specs.declared.tree.Place.{Place}
 use Rattle.tbtree.specs.declared.tree.TbTree.{TbTree}
-use Rattle.register.specs.Saved.{dimension_of, CatalogueView}
+use Rattle.register.specs.Saved.{dimensions_of, CatalogueView}
 use Rattle.register.specs.Saving.{contents_of}
-use Rattle.register.specs.Lasting.{tracks_of, IsLawful, IsLawfulFeature}
+use Rattle.register.specs.Lasting.{tracks_of, IsLawfulCatalogue, IsLawfulFeature}
 use Rattle.register.specs.declared.building.Known.{Known}
 use Rattle.register.specs.declared.contents.Contents.{Contents}
 use Rattle.register.specs.declared.contents.Feature.{Feature}
@@ -63,5 +63,5 @@ pub record IsOf (count : ℕ) (fields : Fields) (contents : Option Contents) (c 
     (places : List Place) : Type 0 where
   pub contents_are : contents_of c places ≡ contents
   pub limits : c.limits ≡ fields.limits
-  pub dimension : dimension_of c.head ≡ fields.dimension
-  pub lawful : IsLawful count c places
+  pub dimension : dimensions_of c.head ≡ fields.dimension
+  pub lawful : IsLawfulCatalogue count c places

@@ -81,6 +81,15 @@ IsTextFault Unfinished = ⊥
 IsTextFault Version = ⊥
 IsTextFault Malformed = Unit {0}
 
+-- what is read of the pages that a cache shows, or why nothing is
+pub record ReadsPages {T : Type 0} (old new : Cache) (is_read : (ℕ → Option Payload) → T → Type 0)
+    (none : (ℕ → Option Payload) → Type 0) (result : Result T CatalogueFault) : Type 0
+  where
+    pub is : IfOk result (λ v. (at : ℕ → Option Payload) → Shows old at → is_read at v)
+    pub broken : IfErr result (λ e. (at : ℕ → Option Payload) → Shows old at → IsBroken e → none at)
+    pub reads : OnlyReads old new
+    pub caused : IfErr result (IsReadFault old new)
+
 -- pages are read until so many bytes stand ready; there are none where the text is shorter
 pub record ReadsAhead (old new : Cache) (from to : ReaderView) (len : ℕ)
     (result : Result (Unit {0}) CatalogueFault) : Type 0

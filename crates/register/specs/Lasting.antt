@@ -108,7 +108,7 @@ tracks_of features rows = record {
 -- a lawful catalogue of so many pages: its features have names and places of their own, and legs; there are no more
 -- features and legs than the limits, no more rows than legs, and a row where there is a leg; where no file was accepted
 -- there is no feature
-pub record IsLawful (count : ℕ) (c : CatalogueView) (places : List Place) : Type 0 where
+pub record IsLawfulCatalogue (count : ℕ) (c : CatalogueView) (places : List Place) : Type 0 where
   pub features : List Feature
   pub tracks_are : c.tracks ≡ tracks_of features (length c.rows)
   pub places_are : places ≡ map (λ f. f.kept.place) features
@@ -145,7 +145,7 @@ pub record IsKept (at : ℕ → Option Payload) (count : ℕ) (c : CatalogueView
   pub finished : payload_fault (at 0) ≡ None
   pub within : IsWithin count tree
   pub works : tree.spent ≡ false
-  pub lawful : IsLawful count c places
+  pub lawful : IsLawfulCatalogue count c places
 
 -- catalogues, trees and places are one
 pub record IsSame (c d : CatalogueView) (tree other : TbTree)

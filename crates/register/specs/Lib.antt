@@ -8,3 +8,4 @@ pub mod Saving
 pub mod Lasting
 pub mod Restoring
 pub mod Building
+pub mod Summary

@@ -11,7 +11,7 @@ use Rattle.tbtree.specs.Descent.{IsSameTree}
 use Rattle.tbtree.specs.Nodes.{pages_of_cache}
 use Rattle.tbtree.specs.declared.tree.TbTree.{TbTree}
 use Rattle.header.specs.declared.header_fields.Fields.{Fields}
-use Rattle.register.specs.declared.contents.Head.{Head}
+use Rattle.register.specs.declared.contents.CatalogueHead.{CatalogueHead}
 
 -- what contracts see of a catalogue: what the first accepted file gave, the limits, the features,
 -- and the attribute values of each record
@@ -22,14 +22,14 @@ pub record CatalogueView : Type 0 where
   pub rows : List (List (List ℕ))
 
 -- what is kept of a head beside its dimension, which stands in the header
-abbrev pub head_of : BookHead → Head
+abbrev pub head_of : BookHead → CatalogueHead
 head_of head =
     record { base = head.base; space = record { crs = head.crs; columns = head.columns } }
 
 -- how many dimensions a database has; 2 where no file was accepted
-abbrev pub dimension_of : Option BookHead → ℕ
-dimension_of None = 2
-dimension_of (Some head) = elim head.dimension [ Two ↦ 2 | Three ↦ 3 ]
+abbrev pub dimensions_of : Option BookHead → ℕ
+dimensions_of None = 2
+dimensions_of (Some head) = elim head.dimension [ Two ↦ 2 | Three ↦ 3 ]
 
 -- what page 0 says of a database behind how it begins
 abbrev pub fields_for : LimitsView → Option BookHead → TbTree → ℕ → ℕ → Fields
@@ -41,7 +41,7 @@ fields_for limits head tree first length = record {
   leaves = tree.leaves;
   first = first;
   length = length;
-  dimension = dimension_of head;
+  dimension = dimensions_of head;
 }
 
 -- page 0 begins as it did, and ends as it did behind its 60 first bytes

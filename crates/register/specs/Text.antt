@@ -9,7 +9,7 @@ use Rattle.tbtree.specs.declared.tree.Place.{Place}
 use Rattle.register.specs.declared.contents.Kept.{Kept}
 use Rattle.register.specs.declared.contents.Feature.{Feature}
 use Rattle.register.specs.declared.contents.Space.{Space}
-use Rattle.register.specs.declared.contents.Head.{Head}
+use Rattle.register.specs.declared.contents.CatalogueHead.{CatalogueHead}
 use Rattle.register.specs.declared.contents.Lists.{Lists}
 use Rattle.register.specs.declared.contents.Contents.{Contents}
 
@@ -31,7 +31,7 @@ abbrev pub space_text : Space → List ℕ
 space_text space = short_text space.crs ++ columns_text space.columns
 
 -- what is kept of a head: its base, its CRS and its columns
-abbrev pub head_text : Head → List ℕ
+abbrev pub head_text : CatalogueHead → List ℕ
 head_text head = signed_bytes head.base ++ space_text head.space
 
 -- when a feature's last leg ends, and its place
@@ -51,8 +51,8 @@ abbrev pub row_text : List (List ℕ) → List ℕ
 row_text row = flat_map short_text row
 
 -- the features, and the rows, behind their number
-abbrev pub features_text : List Feature → List ℕ
-features_text features = big_bytes 4 (length features) ++ flat_map feature_text features
+abbrev pub features_bytes : List Feature → List ℕ
+features_bytes features = big_bytes 4 (length features) ++ flat_map feature_text features
 
 -- the number of rows, and each row
 abbrev pub rows_text : List (List (List ℕ)) → List ℕ
@@ -60,7 +60,7 @@ rows_text rows = big_bytes 4 (length rows) ++ flat_map row_text rows
 
 -- what a text says of a database into which a file was accepted
 abbrev pub lists_text : Lists → List ℕ
-lists_text lists = features_text lists.features ++ rows_text lists.rows
+lists_text lists = features_bytes lists.features ++ rows_text lists.rows
 
 -- what is kept once a file was accepted: the head, the features and the rows
 abbrev pub contents_text : Contents → List ℕ
@@ -99,21 +99,21 @@ pub record IsColumn (column : Column) : Type 0 where
   pub kind : IsShortText column.kind
 
 -- a place whose numbers fit into the text
-pub record IsPlace (place : Place) : Type 0 where
+pub record FitsPlace (place : Place) : Type 0 where
   pub first : IsNumber 32 place.first
   pub last : IsNumber 32 place.last
   pub last_index : IsNumber 32 place.last_index
   pub legs : IsNumber 64 place.legs
 
 -- an end and a place that fit into the text
-pub record IsKept (kept : Kept) : Type 0 where
+pub record FitsKept (kept : Kept) : Type 0 where
   pub end : IsSigned kept.end
-  pub place : IsPlace kept.place
+  pub place : FitsPlace kept.place
 
 -- a feature that fits into the text
 pub record IsFeature (feature : Feature) : Type 0 where
   pub name : IsShortText feature.name
-  pub kept : IsKept feature.kept
+  pub kept : FitsKept feature.kept
 
 -- a row of so many values
 pub record IsRow (columns : ℕ) (row : List (List ℕ)) : Type 0 where
@@ -156,7 +156,7 @@ pub record IsSpace (space : Space) : Type 0 where
   pub columns : HasColumns space.columns
 
 -- a head that fits into the text
-pub record IsHead (head : Head) : Type 0 where
+pub record IsHead (head : CatalogueHead) : Type 0 where
   pub base : IsSigned head.base
   pub space : IsSpace head.space
 

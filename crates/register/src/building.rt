@@ -7,10 +7,10 @@ ghost use Rattle.legs.specs.declared.head.BookHead.{BookHead};
 ghost use Rattle.register.specs.Building.{number_of, tree_of, AddsFeature, AreLawful, IsKnown, IsOf};
 ghost use Rattle.register.specs.ChainReader.{IsBroken, IsTextFault};
 ghost use Rattle.register.specs.Lasting.{IsLawfulFeature, IsWithin};
-ghost use Rattle.register.specs.Saved.{dimension_of, head_of, CatalogueView};
+ghost use Rattle.register.specs.Saved.{dimensions_of, head_of, CatalogueView};
 ghost use Rattle.tbtree.specs.declared.tree.Place.{Place};
 
-use crate::contents::{Contents, Feature, Features, Head, Lists};
+use crate::contents::{CatalogueHead, Contents, Feature, Features, Lists};
 use crate::fault::CatalogueFault;
 use crate::saving::Catalogue;
 use header::Fields;
@@ -116,11 +116,11 @@ fn dimension_from(dimension: u32) -> Option<Dimension>
 
 /// The head of the first accepted file, where its base is a moment, and there are 2 or 3
 /// dimensions.
-fn head_from(head: Head, dimension: u32) -> Option<BookHead>
-    ensures some { IfSome result (λ h. (head_of h ≡ head) × (dimension_of (Some h) ≡ dimension)
+pub(crate) fn head_from(head: CatalogueHead, dimension: u32) -> Option<BookHead>
+    ensures some { IfSome result (λ h. (head_of h ≡ head) × (dimensions_of (Some h) ≡ dimension)
         × IsMoment h.base) }
     ensures none { result ≡ None → (h : BookHead) → IsMoment h.base → head_of h ≡ head
-        → dimension_of (Some h) ≡ dimension → ⊥ }
+        → dimensions_of (Some h) ≡ dimension → ⊥ }
 {
     let base = Ms::new(head.base)?;
     let dimension = dimension_from(dimension)?;

@@ -45,7 +45,7 @@ pub struct Space {
 /// What is kept of the head of the first accepted file beside its dimension: the start instant, in
 /// milliseconds since 1970-01-01T00:00:00Z, the coordinate reference system and the columns.
 #[derive(Debug, Drop)]
-pub struct Head {
+pub struct CatalogueHead {
     pub base: i64,
     pub space: Space,
 }
@@ -60,6 +60,6 @@ pub struct Lists {
 /// All that a text says of a database into which a file was accepted.
 #[derive(Drop)]
 pub struct Contents {
-    pub head: Head,
+    pub head: CatalogueHead,
     pub lists: Lists,
 }

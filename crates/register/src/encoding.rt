@@ -3,7 +3,7 @@ ghost use Rattle.std.specs.Prelude.{◌≡◌, ◌++◌, ◌∷◌, [], All, OnO
 ghost use Rattle.byteorder.specs.Endian.{big_bytes};
 ghost use Rattle.tbnode.specs.Parts.{signed_bytes};
 ghost use Rattle.register.specs.Saved.{head_of};
-ghost use Rattle.register.specs.Text.{column_text, columns_text, head_text, kept_text, row_text, short_text, HasColumns, IsColumn, IsHead, IsKept, IsPlace, IsShortText};
+ghost use Rattle.register.specs.Text.{column_text, columns_text, head_text, kept_text, row_text, short_text, HasColumns, IsColumn, IsHead, FitsKept, FitsPlace, IsShortText};
 
 use crate::chain_writer::ChainWriter;
 use crate::contents::Kept;
@@ -96,7 +96,7 @@ fn push_place(writer: &mut ChainWriter, place: &Place) -> Result<(), AllocError>
           ++ (big_bytes 4 place.now.first ++ (big_bytes 4 place.now.last
           ++ (big_bytes 4 place.now.last_index ++ big_bytes 8 place.now.legs)));
     }) }
-    ensures whole { OnOk result (IsPlace place.now) }
+    ensures whole { OnOk result (FitsPlace place.now) }
 {
     push_u32(writer, place.first)?;
     push_u32(writer, place.last)?;
@@ -109,7 +109,7 @@ fn push_place(writer: &mut ChainWriter, place: &Place) -> Result<(), AllocError>
 fn push_kept(writer: &mut ChainWriter, kept: &Kept) -> Result<(), AllocError>
     ensures pushed { OnOk result (writer.new
         ≡ record writer.old { text = writer.old.text ++ kept_text kept.now }) }
-    ensures whole { OnOk result (IsKept kept.now) }
+    ensures whole { OnOk result (FitsKept kept.now) }
 {
     push_i64(writer, kept.end)?;
     push_place(writer, &kept.place)
@@ -124,7 +124,7 @@ pub(crate) fn push_feature(
     ensures pushed { OnOk result (writer.new
         ≡ record writer.old
         { text = writer.old.text ++ (short_text name.now ++ kept_text kept.now) }) }
-    ensures whole { OnOk result (IsShortText name.now × IsKept kept.now) }
+    ensures whole { OnOk result (IsShortText name.now × FitsKept kept.now) }
 {
     push_text(writer, name)?;
     push_kept(writer, kept)

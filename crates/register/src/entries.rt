@@ -1,10 +1,10 @@
 //! What a text says of columns, features and rows.
 ghost use Rattle.std.specs.Prelude.{◌≡◌, ◌-◌, ◌^◌, ℕ, min, length};
 ghost use Rattle.std.specs.List.{flat_map};
-ghost use Rattle.register.specs.Text.{kept_text, leg_sum, IsKept};
+ghost use Rattle.register.specs.Text.{kept_text, leg_sum, FitsKept};
 
 use crate::chain_reader::ChainReader;
-use crate::contents::{Contents, Feature, Features, Head, Kept, Lists, Space};
+use crate::contents::{CatalogueHead, Contents, Feature, Features, Kept, Lists, Space};
 use crate::fault::CatalogueFault;
 use crate::numbers::i64_of;
 use header::{u32_of, u64_of};
@@ -21,7 +21,7 @@ use tbtree::Place;
 fn kept_of(bytes: &[u8]) -> Kept
     requires { length bytes.now ≡ 28 }
     ensures text { kept_text result ≡ bytes.now }
-    ensures fits { IsKept result }
+    ensures fits { FitsKept result }
 {
     let place = Place {
         first: u32_of(part(bytes, 8, 4)),
@@ -36,7 +36,7 @@ fn kept_of(bytes: &[u8]) -> Kept
 }
 
 /// How many legs features have; 2^64 - 1 stands for any greater number.
-fn leg_sum(features: &Features) -> u64
+pub(crate) fn leg_sum(features: &Features) -> u64
     ensures { result ≡ min (leg_sum features.now) (2 ^ 64 - 1) }
 {
     let features = features.features.as_slice();
@@ -50,7 +50,7 @@ fn leg_sum(features: &Features) -> u64
 impl ChainReader {
     ghost use Rattle.std.specs.Prelude.{◌≡◌, ◌++◌, ◌∷◌, [], OnOk, Some};
     ghost use Rattle.register.specs.ChainReader.{ReadsInto, ReadsValue};
-    ghost use Rattle.register.specs.Text.{column_text, columns_text, contents_text, feature_text, features_text, head_text, kept_text, lists_text, row_text, rows_text, space_text, AreColumns, AreFeatures, AreFewRows, AreRead, AreRows, IsColumn, IsFeature, IsHead, IsKept, IsRead, IsRow, IsSpace, HasColumns, HasFeatures};
+    ghost use Rattle.register.specs.Text.{column_text, columns_text, contents_text, feature_text, features_bytes, head_text, kept_text, lists_text, row_text, rows_text, space_text, AreColumns, AreFeatures, AreFewRows, AreRead, AreRows, IsColumn, IsFeature, IsHead, FitsKept, IsRead, IsRow, IsSpace, HasColumns, HasFeatures};
 
     /// An attribute column.
     fn column<S: PageStore>(
@@ -96,7 +96,7 @@ impl ChainReader {
 
     /// What is kept of a feature beside its name.
     fn kept<S: PageStore>(&mut self, cache: &mut PageCache<S>) -> Result<Kept, CatalogueFault>
-        ensures { ReadsValue cache.old cache.new self.old self.new kept_text IsKept result }
+        ensures { ReadsValue cache.old cache.new self.old self.new kept_text FitsKept result }
     {
         self.fill(cache, 28)?;
         let kept = kept_of(self.ahead(28));
@@ -135,13 +135,13 @@ impl ChainReader {
     }
 
     /// Features behind their number.
-    fn counted_features<S: PageStore>(
+    pub(crate) fn counted_features<S: PageStore>(
         &mut self,
         alloc: Global,
         cache: &mut PageCache<S>,
     ) -> Result<Features, CatalogueFault>
         ensures { ReadsValue cache.old cache.new self.old self.new
-            features_text HasFeatures result }
+            features_bytes HasFeatures result }
     {
         let count = self.u32(cache)?;
         self.features(alloc, cache, count)
@@ -218,16 +218,16 @@ impl ChainReader {
     }
 
     /// What is kept of the head of the first accepted file.
-    fn head<S: PageStore>(
+    pub(crate) fn head<S: PageStore>(
         &mut self,
         alloc: Global,
         cache: &mut PageCache<S>,
-    ) -> Result<Head, CatalogueFault>
+    ) -> Result<CatalogueHead, CatalogueFault>
         ensures { ReadsValue cache.old cache.new self.old self.new head_text IsHead result }
     {
         let base = self.i64(cache)?;
         let space = self.space(alloc, cache)?;
-        Ok(Head { base, space })
+        Ok(CatalogueHead { base, space })
     }
 
     /// The features and the rows; `Malformed` where there are more legs than the limit, or more

@@ -8,7 +8,7 @@ ghost use Rattle.header.specs.Front.{with_state};
 ghost use Rattle.legs.specs.Book.{Book};
 ghost use Rattle.legs.specs.Limits.{IsLimits};
 ghost use Rattle.legs.specs.Tracks.{StandsFor};
-ghost use Rattle.register.specs.Lasting.{IsKept, IsLawful, IsSame, Says};
+ghost use Rattle.register.specs.Lasting.{IsKept, IsLawfulCatalogue, IsSame, Says};
 ghost use Rattle.register.specs.Saved.{CatalogueView};
 
 /// What holds of what the pages of a store keep beside its legs, for the proofs of a caller. It does
@@ -27,7 +27,7 @@ pub fn laws()
         → Says at count c tree places → Says now count c tree places }
 
     // The tracks of a lawful catalogue stand for a book, with its head, names and rows.
-    ensures books { (count : ℕ) (c : CatalogueView) (places : List Place) → IsLawful count c places
+    ensures books { (count : ℕ) (c : CatalogueView) (places : List Place) → IsLawfulCatalogue count c places
         → IsLimits c.limits → (book : Book) × StandsFor c.tracks book × (book.head ≡ c.head)
         × (book.names ≡ c.tracks.names) × (book.rows ≡ c.rows) }
 {}

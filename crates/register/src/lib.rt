@@ -14,6 +14,7 @@ mod numbers;
 mod page_zero;
 mod restoring;
 mod saving;
+mod summary;
 mod values;
 mod whole_text;
 
@@ -21,9 +22,10 @@ pub use fault::CatalogueFault;
 pub use lasting::laws;
 pub use restoring::{Restored, lawful, read_back};
 pub use saving::{Catalogue, keep, write_all};
+pub use summary::{Summary, summarize};
 
 // What a reader of another version of the format needs: the text of a catalogue is the same there.
 pub use building::{catalogue_of, is_within};
 pub use chain_reader::{ChainReader, MOST_USED, fault_of};
-pub use contents::{Contents, Feature, Features, Head, Kept, Lists, Space};
+pub use contents::{CatalogueHead, Contents, Feature, Features, Kept, Lists, Space};
 pub use page_zero::test_front;

@@ -30,7 +30,7 @@ use std::hash::RandomState;
 use tbtree::{Place, TbTree};
 
 /// Whether a text of that length fills no more pages than there are.
-fn is_short<S: PageStore>(cache: &PageCache<S>, length: u64) -> bool
+pub(crate) fn is_short<S: PageStore>(cache: &PageCache<S>, length: u64) -> bool
     ensures { IsTrue result ↔ (div_ceil length most_used ≤ cache.now.count) }
 {
     length.div_ceil(MOST_USED) <= u64::from(cache.count())

@@ -12,10 +12,10 @@ ghost use Rattle.tbtree.specs.Stands.{no_place};
 ghost use Rattle.legs.specs.Limits.{IsLimits};
 ghost use Rattle.tbtree.specs.Shape.{IsShape};
 ghost use Rattle.header.specs.Fields.{first_of, FitsFields};
-ghost use Rattle.register.specs.Saved.{dimension_of, fields_for, head_of, Continues, IsWrittenButFirst, KeepsFront, SparesTree};
+ghost use Rattle.register.specs.Saved.{dimensions_of, fields_for, head_of, Continues, IsWrittenButFirst, KeepsFront, SparesTree};
 ghost use Rattle.register.specs.Saving.{contents_of, end_of, feature_at, features_of, HasFew, HasPageZero, IsSavingStop, IsCatalogue, IsCaused, IsNotWritten, KeepsTree, Puts, PutsFields, Saves};
 ghost use Rattle.register.specs.declared.fault.CatalogueFault.TheVariants.{Malformed};
-ghost use Rattle.register.specs.Text.{catalogue_text, feature_text, features_text, head_text, row_text, rows_text, HasFeatures, IsFeature, IsHead, IsNumber, IsShortText, IsWhole};
+ghost use Rattle.register.specs.Text.{catalogue_text, feature_text, features_bytes, head_text, row_text, rows_text, HasFeatures, IsFeature, IsHead, IsNumber, IsShortText, IsWhole};
 
 use crate::chain_reader::fault_of;
 use crate::chain_writer::ChainWriter;
@@ -134,7 +134,7 @@ fn write_features<S: PageStore>(
     count: u32,
 ) -> Result<(), CatalogueFault>
     ensures saves { count ≡ length tracks.now.names
-        → Saves (features_text (features_of tracks.now places.now))
+        → Saves (features_bytes (features_of tracks.now places.now))
         cache.old cache.new writer.old writer.new result }
     ensures whole { OnOk result (count ≡ length tracks.now.names
         → HasFeatures (features_of tracks.now places.now)) }
@@ -218,7 +218,7 @@ fn write_lists<S: PageStore>(
     rows: &Rows,
 ) -> Result<(), CatalogueFault>
     ensures puts { Puts
-        (features_text (features_of tracks.now places.now) ++ rows_text rows.now)
+        (features_bytes (features_of tracks.now places.now) ++ rows_text rows.now)
         cache.old cache.new writer.old writer.new result }
     ensures only { length tracks.now.names < 2 ^ 32 → length rows.now < 2 ^ 32 → (text : List ℕ)
         → Holds cache.old writer.old text → IsTrue cache.old.store.is_faithful
@@ -391,7 +391,7 @@ fn write_whole<S: PageStore>(
 
 /// How many dimensions a database has; 2 where no file was accepted.
 fn dimension_of(head: &Option<BookHead>) -> u32
-    ensures { result ≡ dimension_of head.now }
+    ensures { result ≡ dimensions_of head.now }
 {
     match head {
         None => 2,

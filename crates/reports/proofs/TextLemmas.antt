@@ -3,7 +3,7 @@ use Rattle.std.proofs.Common.{ℕ, suc, ◌≡◌, ◌∙◌, ◌+◌, ◌-◌, 
 use Rattle.std.proofs.lemmas.List.{flat_map_more, take_all, take_more}
 use Rattle.std.specs.Int.{int_div_euclid, int_rem_euclid}
 use Rattle.timebase.specs.Instant.{is_moment, some_moment}
-use Rattle.timebase.specs.InstantText.{instant_text, date_text_at, day_of, clock_text_at, clock_of}
+use Rattle.timebase.specs.InstantText.{instant_text, date_text_at, day_of, clock_text_at, ms_of_day}
 use Rattle.writer.specs.File.{features_text}
 use Rattle.writer.specs.Records.{record_text}
 use Rattle.reports.specs.StayTexts.{micros_text, quoted_text, three_digits, without_last}
@@ -22,7 +22,7 @@ ends_longer xs b = omega (arith, length-append xs (b ∷ []))
 
 instant_longer : (at : ℤ) → 0 < length (instant_text at)
 unfolding instant_text
-instant_longer at = ends_longer (date_text_at (day_of at) ++ 84 ∷ clock_text_at (clock_of at)) 90
+instant_longer at = ends_longer (date_text_at (day_of at) ++ 84 ∷ clock_text_at (ms_of_day at)) 90
 
 record_longer : (fields : List (List ℕ)) → 0 < length (record_text fields)
 record_longer fields = grind (arith, length-append)

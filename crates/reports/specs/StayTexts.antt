@@ -9,10 +9,10 @@ use Rattle.mfcsv.specs.declared.Dimension.TheVariants.{Two, Three}
 use Rattle.mfcsv.specs.declared.Position.{Position}
 use Rattle.legs.specs.Book.{Book}
 use Rattle.writer.specs.Records.{record_text}
-use Rattle.trajdb.specs.Answers.{name_of}
-use Rattle.moments.specs.Ends.{end_text}
+use Rattle.trajdb.specs.Answers.{feature_name}
+use Rattle.moments.specs.Ends.{end_text, met_text}
 use Rattle.moments.specs.Lengths.{micros_down, micros_up}
-use Rattle.moments.specs.declared.dwells.Dwell.{Dwell}
+use Rattle.visiting.specs.declared.dwells.Dwell.{Dwell}
 use Rattle.moments.specs.declared.ends.End.{End}
 use Rattle.moments.specs.declared.moment.Moment.{Moment}
 use Rattle.moments.specs.declared.stay.Stay.{Stay}
@@ -37,7 +37,7 @@ quoted_text name = without_last (record_text (name ∷ []))
 
 -- the name of a feature
 abbrev pub name_text : Book → ℕ → List ℕ
-name_text book feature = quoted_text (name_of book feature)
+name_text book feature = quoted_text (feature_name book feature)
 
 -- the field that stands before each record of a rectangle of that name, and a comma
 abbrev pub label_text : List ℕ → List ℕ
@@ -66,9 +66,11 @@ position_text Two p = next_field (coord_text p.x) ++ next_field (coord_text p.y)
 position_text Three p =
     next_field (coord_text p.x) ++ next_field (coord_text p.y) ++ next_field (coord_text p.z)
 
--- what a first and a last moment are
+-- what a first and a last moment are, and the edges that are met there
 unfoldable pub ends_text : End → End → List ℕ
-ends_text enters_by leaves_by = next_field (end_text enters_by) ++ next_field (end_text leaves_by)
+ends_text enters_by leaves_by =
+    next_field (end_text enters_by) ++ next_field (end_text leaves_by)
+    ++ next_field (met_text enters_by) ++ next_field (met_text leaves_by)
 
 -- the record of a stay
 unfoldable pub stay_text : Book → Frame → Stay → List ℕ

@@ -1,6 +1,5 @@
 //! The texts of stays, visits and dwells: records of CSV, and the line that names their fields.
 ghost use Rattle.std.specs.Prelude.{◌≡◌, ◌<◌, ◌++◌, pos, All, decimal, IfErr, length, OnOk};
-ghost use Rattle.std.specs.Fmt.{signed_decimal};
 ghost use Rattle.std.specs.Int.{int_div_euclid};
 ghost use Rattle.fixedpoint.specs.NumberText.{coord_text};
 ghost use Rattle.timebase.specs.Instant.{IsMoment};
@@ -10,8 +9,8 @@ ghost use Rattle.trajdb.specs.declared.RunFault.{RunFault};
 ghost use Rattle.reports.specs.Printing.{IsPrintFault};
 ghost use Rattle.reports.specs.StayTexts.{dwell_fields, dwell_text, dwells_text, ends_text, fields_text, fraction_text, label_text, micros_text, name_text, next_field, position_fields, position_text, quoted_text, seconds_text, stay_text, stays_text, three_digits, times_text, visit_text, visits_text, without_last};
 
+use crate::pushed::{push_number, push_signed};
 use fixedpoint::{Coord, push_coord};
-use itoa::Buffer;
 use mfcsv::{Dimension, Position};
 use moments::{Dwell, End, Moment, Stay, Visit};
 use pages::PageStore;
@@ -29,22 +28,6 @@ pub struct Frame<'a> {
     pub dimension: Dimension,
     /// What stands before each record: nothing, or a field and a comma.
     pub label: &'a [u8],
-}
-
-/// Appends a number.
-fn push_number(text: &mut Vec<u8>, number: u64) -> Result<(), AllocError>
-    ensures { OnOk result (text.new.items ≡ text.old.items ++ decimal number) }
-{
-    let mut buffer = Buffer::new();
-    text.extend_from_slice(buffer.format(number).as_bytes())
-}
-
-/// Appends a number that may be below 0.
-pub(crate) fn push_signed(text: &mut Vec<u8>, number: i128) -> Result<(), AllocError>
-    ensures { OnOk result (text.new.items ≡ text.old.items ++ signed_decimal number) }
-{
-    let mut buffer = Buffer::new();
-    text.extend_from_slice(buffer.format(number).as_bytes())
 }
 
 /// Appends the last three digits of a number.
@@ -250,13 +233,15 @@ pub fn push_fields(
     Ok(text.push(b'\n')?)
 }
 
-/// Appends what a first and a last moment are, each behind a comma.
+/// Appends what a first and a last moment are and the edges that are met there, each behind a comma.
 #[tactic(auto, unfolding(crate::specs::StayTexts::ends_text))]
 fn push_ends(text: &mut Vec<u8>, enters_by: End, leaves_by: End) -> Result<(), AllocError>
     ensures { OnOk result (text.new.items ≡ text.old.items ++ ends_text enters_by leaves_by) }
 {
     push_word(text, enters_by.as_str())?;
-    push_word(text, leaves_by.as_str())
+    push_word(text, leaves_by.as_str())?;
+    push_word(text, enters_by.met_edges())?;
+    push_word(text, leaves_by.met_edges())
 }
 
 /// Appends the record of a stay.

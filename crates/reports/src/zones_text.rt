@@ -1,8 +1,8 @@
 //! The texts of stays, visits and dwells in zones: records of CSV.
 use crate::moments_text::{
-    Frame, push_count, push_labelled, push_micros, push_position, push_seconds, push_signed,
-    push_word,
+    Frame, push_count, push_labelled, push_micros, push_position, push_seconds, push_word,
 };
+use crate::pushed::push_signed;
 use mfcsv::Position;
 use pages::PageStore;
 use std::alloc::{AllocError, Global};

@@ -1,22 +1,12 @@
 -- How rows stand in one list of values.
 use Rattle.std.proofs.Common.{ℕ, suc, List, [], ◌∷◌, ◌++◌, ◌≡◌, ◌≤◌, ◌<◌, ◌+◌, length, map, take, drop, replicate, get_or, All, IsUtf8, refl, subst, sym, ap, ◌∙◌, arith}
-use Rattle.std.proofs.lemmas.List.{length-append, length-take-le, length-drop, length-replicate, take-append-le, drop-append-le, take-append-drop, take_at, get_or-take, get_or-drop, get_or_append_left}
+use Rattle.std.proofs.lemmas.List.{length-append, length-take-le, length-drop, take-append-le, drop-append-le, take-append-drop, get_or-take, get_or-drop, get_or_append_left}
 use Rattle.rows.specs.Rows.{row_of, rows_of, IsIn, AreIn}
 use Rattle.rows.specs.declared.row.Place.{Place}
 
 -- so many values are kept
 kept : (values : List (List ℕ)) (place : Place) → IsIn values place → length (take place.count (drop place.first values)) ≡ place.count
 kept values place inside = length-take-le place.count (drop place.first values) (omega (arith, length-drop place.first values, inside.inside))
-
-pub row-length : (values : List (List ℕ)) (place : Place) → IsIn values place → length (row_of values place) ≡ place.count + place.blanks
-row-length values place inside =
-    length-append (take place.count (drop place.first values)) (replicate place.blanks [])
-    ∙ ap (λ n. n + length (replicate {A = List ℕ} place.blanks [])) (kept values place inside)
-    ∙ ap (λ n. place.count + n) (length-replicate place.blanks [])
-
--- the values that are kept, without the blank ones
-pub row-kept : (values : List (List ℕ)) (place : Place) → IsIn values place → take place.count (row_of values place) ≡ take place.count (drop place.first values)
-row-kept values place inside = take_at (take place.count (drop place.first values)) (replicate place.blanks []) place.count (kept values place inside)
 
 -- a value that is kept
 value-at : (values : List (List ℕ)) (place : Place) (i : ℕ) → i < place.count → get_or (take place.count (drop place.first values)) i [] ≡ get_or values (place.first + i) []
@@ -79,8 +69,3 @@ pub equal-row : (values : List (List ℕ)) (known place : Place) → IsIn values
 equal-row values known place inside count blanks before same =
     let is = equal-in values known place inside count before same in
     (is.0, ap (λ xs. xs ++ replicate known.blanks []) is.1 ∙ ap (λ n. take place.count (drop place.first values) ++ replicate n []) blanks)
-
--- rows behind none
-pub behind-none : {X : Type 0} (xs ys : List X) → length xs ≡ 0 → ys ≡ xs ++ ys
-behind-none [] ys none = refl
-behind-none (x ∷ xs) ys none = absurd (omega (arith, none))

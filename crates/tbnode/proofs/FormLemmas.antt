@@ -6,19 +6,19 @@ use Rattle.legs.specs.Boxes.{BoxView}
 use Rattle.tbnode.specs.Nodes.{LeafView, EntryView, InnerView}
 use Rattle.tbnode.specs.Parts.{number_at, slot, all_below}
 use Rattle.tbnode.specs.Layout.{is_leg}
-use Rattle.tbnode.specs.Form.{leg_count, leg_at, leaf_of, is_leg_at, is_leaf, level_of, entry_count, entry_at, inner_of, is_entry_at, is_inner}
+use Rattle.tbnode.specs.Form.{leaf_leg_count, leaf_leg, leaf_from_bytes, is_leg_at, is_leaf, level_of, entry_count, entry_at, inner_of, is_entry_at, is_inner}
 use Rattle.tbnode.proofs.ListLemmas.{and_left, and_right, and_both, length-made, get-made}
 
 pub record LeafForm (bytes : List ℕ) : Type 0 where
-  pub some : 1 ≤ leg_count bytes
-  pub room : leg_count bytes ≤ 50
+  pub some : 1 ≤ leaf_leg_count bytes
+  pub room : leaf_leg_count bytes ≤ 50
   pub zero : number_at 2 14 bytes ≡ 0
-  pub legs : all_below (is_leg_at bytes) (leg_count bytes) ≡ true
+  pub legs : all_below (is_leg_at bytes) (leaf_leg_count bytes) ≡ true
 
 pub leaf_form : (bytes : List ℕ) → is_leaf bytes ≡ true → LeafForm bytes
 unfolding is_leaf
 leaf_form bytes e =
-    let n = leg_count bytes in
+    let n = leaf_leg_count bytes in
     let a = nat_le 1 n in
     let b = nat_le n 50 in
     let z = number_at 2 14 bytes == 0 in
@@ -35,7 +35,7 @@ leaf_form bytes e =
 pub is_leaf-form : (bytes : List ℕ) → LeafForm bytes → is_leaf bytes ≡ true
 unfolding is_leaf
 is_leaf-form bytes f =
-    let n = leg_count bytes in
+    let n = leaf_leg_count bytes in
     and_both _ _
     (and_both _ _ (and_both _ _ (le-leb 1 n f.some) (le-leb n 50 f.room)) (eq-eqb (number_at 2 14 bytes) 0 f.zero))
     f.legs
@@ -83,17 +83,17 @@ is_inner-form bytes f =
 
 pub leg_lawful : (bytes : List ℕ) (i : ℕ) → is_leg_at bytes i ≡ true → is_leg (slot 80 i bytes) ≡ true
 unfolding is_leg_at
-leg_lawful bytes i e = and_left (is_leg (slot 80 i bytes)) ((i == 0) || nat_lt (leg_at bytes (i - 1)).ordinal (leg_at bytes i).ordinal) e
+leg_lawful bytes i e = and_left (is_leg (slot 80 i bytes)) ((i == 0) || nat_lt (leaf_leg bytes (i - 1)).ordinal (leaf_leg bytes i).ordinal) e
 
-pub length-legs : (bytes : List ℕ) → length (leaf_of bytes).legs ≡ leg_count bytes
-unfolding leaf_of
-length-legs bytes = length-made (leg_at bytes) (leg_count bytes)
+pub length-legs : (bytes : List ℕ) → length (leaf_from_bytes bytes).legs ≡ leaf_leg_count bytes
+unfolding leaf_from_bytes
+length-legs bytes = length-made (leaf_leg bytes) (leaf_leg_count bytes)
 
 pub length-entries : (bytes : List ℕ) → length (inner_of bytes).entries ≡ entry_count bytes
 unfolding inner_of
 length-entries bytes = length-made (entry_at bytes) (entry_count bytes)
 
-pub legs_counted : (bytes : List ℕ) (v : LeafView LegView) → leaf_of bytes ≡ v → length v.legs ≡ leg_count bytes
+pub legs_counted : (bytes : List ℕ) (v : LeafView LegView) → leaf_from_bytes bytes ≡ v → length v.legs ≡ leaf_leg_count bytes
 legs_counted bytes v e = ap (λ w. length w.legs) (sym e) ∙ length-legs bytes
 
 pub entries_counted : (bytes : List ℕ) (v : InnerView BoxView) → inner_of bytes ≡ v → length v.entries ≡ entry_count bytes
@@ -104,7 +104,7 @@ pub told_count : {r n len most : ℕ} → r ≡ n → len ≡ n → 1 ≤ n → 
 told_count told counted some room = record { value = told ∙ sym counted; least = omega (arith, told, some); most = omega (arith, told, room) }
 
 -- a leg that is there is one of the legs that the head counts, of which there are at most 50
-pub leg_within : (bytes : List ℕ) (v : LeafView LegView) (i : ℕ) → is_leaf bytes ≡ true → leaf_of bytes ≡ v → i < length v.legs → (i < leg_count bytes) × (i < 50)
+pub leg_within : (bytes : List ℕ) (v : LeafView LegView) (i : ℕ) → is_leaf bytes ≡ true → leaf_from_bytes bytes ≡ v → i < length v.legs → (i < leaf_leg_count bytes) × (i < 50)
 leg_within bytes v i form is h =
     let count = legs_counted bytes v is in
     (omega (arith, count, h), omega (arith, count, h, (leaf_form bytes form).room))
@@ -115,9 +115,9 @@ entry_within bytes v i form is h =
     let count = entries_counted bytes v is in
     (omega (arith, count, h), omega (arith, count, h, (inner_form bytes form).room))
 
-pub leg_shown : (bytes : List ℕ) (v : LeafView LegView) (i : ℕ) (l : LegView) → leaf_of bytes ≡ v → i < length v.legs → l ≡ leg_at bytes i → slice_get v.legs i ≡ Some l
-unfolding leaf_of
-leg_shown bytes v i l e h is = get-made (leg_at bytes) (leg_count bytes) i l v.legs (ap (λ w. w.legs) e) h is
+pub leg_shown : (bytes : List ℕ) (v : LeafView LegView) (i : ℕ) (l : LegView) → leaf_from_bytes bytes ≡ v → i < length v.legs → l ≡ leaf_leg bytes i → slice_get v.legs i ≡ Some l
+unfolding leaf_from_bytes
+leg_shown bytes v i l e h is = get-made (leaf_leg bytes) (leaf_leg_count bytes) i l v.legs (ap (λ w. w.legs) e) h is
 
 pub entry_shown : (bytes : List ℕ) (v : InnerView BoxView) (i : ℕ) (x : EntryView BoxView) → inner_of bytes ≡ v → i < length v.entries → x ≡ entry_at bytes i → slice_get v.entries i ≡ Some x
 unfolding inner_of

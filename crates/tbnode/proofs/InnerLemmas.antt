@@ -11,7 +11,7 @@ use Rattle.pages.specs.declared.payload.Kind.TheVariants.{Inner}
 use Rattle.pages.specs.declared.payload.Payload.{Payload}
 use Rattle.tbnode.specs.Nodes.{EntryView, Node, AnInner, as_inner, with_entry, widened, with_wider}
 use Rattle.tbnode.specs.Parts.{put, number_at, slot, all_below}
-use Rattle.tbnode.specs.Layout.{entry_bytes, entry_of, is_entry}
+use Rattle.tbnode.specs.Layout.{entry_bytes, entry_from_bytes, is_entry}
 use Rattle.tbnode.specs.Form.{level_of, entry_count, entry_at, inner_of, is_entry_at, is_inner, node_of}
 use Rattle.tbnode.specs.Edits.{new_inner, inner_with_entry, inner_with_wider}
 use Rattle.tbnode.specs.Steps.{EntryReadsBack, pushed}
@@ -50,8 +50,8 @@ module _ (bytes : List ℕ) (x : EntryView BoxView) (len : 4056 ≤ length bytes
       let level = head_kept 2 0 (omega arith) (inl (omega arith)) in
       let entries : made (entry_at new) (entry_count new) ≡ made (entry_at bytes) n ++ x ∷ [] =
       ap (made (entry_at new)) counted ∙ made-more (entry_at new) n
-      ∙ ap (λ e. made (entry_at new) n ++ e ∷ []) (ap entry_of slot_new ∙ back.same)
-      ∙ ap (λ es. es ++ x ∷ []) (made-same (entry_at new) (entry_at bytes) n (λ i h. ap entry_of (slot_kept i h))) in
+      ∙ ap (λ e. made (entry_at new) n ++ e ∷ []) (ap entry_from_bytes slot_new ∙ back.same)
+      ∙ ap (λ es. es ++ x ∷ []) (made-same (entry_at new) (entry_at bytes) n (λ i h. ap entry_from_bytes (slot_kept i h))) in
       λ i. record { level = level i; entries = entries i }
 
   pub form_pushed : 1 ≤ level_of bytes → number_at 8 4 bytes ≡ 0 → number_at 4 12 bytes ≡ 0 → all_below (is_entry_at bytes) (entry_count bytes) ≡ true
@@ -200,7 +200,7 @@ module _ (bytes : List ℕ) (t : ℕ) (x : EntryView BoxView) (len : 4056 ≤ le
       let level = over_head 2 0 (omega arith) in
       let entries : made (entry_at new) (entry_count new) ≡ widened (λ p q. cover_of p q) t box (made (entry_at bytes) n) =
       ap (made (entry_at new)) (over_head 2 2 (omega arith))
-      ∙ made-widened (λ p q. cover_of p q) box (entry_at bytes) (entry_at new) t n (λ i other _. ap entry_of (over_else i other)) (ap entry_of over_here ∙ back.same ∙ is) below in
+      ∙ made-widened (λ p q. cover_of p q) box (entry_at bytes) (entry_at new) t n (λ i other _. ap entry_from_bytes (over_else i other)) (ap entry_from_bytes over_here ∙ back.same ∙ is) below in
       λ i. record { level = level i; entries = entries i }
 
 pub entry_widened : (p : Payload) (t : ℕ) (x : EntryView BoxView) (box : BoxView) (new : List ℕ) → new ≡ put (16 + 56 * t) (entry_bytes x) p.bytes → 4056 ≤ length p.bytes → HoldsInner p → EntryReadsBack x

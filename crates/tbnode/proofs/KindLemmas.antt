@@ -9,7 +9,7 @@ use Rattle.pages.specs.declared.payload.Kind.{Kind}
 use Rattle.pages.specs.declared.payload.Kind.TheVariants.{Header, Leaf, Inner, Catalogue}
 use Rattle.pages.specs.declared.payload.Payload.{Payload}
 use Rattle.tbnode.specs.Nodes.{LeafView, InnerView, Node, ALeaf, AnInner, as_leaf, as_inner}
-use Rattle.tbnode.specs.Form.{leaf_of, is_leaf, inner_of, is_inner, node_by, node_of}
+use Rattle.tbnode.specs.Form.{leaf_from_bytes, is_leaf, inner_of, is_inner, node_by, node_of}
 
 -- payloads of a kind say the node that is made of a view of their bytes, where these are of its form; no others are seen as such a view
 pub record IsKind {V : Type 0} (kind : Kind) (form : List ℕ → Bool) (view : List ℕ → V) (make : V → Node LegView BoxView) (seen : Option (Node LegView BoxView) → Option V) : Type 0 where
@@ -29,12 +29,12 @@ leaf_or Catalogue bytes = inr refl
 inner_or : (k : Kind) (bytes : List ℕ) → (k ≡ Inner) ⊎ (as_inner (node_by k bytes) ≡ None)
 inner_or Header bytes = inr refl
 inner_or Leaf bytes =
-    let n : Node LegView BoxView = ALeaf (leaf_of bytes) in
+    let n : Node LegView BoxView = ALeaf (leaf_from_bytes bytes) in
     inr (elim (is_leaf bytes) as (λ b. as_inner (if b then Some n else None) ≡ None) [ true ↦ refl | false ↦ refl ])
 inner_or Inner bytes = inl refl
 inner_or Catalogue bytes = inr refl
 
-pub a_leaf : IsKind Leaf (λ bytes. is_leaf bytes) (λ bytes. leaf_of bytes) (λ (v : LeafView LegView). ALeaf v) (λ o. as_leaf o)
+pub a_leaf : IsKind Leaf (λ bytes. is_leaf bytes) (λ bytes. leaf_from_bytes bytes) (λ (v : LeafView LegView). ALeaf v) (λ o. as_leaf o)
 a_leaf = record { own = λ _. refl; made = λ _. refl; none = refl; other = leaf_or }
 
 pub an_inner : IsKind Inner (λ bytes. is_inner bytes) (λ bytes. inner_of bytes) (λ (v : InnerView BoxView). AnInner v) (λ o. as_inner o)

@@ -7,13 +7,13 @@ use Rattle.std.proofs.lemmas.Bool.{false≢true, leb-true, eqb-true}
 use Rattle.std.proofs.lemmas.Int.{ints}
 use Rattle.std.proofs.lemmas.Option.{same_Some}
 use Rattle.fixedpoint.specs.Number.{IsInRange, units_within, most}
-use Rattle.timebase.specs.Instant.{IsMoment, some_moment, is_moment, first_moment, last_moment}
+use Rattle.timebase.specs.Instant.{IsMoment, some_moment, is_moment, least_moment, greatest_moment}
 use Rattle.legs.specs.Legs.{LegView, IsLeg}
 use Rattle.pages.specs.declared.payload.Payload.{Payload}
 use Rattle.tbnode.specs.Nodes.{LeafView, as_leaf}
 use Rattle.tbnode.specs.Parts.{number_at, signed_at, slot}
-use Rattle.tbnode.specs.Layout.{leg_of, is_leg, has_moments, has_start, has_end}
-use Rattle.tbnode.specs.Form.{feature_of, leg_count, leg_at, leaf_of, is_leg_at, LegsAreLawful}
+use Rattle.tbnode.specs.Layout.{leg_from_bytes, is_leg, has_moments, has_start, has_end}
+use Rattle.tbnode.specs.Form.{leaf_feature, leaf_leg_count, leaf_leg, leaf_from_bytes, is_leg_at, LegsAreLawful}
 use Rattle.tbnode.proofs.ListLemmas.{and_left, and_right, all_below-at, all-made}
 use Rattle.tbnode.proofs.FormLemmas.{leaf_form, leg_lawful}
 use Rattle.tbnode.proofs.KindLemmas.{HoldsLeaf, a_leaf, held, seen_is}
@@ -31,7 +31,7 @@ some_if false z e = absurd (false≢true e)
 moment_from : (z : ℤ) → is_some (some_moment z) ≡ true → IsMoment z
 moment_from z e =
     let h = some_if (is_moment z) z e in
-    (le_from first_moment z (and_left (int_le first_moment z) (int_le z last_moment) h), le_from z last_moment (and_right (int_le first_moment z) (int_le z last_moment) h))
+    (le_from least_moment z (and_left (int_le least_moment z) (int_le z greatest_moment) h), le_from z greatest_moment (and_right (int_le least_moment z) (int_le z greatest_moment) h))
 
 coord_from : (z : ℤ) → is_some (units_within z) ≡ true → IsInRange z
 coord_from z e = leb-true (unsigned_abs z) most (some_if (nat_le (unsigned_abs z) most) z e)
@@ -70,26 +70,26 @@ is_leg-from l moments start end =
     }
 
 -- a leg is as lawful whatever its feature
-with_feature : (f : ℕ) (bytes : List ℕ) → IsLeg (leg_of 0 bytes) → IsLeg (leg_of f bytes)
-unfolding leg_of
+with_feature : (f : ℕ) (bytes : List ℕ) → IsLeg (leg_from_bytes 0 bytes) → IsLeg (leg_from_bytes f bytes)
+unfolding leg_from_bytes
 with_feature f bytes k = record { rises = k.rises; t0 = k.t0; t1 = k.t1; x0 = k.x0; y0 = k.y0; z0 = k.z0; x1 = k.x1; y1 = k.y1; z1 = k.z1 }
 
-leg_tests : (bytes : List ℕ) → is_leg bytes ≡ true → (has_moments (leg_of 0 bytes) ≡ true) × (has_start (leg_of 0 bytes) ≡ true) × (has_end (leg_of 0 bytes) ≡ true)
+leg_tests : (bytes : List ℕ) → is_leg bytes ≡ true → (has_moments (leg_from_bytes 0 bytes) ≡ true) × (has_start (leg_from_bytes 0 bytes) ≡ true) × (has_end (leg_from_bytes 0 bytes) ≡ true)
 unfolding is_leg
 leg_tests bytes e =
-    let l = leg_of 0 bytes in
+    let l = leg_from_bytes 0 bytes in
     and_three (has_moments l) (has_start l) (has_end l) (and_left (has_moments l && has_start l && has_end l) (number_at 4 76 bytes == 0) e)
 
-leg_is : (f : ℕ) (bytes : List ℕ) → is_leg bytes ≡ true → IsLeg (leg_of f bytes)
+leg_is : (f : ℕ) (bytes : List ℕ) → is_leg bytes ≡ true → IsLeg (leg_from_bytes f bytes)
 leg_is f bytes e =
     let t = leg_tests bytes e in
-    with_feature f bytes (is_leg-from (leg_of 0 bytes) t.0 t.1 t.2)
+    with_feature f bytes (is_leg-from (leg_from_bytes 0 bytes) t.0 t.1 t.2)
 
 -- the last four bytes of a lawful leg are zero
 pub last_zero : (bytes : List ℕ) → is_leg bytes ≡ true → number_at 4 76 bytes ≡ 0
 unfolding is_leg
 last_zero bytes e =
-    let l = leg_of 0 bytes in
+    let l = leg_from_bytes 0 bytes in
     eqb-true (number_at 4 76 bytes) 0 (and_right (has_moments l && has_start l && has_end l) (number_at 4 76 bytes == 0) e)
 
 -- what is no value is none
@@ -114,54 +114,54 @@ not_after a b t u e f r h = later a b (subst (λ z. is_le (int_cmp b z) ≡ true
 -- the numbers of a lawful leg are in range, and its moments rise
 module _ (bytes : List ℕ) (e : is_leg bytes ≡ true) where
   pub rises : signed_at 8 bytes <ℤ signed_at 16 bytes
-  unfolding leg_of
+  unfolding leg_from_bytes
   rises = (leg_is 0 bytes e).rises
 
   pub t0_some : is_some (some_moment (signed_at 8 bytes)) ≡ true
-  unfolding leg_of
-  t0_some = (legs_moments (leg_of 0 bytes) (leg_tests bytes e).0).1
+  unfolding leg_from_bytes
+  t0_some = (legs_moments (leg_from_bytes 0 bytes) (leg_tests bytes e).0).1
 
   pub t1_some : is_some (some_moment (signed_at 16 bytes)) ≡ true
-  unfolding leg_of
-  t1_some = (legs_moments (leg_of 0 bytes) (leg_tests bytes e).0).2
+  unfolding leg_from_bytes
+  t1_some = (legs_moments (leg_from_bytes 0 bytes) (leg_tests bytes e).0).2
 
   pub x0_some : is_some (units_within (signed_at 24 bytes)) ≡ true
-  unfolding leg_of
-  x0_some = (legs_start (leg_of 0 bytes) (leg_tests bytes e).1).0
+  unfolding leg_from_bytes
+  x0_some = (legs_start (leg_from_bytes 0 bytes) (leg_tests bytes e).1).0
 
   pub y0_some : is_some (units_within (signed_at 32 bytes)) ≡ true
-  unfolding leg_of
-  y0_some = (legs_start (leg_of 0 bytes) (leg_tests bytes e).1).1
+  unfolding leg_from_bytes
+  y0_some = (legs_start (leg_from_bytes 0 bytes) (leg_tests bytes e).1).1
 
   pub z0_some : is_some (units_within (signed_at 40 bytes)) ≡ true
-  unfolding leg_of
-  z0_some = (legs_start (leg_of 0 bytes) (leg_tests bytes e).1).2
+  unfolding leg_from_bytes
+  z0_some = (legs_start (leg_from_bytes 0 bytes) (leg_tests bytes e).1).2
 
   pub x1_some : is_some (units_within (signed_at 48 bytes)) ≡ true
-  unfolding leg_of
-  x1_some = (legs_end (leg_of 0 bytes) (leg_tests bytes e).2).0
+  unfolding leg_from_bytes
+  x1_some = (legs_end (leg_from_bytes 0 bytes) (leg_tests bytes e).2).0
 
   pub y1_some : is_some (units_within (signed_at 56 bytes)) ≡ true
-  unfolding leg_of
-  y1_some = (legs_end (leg_of 0 bytes) (leg_tests bytes e).2).1
+  unfolding leg_from_bytes
+  y1_some = (legs_end (leg_from_bytes 0 bytes) (leg_tests bytes e).2).1
 
   pub z1_some : is_some (units_within (signed_at 64 bytes)) ≡ true
-  unfolding leg_of
-  z1_some = (legs_end (leg_of 0 bytes) (leg_tests bytes e).2).2
+  unfolding leg_from_bytes
+  z1_some = (legs_end (leg_from_bytes 0 bytes) (leg_tests bytes e).2).2
 
 pub ruleset lawful = (rises, t0_some, t1_some, x0_some, y0_some, z0_some, x1_some, y1_some, z1_some)
 
-legs_of_form : (p : Payload) → HoldsLeaf p → All IsLeg (leaf_of p.bytes).legs
-unfolding leaf_of
+legs_of_form : (p : Payload) → HoldsLeaf p → All IsLeg (leaf_from_bytes p.bytes).legs
+unfolding leaf_from_bytes
 legs_of_form p h =
     let f = leaf_form p.bytes h.form in
-    let n = leg_count p.bytes in
-    let each : (i : ℕ) → i < n → IsLeg (leg_at p.bytes i) =
-    λ i l. leg_is (feature_of p.bytes) (slot 80 i p.bytes) (leg_lawful p.bytes i (all_below-at (is_leg_at p.bytes) n i f.legs l)) in
-    all-made IsLeg (leg_at p.bytes) n each
+    let n = leaf_leg_count p.bytes in
+    let each : (i : ℕ) → i < n → IsLeg (leaf_leg p.bytes i) =
+    λ i l. leg_is (leaf_feature p.bytes) (slot 80 i p.bytes) (leg_lawful p.bytes i (all_below-at (is_leg_at p.bytes) n i f.legs l)) in
+    all-made IsLeg (leaf_leg p.bytes) n each
 
 pub legs_are_lawful : LegsAreLawful
 legs_are_lawful p l e =
     let h = held a_leaf p (ap (λ o. is_some (as_leaf o)) e) in
-    let same : leaf_of p.bytes ≡ l = same_Some (leaf_of p.bytes) l (sym (seen_is a_leaf p h) ∙ ap as_leaf e) in
+    let same : leaf_from_bytes p.bytes ≡ l = same_Some (leaf_from_bytes p.bytes) l (sym (seen_is a_leaf p h) ∙ ap as_leaf e) in
     subst (λ (v : LeafView LegView). All IsLeg v.legs) same (legs_of_form p h)

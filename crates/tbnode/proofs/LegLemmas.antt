@@ -10,12 +10,12 @@ use Rattle.std.proofs.Math.Facts.{Fits-of_z}
 use Rattle.byteorder.specs.Endian.{big_bytes, big_number}
 use Rattle.byteorder.specs.Numbers.{big_number-reads_back}
 use Rattle.fixedpoint.specs.Number.{IsInRange, units_within, most}
-use Rattle.timebase.specs.Instant.{IsMoment, some_moment, is_moment, first_moment, last_moment}
+use Rattle.timebase.specs.Instant.{IsMoment, some_moment, is_moment, least_moment, greatest_moment}
 use Rattle.legs.specs.Legs.{LegView, IsLeg}
 use Rattle.legs.specs.Boxes.{BoxView, IsBox}
 use Rattle.tbnode.specs.Nodes.{EntryView}
 use Rattle.tbnode.specs.Parts.{part, number_at, signed_at}
-use Rattle.tbnode.specs.Layout.{leg_bytes, leg_of, is_leg, has_moments, has_start, has_end, entry_bytes, entry_of, bounds_of, is_entry, is_box}
+use Rattle.tbnode.specs.Layout.{leg_bytes, leg_from_bytes, is_leg, has_moments, has_start, has_end, entry_bytes, entry_from_bytes, bounds_from_bytes, is_entry, is_box}
 use Rattle.tbnode.specs.Steps.{LegReadsBack, EntryReadsBack}
 use Rattle.tbnode.proofs.ListLemmas.{and_both}
 
@@ -42,7 +42,7 @@ lt_to x y h = grind (arith, ints)
 
 moment_some : (z : ℤ) → IsMoment z → is_some (some_moment z) ≡ true
 moment_some z h =
-    let e : is_moment z ≡ true = and_both (int_le first_moment z) (int_le z last_moment) (le_to first_moment z h.0) (le_to z last_moment h.1) in
+    let e : is_moment z ≡ true = and_both (int_le least_moment z) (int_le z greatest_moment) (le_to least_moment z h.0) (le_to z greatest_moment h.1) in
     let o : Bool → Option ℤ = λ b. if b then Some z else None in
     ap (λ b. is_some (o b)) e
 
@@ -68,8 +68,8 @@ module _ (l : LegView) where
   zero_of = refl
 
   -- the bytes of a lawful leg, read as a leg of a feature, say that leg
-  leg_same : (f : ℕ) → l.ordinal < 2 ^ 64 → l.row < 2 ^ 32 → IsLeg l → leg_of f (leg_bytes l) ≡ record l { feature = f }
-  unfolding leg_of leg_bytes signed_at number_at part
+  leg_same : (f : ℕ) → l.ordinal < 2 ^ 64 → l.row < 2 ^ 32 → IsLeg l → leg_from_bytes f (leg_bytes l) ≡ record l { feature = f }
+  unfolding leg_from_bytes leg_bytes signed_at number_at part
   leg_same f o r k = λ i. record {
     ordinal = big_number-reads_back 8 l.ordinal [] o i;
     feature = f;
@@ -112,7 +112,7 @@ module _ (l : LegView) where
       let tests : LegView → Bool = λ v. has_moments v && has_start v && has_end v in
       let v = of_none l in
       let laid = lawful_of_none l k in
-      and_both (tests (leg_of 0 (leg_bytes l))) (number_at 4 76 (leg_bytes l) == 0)
+      and_both (tests (leg_from_bytes 0 (leg_bytes l))) (number_at 4 76 (leg_bytes l) == 0)
       (ap tests (leg_same l 0 o r k)
       ∙ and_both (has_moments v && has_start v) (has_end v)
       (and_both (has_moments v) (has_start v) (moments_laid v laid) (start_laid v laid)) (end_laid v laid))
@@ -143,8 +143,8 @@ module _ (e : EntryView BoxView) where
   unfolding entry_bytes
   length-entry_bytes = refl
 
-  bounds_same : BoundsFit e.bounds → bounds_of (entry_bytes e) ≡ e.bounds
-  unfolding bounds_of entry_bytes signed_at number_at part
+  bounds_same : BoundsFit e.bounds → bounds_from_bytes (entry_bytes e) ≡ e.bounds
+  unfolding bounds_from_bytes entry_bytes signed_at number_at part
   bounds_same f = λ i. record {
     x_min = read_back e.bounds.x_min f.x_min i;
     y_min = read_back e.bounds.y_min f.y_min i;
@@ -154,7 +154,7 @@ module _ (e : EntryView BoxView) where
     t_max = read_back e.bounds.t_max f.t_max i;
   }
 
-  entry_same : e.child < 2 ^ 32 → BoundsFit e.bounds → entry_of (entry_bytes e) ≡ e
+  entry_same : e.child < 2 ^ 32 → BoundsFit e.bounds → entry_from_bytes (entry_bytes e) ≡ e
   entry_same h f =
       let c = child_of h in
       let b = bounds_same f in
@@ -164,7 +164,7 @@ module _ (e : EntryView BoxView) where
   unfolding is_entry
   entry_lawful k f =
       let v = e.bounds in
-      and_both (is_box (bounds_of (entry_bytes e))) (number_at 4 4 (entry_bytes e) == 0)
+      and_both (is_box (bounds_from_bytes (entry_bytes e))) (number_at 4 4 (entry_bytes e) == 0)
       (ap (λ b. is_box b) (bounds_same f)
       ∙ and_both (int_le v.x_min v.x_max && int_le v.y_min v.y_max) (int_le v.t_min v.t_max)
       (and_both (int_le v.x_min v.x_max) (int_le v.y_min v.y_max) (le_to v.x_min v.x_max k.x) (le_to v.y_min v.y_max k.y))

@@ -10,7 +10,7 @@ use Rattle.std.specs.Prelude.{option_map}
 use Rattle.tbnode.specs.Nodes.{EntryView, Node, as_leaf, as_inner}
 use Rattle.tbnode.specs.Layout.{leg_bytes, entry_bytes}
 use Rattle.tbnode.specs.Parts.{put, number_at}
-use Rattle.tbnode.specs.Form.{leg_count, entry_count, node_of, rest_by, slack_of}
+use Rattle.tbnode.specs.Form.{leaf_leg_count, entry_count, node_of, rest_by, slack_of}
 use Rattle.tbnode.specs.Edits.{leaf_with_leg, inner_with_entry}
 use Rattle.tbnode.specs.Steps.{LegReadsBack, EntryReadsBack, pushed}
 use Rattle.tbnode.proofs.LeafLemmas.{IsTaken, leg_pushed}
@@ -37,7 +37,7 @@ pushed_rest bytes m place new a size inside room above =
     head_rest (put (16 + m * n) new bytes) 2 place (n + 1) a inside (omega (arith, above)) (omega (arith, length-slot bytes m n new size room, room))
     ∙ slot_rest bytes m n new a size above room
 
-pub leaf_rest : (p : Payload) → p.kind ≡ Leaf → slack_of p ≡ drop (16 + 80 * leg_count p.bytes) p.bytes
+pub leaf_rest : (p : Payload) → p.kind ≡ Leaf → slack_of p ≡ drop (16 + 80 * leaf_leg_count p.bytes) p.bytes
 unfolding slack_of
 leaf_rest p k = ap (λ j. rest_by j p.bytes) k
 
@@ -67,8 +67,8 @@ pushed_ends p bytes m place new rest e size inside room small next =
     ∙ drop_more (16 + m * n) m (16 + m * (n + 1)) bytes next
 
 -- a leg more
-pub leg_rest : (p : Payload) (bytes : List ℕ) (l : LegView) → p.kind ≡ Leaf → p.bytes ≡ pushed 80 12 (leg_bytes l) bytes → 4056 ≤ length bytes → leg_count bytes < 50
-    → slack_of p ≡ drop 80 (drop (16 + 80 * leg_count bytes) bytes)
+pub leg_rest : (p : Payload) (bytes : List ℕ) (l : LegView) → p.kind ≡ Leaf → p.bytes ≡ pushed 80 12 (leg_bytes l) bytes → 4056 ≤ length bytes → leaf_leg_count bytes < 50
+    → slack_of p ≡ drop 80 (drop (16 + 80 * leaf_leg_count bytes) bytes)
 leg_rest p bytes l k e len small =
     pushed_ends p bytes 80 12 (leg_bytes l) (leaf_rest p k) e (length-leg_bytes l) (omega arith) (omega (arith, len, small)) (omega (arith, small)) (omega arith)
 
@@ -80,11 +80,11 @@ entry_rest p bytes x k e len small =
 
 -- another next leaf
 pub next_rest : (p : Payload) (bytes : List ℕ) (next : ℕ) → p.kind ≡ Leaf → p.bytes ≡ put 8 (big_bytes 4 next) bytes → 16 ≤ length bytes
-    → slack_of p ≡ drop (16 + 80 * leg_count bytes) bytes
+    → slack_of p ≡ drop (16 + 80 * leaf_leg_count bytes) bytes
 next_rest p bytes next k e room =
-    ends p 80 (number_at 2 12) (put 8 (big_bytes 4 next) bytes) bytes (leg_count bytes) (leaf_rest p k) e
+    ends p 80 (number_at 2 12) (put 8 (big_bytes 4 next) bytes) bytes (leaf_leg_count bytes) (leaf_rest p k) e
     (number-unset bytes 4 8 next (omega arith) room 2 12 (inr (omega arith)))
-    (head_rest bytes 4 8 next (16 + 80 * leg_count bytes) (omega arith) (omega arith) room)
+    (head_rest bytes 4 8 next (16 + 80 * leaf_leg_count bytes) (omega arith) (omega arith) room)
 
 -- an entry written over
 pub wider_rest : (p : Payload) (bytes : List ℕ) (t : ℕ) (x : EntryView BoxView) → p.kind ≡ Inner → p.bytes ≡ put (16 + 56 * t) (entry_bytes x) bytes → 4056 ≤ length bytes

@@ -25,8 +25,8 @@ leg_bytes leg =
     ++ replicate 4 0)))))))))
 
 -- the leg of a feature that 80 bytes say
-unfoldable pub leg_of : ℕ → List ℕ → LegView
-leg_of feature bytes = record {
+unfoldable pub leg_from_bytes : ℕ → List ℕ → LegView
+leg_from_bytes feature bytes = record {
   ordinal = number_at 8 0 bytes;
   feature = feature;
   t0 = signed_at 8 bytes;
@@ -58,7 +58,7 @@ has_end leg =
 -- the 80 bytes say a lawful leg, and the last four are zero
 unfoldable pub is_leg : List ℕ → Bool
 is_leg bytes =
-    let leg = leg_of 0 bytes in
+    let leg = leg_from_bytes 0 bytes in
     has_moments leg && has_start leg && has_end leg && (number_at 4 76 bytes == 0)
 
 -- the 56 bytes of an entry
@@ -74,8 +74,8 @@ entry_bytes entry =
     ++ signed_bytes entry.bounds.t_max))))))
 
 -- the box that 56 bytes say, and the entry
-unfoldable pub bounds_of : List ℕ → BoxView
-bounds_of bytes = record {
+unfoldable pub bounds_from_bytes : List ℕ → BoxView
+bounds_from_bytes bytes = record {
   x_min = signed_at 8 bytes;
   y_min = signed_at 16 bytes;
   t_min = signed_at 24 bytes;
@@ -85,8 +85,8 @@ bounds_of bytes = record {
 }
 
 -- the entry that 56 bytes say
-abbrev pub entry_of : List ℕ → EntryView BoxView
-entry_of bytes = record { child = number_at 4 0 bytes; bounds = bounds_of bytes }
+abbrev pub entry_from_bytes : List ℕ → EntryView BoxView
+entry_from_bytes bytes = record { child = number_at 4 0 bytes; bounds = bounds_from_bytes bytes }
 
 -- no least bound is above its greatest
 abbrev pub is_box : BoxView → Bool
@@ -94,4 +94,4 @@ is_box b = int_le b.x_min b.x_max && int_le b.y_min b.y_max && int_le b.t_min b.
 
 -- the 56 bytes say an entry whose bounds are in order, and the four bytes after the child are zero
 unfoldable pub is_entry : List ℕ → Bool
-is_entry bytes = is_box (bounds_of bytes) && (number_at 4 4 bytes == 0)
+is_entry bytes = is_box (bounds_from_bytes bytes) && (number_at 4 4 bytes == 0)

@@ -2,7 +2,7 @@
 ghost use Rattle.std.specs.Prelude.{◌≡◌, ◌+◌, ◌≤◌, length, int_le, IsTrue};
 ghost use Rattle.tbnode.specs.Parts.{signed_at};
 ghost use Rattle.tbnode.specs.Steps.{EntryReadsBack};
-ghost use Rattle.tbnode.specs.Layout.{entry_bytes, entry_of, is_entry};
+ghost use Rattle.tbnode.specs.Layout.{entry_bytes, entry_from_bytes, is_entry};
 
 use crate::fields::{i64_at, put_i64, put_u32, u32_at};
 use legs::Box3;
@@ -38,7 +38,7 @@ fn is_ordered(bytes: &[u8], least: usize, greatest: usize) -> bool
 }
 
 /// Whether 56 bytes say an entry whose bounds are in order.
-#[tactic(auto, unfolding(crate::specs::Layout::bounds_of, crate::specs::Layout::is_entry))]
+#[tactic(auto, unfolding(crate::specs::Layout::bounds_from_bytes, crate::specs::Layout::is_entry))]
 pub(crate) fn is_entry(bytes: &[u8]) -> bool
     requires { length bytes.now ≡ 56 }
     ensures { result ≡ is_entry bytes.now }
@@ -50,11 +50,11 @@ pub(crate) fn is_entry(bytes: &[u8]) -> bool
 }
 
 /// The entry that 56 bytes say.
-#[tactic(auto, unfolding(crate::specs::Layout::bounds_of, crate::specs::Layout::is_entry))]
+#[tactic(auto, unfolding(crate::specs::Layout::bounds_from_bytes, crate::specs::Layout::is_entry))]
 pub(crate) fn entry_in(bytes: &[u8]) -> Entry
     requires len { length bytes.now ≡ 56 }
     requires lawful { IsTrue (is_entry bytes.now) }
-    ensures { result ≡ entry_of bytes.now }
+    ensures { result ≡ entry_from_bytes bytes.now }
 {
     let bounds = Box3 {
         x_min: i64_at(bytes, 8),

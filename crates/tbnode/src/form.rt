@@ -12,7 +12,7 @@ use crate::views::{Inner, Leaf};
 use pages::{Kind, Payload};
 
 /// Whether leg `i` is lawful, and its ordinal above that of the leg before it.
-#[tactic(auto, unfolding(crate::specs::Form::is_leg_at, crate::specs::Layout::leg_of))]
+#[tactic(auto, unfolding(crate::specs::Form::is_leg_at, crate::specs::Layout::leg_from_bytes))]
 fn is_leg_at(bytes: &[u8], i: usize) -> bool
     requires { 96 + 80 * i ≤ length bytes.now }
     ensures { result ≡ is_leg_at bytes.now i }

@@ -8,7 +8,7 @@ ghost use Rattle.legs.specs.Boxes.{intervals_meet, is_near};
 ghost use Rattle.legs.specs.Legs.{is_live};
 ghost use Rattle.tbnode.specs.Parts.{put, signed_at, signed_bytes};
 ghost use Rattle.tbnode.specs.Steps.{LegReadsBack};
-ghost use Rattle.tbnode.specs.Layout.{leg_bytes, leg_of, is_leg, has_moments, has_start, has_end};
+ghost use Rattle.tbnode.specs.Layout.{leg_bytes, leg_from_bytes, is_leg, has_moments, has_start, has_end};
 
 use crate::fields::{i64_at, put_i64, put_u32, put_u64, u32_at, u64_at};
 use fixedpoint::Coord;
@@ -16,10 +16,10 @@ use legs::{Leg, Rect};
 use timebase::{Ms, Period};
 
 /// Whether 80 bytes begin with an ordinal and two moments that rise.
-#[tactic(auto, unfolding(crate::specs::Layout::leg_of, crate::specs::Layout::has_moments))]
+#[tactic(auto, unfolding(crate::specs::Layout::leg_from_bytes, crate::specs::Layout::has_moments))]
 fn has_moments(bytes: &[u8]) -> bool
     requires { length bytes.now ≡ 80 }
-    ensures { result ≡ has_moments (leg_of 0 bytes.now) }
+    ensures { result ≡ has_moments (leg_from_bytes 0 bytes.now) }
 {
     let (t0, t1) = (i64_at(bytes, 8), i64_at(bytes, 16));
     t0 < t1 && Ms::new(t0).is_some() && Ms::new(t1).is_some()
@@ -35,18 +35,18 @@ pub fn has_coord(bytes: &[u8], place: usize) -> bool
     Coord::new(i64_at(bytes, place)).is_some()
 }
 
-#[tactic(auto, unfolding(crate::specs::Layout::leg_of, crate::specs::Layout::has_start))]
+#[tactic(auto, unfolding(crate::specs::Layout::leg_from_bytes, crate::specs::Layout::has_start))]
 fn has_start(bytes: &[u8]) -> bool
     requires { length bytes.now ≡ 80 }
-    ensures { result ≡ has_start (leg_of 0 bytes.now) }
+    ensures { result ≡ has_start (leg_from_bytes 0 bytes.now) }
 {
     has_coord(bytes, 24) && has_coord(bytes, 32) && has_coord(bytes, 40)
 }
 
-#[tactic(auto, unfolding(crate::specs::Layout::leg_of, crate::specs::Layout::has_end))]
+#[tactic(auto, unfolding(crate::specs::Layout::leg_from_bytes, crate::specs::Layout::has_end))]
 fn has_end(bytes: &[u8]) -> bool
     requires { length bytes.now ≡ 80 }
-    ensures { result ≡ has_end (leg_of 0 bytes.now) }
+    ensures { result ≡ has_end (leg_from_bytes 0 bytes.now) }
 {
     has_coord(bytes, 48) && has_coord(bytes, 56) && has_coord(bytes, 64)
 }
@@ -61,10 +61,10 @@ pub(crate) fn is_leg(bytes: &[u8]) -> bool
 }
 
 /// The ordinal of the leg that 80 bytes say.
-#[tactic(auto, unfolding(crate::specs::Layout::leg_of))]
+#[tactic(auto, unfolding(crate::specs::Layout::leg_from_bytes))]
 pub(crate) fn ordinal_in(bytes: &[u8]) -> u64
     requires { length bytes.now ≡ 80 }
-    ensures { result ≡ (leg_of 0 bytes.now).ordinal }
+    ensures { result ≡ (leg_from_bytes 0 bytes.now).ordinal }
 {
     u64_at(bytes, 0)
 }
@@ -94,11 +94,11 @@ pub fn moment_at(bytes: &[u8], place: usize) -> Ms
 }
 
 /// The leg of a feature that 80 bytes say.
-#[tactic(auto, using(crate::proofs::LawLemmas::lawful), unfolding(crate::specs::Layout::leg_of))]
+#[tactic(auto, using(crate::proofs::LawLemmas::lawful), unfolding(crate::specs::Layout::leg_from_bytes))]
 pub(crate) fn leg_in(bytes: &[u8], feature: u32) -> Leg
     requires len { length bytes.now ≡ 80 }
     requires lawful { IsTrue (is_leg bytes.now) }
-    ensures { result ≡ leg_of feature bytes.now }
+    ensures { result ≡ leg_from_bytes feature bytes.now }
 {
     Leg {
         ordinal: u64_at(bytes, 0),
@@ -132,10 +132,10 @@ fn some_coord(bytes: &[u8], place: usize) -> Option<Coord>
 }
 
 /// The leg of a feature that 80 bytes say, where they say a lawful one; else a lawful leg, or none.
-#[tactic(auto, using(crate::proofs::LawLemmas::lawful), unfolding(crate::specs::Layout::leg_of))]
+#[tactic(auto, using(crate::proofs::LawLemmas::lawful), unfolding(crate::specs::Layout::leg_from_bytes))]
 pub(crate) fn some_leg(bytes: &[u8], feature: u32) -> Option<Leg>
     requires { length bytes.now ≡ 80 }
-    ensures { IsTrue (is_leg bytes.now) → result ≡ Some (leg_of feature bytes.now) }
+    ensures { IsTrue (is_leg bytes.now) → result ≡ Some (leg_from_bytes feature bytes.now) }
 {
     let Some(t0) = some_moment(bytes, 8) else {
         return None;
@@ -183,10 +183,10 @@ pub(crate) fn some_leg(bytes: &[u8], feature: u32) -> Option<Leg>
 }
 
 /// Whether the leg that 80 bytes say is live in a period, of whatever feature it is.
-#[tactic(auto, unfolding(crate::specs::Layout::leg_of))]
+#[tactic(auto, unfolding(crate::specs::Layout::leg_from_bytes))]
 pub(crate) fn is_live_in(bytes: &[u8], period: &Period) -> bool
     requires { length bytes.now ≡ 80 }
-    ensures { (feature : ℕ) → result ≡ is_live period.now (leg_of feature bytes.now) }
+    ensures { (feature : ℕ) → result ≡ is_live period.now (leg_from_bytes feature bytes.now) }
 {
     let first = i64_at(bytes, 8).max(period.start().millis());
     let last = i64_at(bytes, 16).min(period.end().millis());
@@ -212,10 +212,10 @@ fn meet_at(bytes: &[u8], first: usize, second: usize, least: i64, most: i64) -> 
 }
 
 /// Whether the box of the leg that 80 bytes say, of whatever feature it is, meets a rectangle in the plane.
-#[tactic(auto, unfolding(crate::specs::Layout::leg_of))]
+#[tactic(auto, unfolding(crate::specs::Layout::leg_from_bytes))]
 pub(crate) fn is_near_in(bytes: &[u8], rect: &Rect) -> bool
     requires { length bytes.now ≡ 80 }
-    ensures { (feature : ℕ) → result ≡ is_near rect.now (leg_of feature bytes.now) }
+    ensures { (feature : ℕ) → result ≡ is_near rect.now (leg_from_bytes feature bytes.now) }
 {
     meet_at(bytes, 24, 48, rect.x_min.units(), rect.x_max.units())
         && meet_at(bytes, 32, 56, rect.y_min.units(), rect.y_max.units())

@@ -41,7 +41,7 @@ impl<'a> UntestedLeaf<'a> {
     ghost use Rattle.tbnode.specs.Form.{OfLeaf};
 
     /// Its feature and its neighbours.
-    #[tactic(auto, unfolding(crate::specs::Form::leaf_of))]
+    #[tactic(auto, unfolding(crate::specs::Form::leaf_from_bytes))]
     pub fn head(&self) -> LeafHead
         // If the payload is a leaf, it is the leaf's feature.
         ensures feature { OfLeaf self.now (λ leaf. result.feature ≡ leaf.feature) }

@@ -35,11 +35,11 @@ impl<'a> Model for Leaf<'a> {
     ghost use Rattle.std.specs.Prelude.{◌≡◌, true};
     ghost use Rattle.legs.specs.Legs.{LegView};
     ghost use Rattle.tbnode.specs.Nodes.{LeafView};
-    ghost use Rattle.tbnode.specs.Form.{is_leaf, leaf_of};
+    ghost use Rattle.tbnode.specs.Form.{is_leaf, leaf_from_bytes};
 
     ghost Value = { LeafView LegView };
 
-    ghost view = { λ l. leaf_of l.payload.now.bytes };
+    ghost view = { λ l. leaf_from_bytes l.payload.now.bytes };
 
     ghost invariant = { λ l. is_leaf l.payload.now.bytes ≡ true };
 }
@@ -47,18 +47,18 @@ impl<'a> Model for Leaf<'a> {
 impl<'a> Leaf<'a> {
     ghost use Rattle.std.specs.Prelude.{◌≡◌, ◌<◌, ◌≤◌, ◌↔◌, true, Some, IsTrue, length, slice_get};
     ghost use Rattle.tbnode.specs.Edits.{TakesLeg};
-    ghost use Rattle.tbnode.specs.Form.{is_leaf, leaf_of};
+    ghost use Rattle.tbnode.specs.Form.{is_leaf, leaf_from_bytes};
 
     /// The leaf of a payload that has its form.
     pub(crate) fn over(payload: &'a Payload) -> Leaf<'a>
         requires { is_leaf payload.now.bytes ≡ true }
-        ensures { result ≡ leaf_of payload.now.bytes }
+        ensures { result ≡ leaf_from_bytes payload.now.bytes }
     {
         Leaf { payload }
     }
 
     /// Its feature and its neighbours.
-    #[tactic(auto, unfolding(crate::specs::Form::leaf_of))]
+    #[tactic(auto, unfolding(crate::specs::Form::leaf_from_bytes))]
     pub fn head(&self) -> LeafHead
         // The feature of the leaf's legs.
         ensures feature { result.feature ≡ self.now.feature }

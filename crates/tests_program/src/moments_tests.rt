@@ -2,7 +2,7 @@
 use fixedpoint::Coord;
 use legs::{Leg, Rect};
 use mfcsv::Position;
-use moments::{End, Moment, dwells_of, stay_of, stays_of, visits_of};
+use moments::{Bound, Edges, End, Moment, dwells_of, stay_of, stays_of, visits_of};
 use std::alloc::Global;
 use std::process::Abort;
 use std::test::Fail;
@@ -37,6 +37,11 @@ fn leg(rt: &impl Abort, feature: u32, t0: i64, t1: i64, from: (i64, i64), to: (i
     Leg::new(0, feature, moment(rt, t0), moment(rt, t1), from, to, 0).expect(rt, "a leg")
 }
 
+/// An end by edges of these bounds of x and y.
+fn edge(x: Option<Bound>, y: Option<Bound>) -> End {
+    End::Edge(Edges { x, y })
+}
+
 /// A moment's terms, and its microseconds down and up.
 fn parts(moment: Moment) -> (i128, u64, i64, i64) {
     (
@@ -58,7 +63,11 @@ fn a_leg_touches_the_end_of_a_line(rt: HostRuntime) -> Result<(), Fail> {
     assert_eq!(rt; parts(stay.enters), (90_000, 7, 12_857_142, 12_857_143));
     assert_eq!(rt; stay.leaves, stay.enters);
     assert!(rt; stay.entry == place(&rt, -603_000_000, 0));
-    assert_eq!(rt; (stay.enters_by, stay.leaves_by), (End::Edge, End::Edge));
+    let corner = edge(Some(Bound::Least), Some(Bound::Least));
+    assert_eq!(rt;
+        (stay.enters_by, stay.leaves_by),
+        (corner, edge(None, Some(Bound::Greatest)))
+    );
     Ok(())
 }
 
@@ -103,9 +112,10 @@ fn stays_are_joined_over_legs(rt: HostRuntime) -> Result<(), Fail> {
         leg(&rt, 0, 20_000, 21_000, (ONE, ONE), (ONE, ONE)),
         leg(&rt, 2, 20_000, 21_000, (9 * ONE, ONE), (9 * ONE, ONE)),
     ];
+    let left = edge(Some(Bound::Least), None);
     let wanted = Made {
         counts: [4, 3, 2],
-        ends: [(End::Edge, End::Leg), (End::Edge, End::Edge)],
+        ends: [(left, End::Leg), (left, edge(Some(Bound::Greatest), None))],
         // From the middle of the first leg to a third of the second.
         visit: [
             (3_500, 1, 3_500_000, 3_500_000),

@@ -13,7 +13,7 @@ use Rattle.jiff_core.proofs.CalendarLemmas.{days_from_civil-day_count, days_of_m
 use Rattle.jiff_core.proofs.DateTimeLemmas.{civil_nanos-parts, time_nanos_bound}
 use Rattle.jiff_core.proofs.SignedLemmas.{signed_arith}
 use Rattle.jiff_fmt.specs.Text.{places, pad2, year_text}
-use Rattle.timebase.specs.InstantText.{last_within, year_place, month_place, year_at, day_in_year, month_at, day_at, day_of, clock_of, instant_text}
+use Rattle.timebase.specs.InstantText.{last_within, year_place, month_place, year_at, day_in_year, month_at, day_at, day_of, ms_of_day, instant_text}
 
 pub last_within_is : (f : ℕ → ℕ) → ((i j : ℕ) → i ≤ j → f i ≤ f j) → (n y x : ℕ) → y ≤ n → f y ≤ x → x < f (suc y) → last_within f n x ≡ y
 unfolding last_within
@@ -115,7 +115,7 @@ rest_is : (z q : ℤ) (r : ℕ) → z ≡ q *ℤ pos 86400000 +ℤ pos r → r <
 rest_is (pos a) q r e h = let goal : a % 86400000 ≡ r = omega (arith, signed_arith) in goal
 rest_is (negsuc a) q r e h = let goal : 86399999 - a % 86400000 ≡ r = omega (arith, signed_arith) in goal
 
-pub clock_of_is : (dt : DateTime) (z : ℤ) → civil_nanos dt ≡ z *ℤ pos 1000000 → (time_nanos dt.time ≡ clock_of z * 1000000) × (clock_of z < 86400000)
+pub clock_of_is : (dt : DateTime) (z : ℤ) → civil_nanos dt ≡ z *ℤ pos 1000000 → (time_nanos dt.time ≡ ms_of_day z * 1000000) × (ms_of_day z < 86400000)
 clock_of_is dt z e =
     let parts = civil_nanos-parts dt in
     let bound = time_nanos_bound dt.time in
@@ -136,7 +136,7 @@ unfolding instant_text
 instant_text_is dt z e =
     let date = date_is dt.date.year dt.date.month dt.date.day (day_of z) (dt.date.year_in, dt.date.month_in, dt.date.day_in) (day_of_is dt z e) in
     let clock = clock_of_is dt z e in
-    let c : ℕ = clock_of z in
+    let c : ℕ = ms_of_day z in
     let hour : dt.time.hour ≡ c / 3600000 = omega arith in
     let minute : dt.time.minute ≡ c / 60000 % 60 = omega arith in
     let second : dt.time.second ≡ c / 1000 % 60 = omega arith in

@@ -6,20 +6,20 @@ use Rattle.timebase.specs.declared.TimeFault.{TimeFault}
 use Rattle.timebase.specs.declared.TimeFault.TheVariants.{Unreadable, OutOfRange}
 
 -- 0001-01-01T00:00:00.000Z
-abbrev pub first_moment : ℤ
-first_moment = neg_ℤ (pos 62135596800000)
+abbrev pub least_moment : ℤ
+least_moment = neg_ℤ (pos 62135596800000)
 
 -- 9998-12-31T23:59:59.999Z
-abbrev pub last_moment : ℤ
-last_moment = pos 253370764799999
+abbrev pub greatest_moment : ℤ
+greatest_moment = pos 253370764799999
 
 -- a number of milliseconds from the first moment to the last
 abbrev pub IsMoment : ℤ → Type 0
-IsMoment z = (first_moment ≤ℤ z) × (z ≤ℤ last_moment)
+IsMoment z = (least_moment ≤ℤ z) × (z ≤ℤ greatest_moment)
 
 -- the same as a test
 abbrev pub is_moment : ℤ → Bool
-is_moment z = int_le first_moment z && int_le z last_moment
+is_moment z = int_le least_moment z && int_le z greatest_moment
 
 -- the moment of that many milliseconds, if there is one
 abbrev pub some_moment : ℤ → Option ℤ

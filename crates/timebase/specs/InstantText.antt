@@ -38,8 +38,8 @@ abbrev pub day_of : ℤ → ℕ
 day_of z = unsigned_abs (int_div_euclid z (pos 86400000) +ℤ pos 4371953)
 
 -- the milliseconds of its day that have passed
-abbrev pub clock_of : ℤ → ℕ
-clock_of z = unsigned_abs (int_rem_euclid z (pos 86400000))
+abbrev pub ms_of_day : ℤ → ℕ
+ms_of_day z = unsigned_abs (int_rem_euclid z (pos 86400000))
 
 -- `YYYY-MM-DD`
 abbrev pub date_text_at : ℕ → List ℕ
@@ -53,4 +53,4 @@ clock_text_at c =
 
 -- the text of a moment, `YYYY-MM-DDTHH:MM:SS.mmmZ`
 unfoldable pub instant_text : ℤ → List ℕ
-instant_text z = date_text_at (day_of z) ++ 84 ∷ clock_text_at (clock_of z) ++ 90 ∷ []
+instant_text z = date_text_at (day_of z) ++ 84 ∷ clock_text_at (ms_of_day z) ++ 90 ∷ []

@@ -7,7 +7,7 @@ use Rattle.std.proofs.lemmas.Bool.Decides.{nat_tests}
 use Rattle.std.proofs.lemmas.List.{length-map}
 use Rattle.std.proofs.lemmas.List.Sums.{sum_by-cons}
 use Rattle.std.proofs.lemmas.List.Elements.{All-head, All-tail}
-use Rattle.writer.specs.Entries.{EntryView}
+use Rattle.writer.specs.Entries.{NamedLegView}
 use Rattle.together.specs.Told.{all_told, told_leg}
 use Rattle.together.specs.Parts.{own_legs, own_names}
 use Rattle.together.specs.Joining.{CountLaw}
@@ -76,7 +76,7 @@ pub count_law : CountLaw
 count_law f n whole parts are = (
   sym (sum-agree (λ k. k < n) (λ k. length (parts k).legs) (λ k. length (own_legs f k (all_told whole)))
       (λ k h. sym (length-map (parts k).legs (told_leg (parts k))) ∙ ap length (are.each k h).legs) (range_with_len 0 n) (range_within n)
-      ∙ sum_parts (λ (e : EntryView). f e.name) n (λ e. are.within e.name) (all_told whole) ∙ length-map whole.legs (told_leg whole)),
+      ∙ sum_parts (λ (e : NamedLegView). f e.name) n (λ e. are.within e.name) (all_told whole) ∙ length-map whole.legs (told_leg whole)),
   sym (sum-agree (λ k. k < n) (λ k. length (parts k).names) (λ k. length (own_names f k whole.names))
       (λ k h. ap length (are.each k h).names) (range_with_len 0 n) (range_within n)
       ∙ sum_parts f n are.within whole.names),

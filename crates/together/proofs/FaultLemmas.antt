@@ -6,14 +6,14 @@ use Rattle.std.proofs.lemmas.List.{length-append, length-map, map-append}
 use Rattle.mfcsv.specs.Views.{RecordView}
 use Rattle.mfcsv.specs.declared.File.{File}
 use Rattle.legs.specs.Legs.{LegView}
-use Rattle.legs.specs.Book.{Book, book_after, faults_of, has_fault, head_faults, head_with, is_before, joined, name_end, record_faults, record_legs, with_file, with_record, with_records}
+use Rattle.legs.specs.Book.{Book, book_after, join_faults_of, has_join_fault, head_faults, head_with, is_before, joined, name_end, record_faults, record_legs, with_file, with_record, with_records}
 use Rattle.legs.specs.Limits.{LimitsView}
 use Rattle.legs.specs.declared.joining.JoinCode.{JoinCode}
 use Rattle.legs.specs.declared.joining.JoinCode.TheVariants.{F18, F19, F20}
 use Rattle.legs.proofs.AcceptLemmas.{first_nil, map_nil, second_nil}
 use Rattle.legs.proofs.LawLemmas.{law_with_file}
 use Rattle.legs.proofs.RecordLemmas.{with_record-legs, with_record-names}
-use Rattle.writer.specs.Entries.{EntryView}
+use Rattle.writer.specs.Entries.{NamedLegView}
 use Rattle.together.specs.Told.{all_told, told_leg}
 use Rattle.together.specs.Parts.{IsPartOf, is_in, late, late_one, own_records}
 use Rattle.together.specs.Joining.{AcceptLaw, BookLaw, FaultsLaw, FirstLaw, FitsLaw, PartFaultsLaw, PartFitsLaw, StayLaw, file_part, late_fault}
@@ -38,11 +38,11 @@ names_grow b (r ∷ records) =
     omega (arith, one, more)
 
 -- within the limits a record has fault F18 or none
-by_time : (limits : LimitsView) (b : Book) (r : RecordView) → has_fault limits b r F19 ≡ false → has_fault limits b r F20 ≡ false → map (λ code. (code, r.number)) (faults_of limits b r) ≡ map late_fault (late_one b r)
-unfolding faults_of
+by_time : (limits : LimitsView) (b : Book) (r : RecordView) → has_join_fault limits b r F19 ≡ false → has_join_fault limits b r F20 ≡ false → map (λ code. (code, r.number)) (join_faults_of limits b r) ≡ map late_fault (late_one b r)
+unfolding join_faults_of
 by_time limits b r few_legs few_names =
-    ap (λ c. map (λ (code : JoinCode). (code, r.number)) (cond (is_before r.t0 (name_end b r.mfidref)) (F18 ∷ cond c (F19 ∷ cond (has_fault limits b r F20) (F20 ∷ []) []) (cond (has_fault limits b r F20) (F20 ∷ []) []))
-    (cond c (F19 ∷ cond (has_fault limits b r F20) (F20 ∷ []) []) (cond (has_fault limits b r F20) (F20 ∷ []) [])))) few_legs
+    ap (λ c. map (λ (code : JoinCode). (code, r.number)) (cond (is_before r.t0 (name_end b r.mfidref)) (F18 ∷ cond c (F19 ∷ cond (has_join_fault limits b r F20) (F20 ∷ []) []) (cond (has_join_fault limits b r F20) (F20 ∷ []) []))
+    (cond c (F19 ∷ cond (has_join_fault limits b r F20) (F20 ∷ []) []) (cond (has_join_fault limits b r F20) (F20 ∷ []) [])))) few_legs
     ∙ ap (λ c. map (λ (code : JoinCode). (code, r.number)) (cond (is_before r.t0 (name_end b r.mfidref)) (F18 ∷ cond c (F20 ∷ []) []) (cond c (F20 ∷ []) []))) few_names
     ∙ by (is_before r.t0 (name_end b r.mfidref))
   where
@@ -86,7 +86,7 @@ part_fits_law f k whole part limits records of is own_is fits =
     let own = with_records part (own_records f k records) in
     let a = length-map own.legs (told_leg own) in
     let b = ap length later.legs in
-    let c = shorter (λ (e : EntryView). is_in f k e.name) (all_told after) in
+    let c = shorter (λ (e : NamedLegView). is_in f k e.name) (all_told after) in
     let d = length-map after.legs (told_leg after) in
     let g = ap length later.names in
     let h = shorter (is_in f k) after.names in

@@ -10,14 +10,14 @@ use Rattle.std.proofs.lemmas.List.Sums.{passes_at_first}
 use Rattle.mfcsv.specs.Views.{RecordView, leg_count}
 use Rattle.legs.specs.Legs.{LegView, leg_of, step_at}
 use Rattle.legs.specs.Index.{last_end, legs_of}
-use Rattle.legs.specs.Book.{Book, is_before, leg_at, name_end, names_with, number_of, record_legs, with_record, with_records}
+use Rattle.legs.specs.Book.{Book, is_before, leg_added, name_end, names_with, feature_number, record_legs, with_record, with_records}
 use Rattle.legs.specs.Law.{IsThere}
 use Rattle.legs.proofs.NameLemmas.{feature_of-known, feature_of-new, known_or_new, names_with-known, names_with-new, text_same}
 pub use Rattle.legs.proofs.LawLemmas.{names_longer}
 use Rattle.legs.proofs.LawLemmas.{distinct_more, first_there}
 use Rattle.legs.proofs.RecordLemmas.{with_record-legs, with_record-names, with_record-rows}
-use Rattle.writer.specs.Entries.{EntryView}
-use Rattle.trajdb.specs.Answers.{name_of}
+use Rattle.writer.specs.Entries.{NamedLegView}
+use Rattle.trajdb.specs.Answers.{feature_name}
 use Rattle.together.specs.Told.{all_told, bare, told, told_leg}
 use Rattle.together.specs.Parts.{IsPartOf, IsTold, is_in, late, late_one, own_legs, own_names, own_records}
 use Rattle.together.specs.Joining.{LeastLaw, Rises}
@@ -26,13 +26,13 @@ use Rattle.together.proofs.NamedLemmas.{told_none, told_of}
 use Rattle.together.proofs.FeatureLemmas.{own_of}
 
 -- the legs of a record, told
-abbrev entry : List ℕ → LegView → List (List ℕ) → EntryView
+abbrev entry : List ℕ → LegView → List (List ℕ) → NamedLegView
 entry name leg values = record { name = name; leg = leg; values = values }
 
-abbrev told_step : RecordView → ℕ → EntryView
+abbrev told_step : RecordView → ℕ → NamedLegView
 told_step r k = entry r.mfidref (leg_of 0 0 0 (step_at r k)) r.attributes
 
-abbrev pub told_record : RecordView → List EntryView
+abbrev pub told_record : RecordView → List NamedLegView
 told_record r = map (told_step r) (range_with_len 0 (leg_count (length r.positions)))
 
 -- names with one more
@@ -42,46 +42,46 @@ names_kept names name j h = elim (known_or_new names name) [
   | inr new ↦ ap (λ (ns : List (List ℕ)). get_or ns j []) (names_with-new names name new) ∙ get_or_append_left names (name ∷ []) [] j h
 ]
 
-new_name : (names : List (List ℕ)) (name : List ℕ) → get_or (names_with names name) (number_of names name) [] ≡ name
+new_name : (names : List (List ℕ)) (name : List ℕ) → get_or (names_with names name) (feature_number names name) [] ≡ name
 new_name names name = elim (known_or_new names name) [
-  | inl known ↦ ap (λ (ns : List (List ℕ)). get_or ns (number_of names name) []) (names_with-known names name known) ∙ sym (text_same name _ (passes_at_first (bytes_eq name) names [] known))
-  | inr new ↦ ap (λ (ns : List (List ℕ)). get_or ns (number_of names name) []) (names_with-new names name new) ∙ get_or_push names name [] (number_of names name) (sym new)
+  | inl known ↦ ap (λ (ns : List (List ℕ)). get_or ns (feature_number names name) []) (names_with-known names name known) ∙ sym (text_same name _ (passes_at_first (bytes_eq name) names [] known))
+  | inr new ↦ ap (λ (ns : List (List ℕ)). get_or ns (feature_number names name) []) (names_with-new names name new) ∙ get_or_push names name [] (feature_number names name) (sym new)
 ]
 
 -- what is told of a book with a record more
 kept_leg : (b : Book) (r : RecordView) (leg : LegView) → IsThere b leg → told_leg (with_record b r) leg ≡ told_leg b leg
 kept_leg b r leg there =
-    let name : name_of (with_record b r) leg.feature ≡ name_of b leg.feature =
+    let name : feature_name (with_record b r) leg.feature ≡ feature_name b leg.feature =
     ap (λ (ns : List (List ℕ)). get_or ns leg.feature []) (with_record-names b r) ∙ names_kept b.names r.mfidref leg.feature there.feature in
     let row : get_or (with_record b r).rows leg.row [] ≡ get_or b.rows leg.row [] =
     ap (λ (rows : List (List (List ℕ))). get_or rows leg.row []) (with_record-rows b r) ∙ get_or_append_left b.rows (r.attributes ∷ []) [] leg.row there.row in
-    ap (λ (n : List ℕ). entry n (bare leg) (get_or (with_record b r).rows leg.row [])) name ∙ ap (λ (v : List (List ℕ)). entry (name_of b leg.feature) (bare leg) v) row
+    ap (λ (n : List ℕ). entry n (bare leg) (get_or (with_record b r).rows leg.row [])) name ∙ ap (λ (v : List (List ℕ)). entry (feature_name b leg.feature) (bare leg) v) row
 
 kept_legs : (b : Book) (r : RecordView) (legs : List LegView) → All (IsThere b) legs → told (with_record b r) legs ≡ told b legs
 kept_legs b r [] all = refl
 kept_legs b r (leg ∷ legs) all =
-    ap (λ (e : EntryView). e ∷ told (with_record b r) legs) (kept_leg b r leg (All-head (IsThere b) leg legs all))
-    ∙ ap (λ (l : List EntryView). told_leg b leg ∷ l) (kept_legs b r legs (All-tail (IsThere b) leg legs all))
+    ap (λ (e : NamedLegView). e ∷ told (with_record b r) legs) (kept_leg b r leg (All-head (IsThere b) leg legs all))
+    ∙ ap (λ (l : List NamedLegView). told_leg b leg ∷ l) (kept_legs b r legs (All-tail (IsThere b) leg legs all))
 
-new_leg : (b : Book) (r : RecordView) (k : ℕ) → told_leg (with_record b r) (leg_at b r k) ≡ told_step r k
+new_leg : (b : Book) (r : RecordView) (k : ℕ) → told_leg (with_record b r) (leg_added b r k) ≡ told_step r k
 new_leg b r k =
-    let name : name_of (with_record b r) (number_of b.names r.mfidref) ≡ r.mfidref =
-    ap (λ (ns : List (List ℕ)). get_or ns (number_of b.names r.mfidref) []) (with_record-names b r) ∙ new_name b.names r.mfidref in
+    let name : feature_name (with_record b r) (feature_number b.names r.mfidref) ≡ r.mfidref =
+    ap (λ (ns : List (List ℕ)). get_or ns (feature_number b.names r.mfidref) []) (with_record-names b r) ∙ new_name b.names r.mfidref in
     let row : get_or (with_record b r).rows (length b.rows) [] ≡ r.attributes =
     ap (λ (rows : List (List (List ℕ))). get_or rows (length b.rows) []) (with_record-rows b r) ∙ get_or_push b.rows r.attributes [] (length b.rows) refl in
     ap (λ (n : List ℕ). entry n (leg_of 0 0 0 (step_at r k)) (get_or (with_record b r).rows (length b.rows) [])) name
     ∙ ap (λ (v : List (List ℕ)). entry r.mfidref (leg_of 0 0 0 (step_at r k)) v) row
 
-new_legs : (b : Book) (r : RecordView) (ks : List ℕ) → told (with_record b r) (map (leg_at b r) ks) ≡ map (told_step r) ks
+new_legs : (b : Book) (r : RecordView) (ks : List ℕ) → told (with_record b r) (map (leg_added b r) ks) ≡ map (told_step r) ks
 new_legs b r [] = refl
 new_legs b r (k ∷ ks) =
-    ap (λ (e : EntryView). e ∷ told (with_record b r) (map (leg_at b r) ks)) (new_leg b r k) ∙ ap (λ (l : List EntryView). told_step r k ∷ l) (new_legs b r ks)
+    ap (λ (e : NamedLegView). e ∷ told (with_record b r) (map (leg_added b r) ks)) (new_leg b r k) ∙ ap (λ (l : List NamedLegView). told_step r k ∷ l) (new_legs b r ks)
 
 told_with : (b : Book) (r : RecordView) → All (IsThere b) b.legs → all_told (with_record b r) ≡ all_told b ++ told_record r
 told_with b r there =
     ap (told (with_record b r)) (with_record-legs b r) ∙ map-append (told_leg (with_record b r)) b.legs (record_legs b r)
-    ∙ ap (λ (l : List EntryView). l ++ told (with_record b r) (record_legs b r)) (kept_legs b r b.legs there)
-    ∙ ap (λ (l : List EntryView). all_told b ++ l) (new_legs b r (range_with_len 0 (leg_count (length r.positions))))
+    ∙ ap (λ (l : List NamedLegView). l ++ told (with_record b r) (record_legs b r)) (kept_legs b r b.legs there)
+    ∙ ap (λ (l : List NamedLegView). all_told b ++ l) (new_legs b r (range_with_len 0 (leg_count (length r.positions))))
 
 -- it stays one of which all is told
 told_more : (b : Book) (r : RecordView) → IsTold b → IsTold (with_record b r)
@@ -134,14 +134,14 @@ own_told : (f : List ℕ → ℕ) (k : ℕ) (r : RecordView) (ks : List ℕ) (b 
 own_told f k r [] true e = refl
 own_told f k r [] false e = refl
 own_told f k r (j ∷ ks) true e =
-    ap (λ c. cond c (told_step r j ∷ own_legs f k (map (told_step r) ks)) (own_legs f k (map (told_step r) ks))) e ∙ ap (λ (l : List EntryView). told_step r j ∷ l) (own_told f k r ks true e)
+    ap (λ c. cond c (told_step r j ∷ own_legs f k (map (told_step r) ks)) (own_legs f k (map (told_step r) ks))) e ∙ ap (λ (l : List NamedLegView). told_step r j ∷ l) (own_told f k r ks true e)
 own_told f k r (j ∷ ks) false e =
     ap (λ c. cond c (told_step r j ∷ own_legs f k (map (told_step r) ks)) (own_legs f k (map (told_step r) ks))) e ∙ own_told f k r ks false e
 
 own_with : (f : List ℕ → ℕ) (k : ℕ) (whole : Book) (r : RecordView) (b : Bool) → All (IsThere whole) whole.legs → is_in f k r.mfidref ≡ b → own_legs f k (all_told (with_record whole r)) ≡ own_legs f k (all_told whole) ++ cond b (told_record r) []
 own_with f k whole r b there e =
-    ap (own_legs f k) (told_with whole r there) ∙ filter-append (λ (x : EntryView). is_in f k x.name) (all_told whole) (told_record r)
-    ∙ ap (λ (l : List EntryView). own_legs f k (all_told whole) ++ l) (own_told f k r (range_with_len 0 (leg_count (length r.positions))) b e)
+    ap (own_legs f k) (told_with whole r there) ∙ filter-append (λ (x : NamedLegView). is_in f k x.name) (all_told whole) (told_record r)
+    ∙ ap (λ (l : List NamedLegView). own_legs f k (all_told whole) ++ l) (own_told f k r (range_with_len 0 (leg_count (length r.positions))) b e)
 
 with_record-head : (b : Book) (r : RecordView) → (with_record b r).head ≡ b.head
 unfolding with_record
@@ -152,7 +152,7 @@ part_in : (f : List ℕ → ℕ) (k : ℕ) (whole part : Book) (r : RecordView) 
 part_in f k whole part r of is own_is e = record {
   head = with_record-head part r ∙ of.head ∙ sym (with_record-head whole r);
   names = with_record-names part r ∙ ap (λ (ns : List (List ℕ)). names_with ns r.mfidref) of.names ∙ own_in f k whole.names r.mfidref e ∙ ap (own_names f k) (sym (with_record-names whole r));
-  legs = told_with part r own_is.there ∙ ap (λ (l : List EntryView). l ++ told_record r) of.legs ∙ sym (own_with f k whole r true is.there e);
+  legs = told_with part r own_is.there ∙ ap (λ (l : List NamedLegView). l ++ told_record r) of.legs ∙ sym (own_with f k whole r true is.there e);
 }
 
 part_out : (f : List ℕ → ℕ) (k : ℕ) (whole part : Book) (r : RecordView) → IsPartOf f k whole part → IsTold whole → is_in f k r.mfidref ≡ false → IsPartOf f k (with_record whole r) part
@@ -177,7 +177,7 @@ part_law f k whole part (r ∷ records) of is own_is = elim (cases_Bool (is_in f
 ]
 
 -- when the last leg of a name ends, by what is told
-last_told : Option ℤ → List EntryView → Option ℤ
+last_told : Option ℤ → List NamedLegView → Option ℤ
 last_told end [] = end
 last_told end (e ∷ entries) = last_told (Some e.leg.t1) entries
 
@@ -195,8 +195,8 @@ end_told : (b : Book) (name : List ℕ) → IsTold b → name_end b name ≡ las
 unfolding last_told
 end_told b name is = elim (known_or_new b.names name) [
   | inl known ↦
-      let n = number_of b.names name in
-      let same : name ≡ name_of b n = text_same name _ (passes_at_first (bytes_eq name) b.names [] known) in
+      let n = feature_number b.names name in
+      let same : name ≡ feature_name b n = text_same name _ (passes_at_first (bytes_eq name) b.names [] known) in
       ap (λ (o : Option ℕ). option_and_then (λ feature. last_end feature b.legs) o) (feature_of-known b.names name known)
       ∙ last_of b n None b.legs ∙ ap (last_told None) (told_of b n is known)
       ∙ ap (λ (m : List ℕ). last_told None (filter (λ e. bytes_eq m e.name) (all_told b))) (sym same)
@@ -207,7 +207,7 @@ end_told b name is = elim (known_or_new b.names name) [
 
 ends_agree : (f : List ℕ → ℕ) (k : ℕ) (whole part : Book) (name : List ℕ) → IsPartOf f k whole part → IsTold whole → IsTold part → is_in f k name ≡ true → name_end part name ≡ name_end whole name
 ends_agree f k whole part name of is own_is e =
-    end_told part name own_is ∙ ap (λ (l : List EntryView). last_told None (filter (λ x. bytes_eq name x.name) l)) of.legs
+    end_told part name own_is ∙ ap (λ (l : List NamedLegView). last_told None (filter (λ x. bytes_eq name x.name) l)) of.legs
     ∙ ap (last_told None) (own_of f k name (all_told whole) e) ∙ sym (end_told whole name is)
 
 -- the records that come too early

@@ -3,17 +3,17 @@ use Rattle.std.proofs.Common.{◌<◌, ◌≡◌, ◌∙◌, ℕ, ap, sym, lengt
 use Rattle.std.specs.Prelude.{sum_by}
 use Rattle.std.specs.List.{range_with_len}
 use Rattle.timebase.specs.Period.{PeriodView}
-use Rattle.legs.specs.Book.{Book, feature_of}
+use Rattle.legs.specs.Book.{Book, feature_named}
 use Rattle.legs.specs.Boxes.{RectView, box_over}
 use Rattle.legs.specs.Index.{legs_in_box}
 use Rattle.legs.specs.Legs.{LegView}
 use Rattle.legs.specs.Limits.{LimitsView}
 use Rattle.predicates.specs.declared.Predicate.{Predicate}
-use Rattle.querylang.specs.Line.{line_of}
+use Rattle.querylang.specs.Line.{line_command}
 use Rattle.querylang.specs.declared.LineCode.{LineCode}
 use Rattle.querylang.specs.declared.Command.{Command}
 use Rattle.querylang.specs.declared.Command.TheVariants.{Load, Count, Box, Legs, Features, Trajectory, Write}
-use Rattle.trajdb.specs.Answers.{IsAnswer, IsFeaturesAnswer, IsLegsAnswer, IsLineText, IsSaid, legs_text, name_of, track_of}
+use Rattle.trajdb.specs.Answers.{IsAnswer, IsFeaturesAnswer, IsLegsAnswer, IsLineText, IsSaid, legs_text, feature_name, track_of}
 use Rattle.together.specs.Told.{told, told_count_text, told_names_text, told_text}
 use Rattle.together.specs.Parts.{own_legs}
 use Rattle.together.specs.Joining.{ArePartsOf}
@@ -58,7 +58,7 @@ features_together : (f : List ℕ → ℕ) (n : ℕ) (whole : Book) (parts : ℕ
     → IsFeaturesAnswer whole predicate rect period text → ((k : ℕ) → k < n → IsFeaturesAnswer (parts k) predicate rect period (own k))
     → NamesTogether f n text own
 features_together f n whole parts predicate rect period text own are says own_says = record {
-  names = map (name_of whole) says.0;
+  names = map (feature_name whole) says.0;
   whole = says.2 ∙ names_told whole says.0;
   each = λ k less.
       let part = own_says k less in
@@ -87,7 +87,7 @@ answer_together f n whole parts limits own_limits files own_files (Box rect peri
 answer_together f n whole parts limits own_limits files own_files (Legs predicate rect period) text own are says own_says = legs_together f n whole parts predicate rect period text own are says own_says
 answer_together f n whole parts limits own_limits files own_files (Features predicate rect period) text own are says own_says = features_together f n whole parts predicate rect period text own are says own_says
 answer_together f n whole parts limits own_limits files own_files (Trajectory name) text own are says own_says =
-    same_legs f n whole parts (track_of (feature_of whole.names name) whole.legs) (λ k. track_of (feature_of (parts k).names name) (parts k).legs) text own are says own_says
+    same_legs f n whole parts (track_of (feature_named whole.names name) whole.legs) (λ k. track_of (feature_named (parts k).names name) (parts k).legs) text own are says own_says
     (λ k less. trajectory_law f k whole (parts k) name (are.each k less) are.whole_told (are.each_told k less))
 answer_together f n whole parts limits own_limits files own_files Write text own are says own_says = tt
 
@@ -101,4 +101,4 @@ said_together f n whole parts limits own_limits files own_files (Err code) text 
 pub line_law : LineLaw
 unfolding IsLineText
 line_law f n whole parts limits own_limits files own_files line text own are says own_says =
-    said_together f n whole parts limits own_limits files own_files (line_of line) text own are says own_says
+    said_together f n whole parts limits own_limits files own_files (line_command line) text own are says own_says

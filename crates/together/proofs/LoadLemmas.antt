@@ -4,7 +4,7 @@ use Rattle.mfcsv.specs.FileText.{file_of_bytes}
 use Rattle.mfcsv.specs.declared.Code.{Code}
 use Rattle.mfcsv.specs.declared.File.{File}
 use Rattle.legs.specs.Legs.{LegView}
-use Rattle.legs.specs.Book.{Book, book_after, file_faults, first_or, joined, records_legs, with_file}
+use Rattle.legs.specs.Book.{Book, book_after, file_faults, legs_or_fault, joined, records_legs, with_file}
 use Rattle.legs.specs.Limits.{LimitsView}
 use Rattle.legs.specs.declared.joining.JoinCode.{JoinCode}
 use Rattle.parts.specs.Names.{part_of}
@@ -113,7 +113,7 @@ first_text_law n limits own_limits whole parts bytes fault some e =
     )
 
 -- a file without a fault is taken in, and one that is taken in has none
-no_fault : (faults : List (JoinCode × ℕ)) (all legs : List LegView) → first_or faults all ≡ Ok legs → faults ≡ []
+no_fault : (faults : List (JoinCode × ℕ)) (all legs : List LegView) → legs_or_fault faults all ≡ Ok legs → faults ≡ []
 no_fault [] all legs e = refl
 no_fault (fault ∷ faults) all legs e = absurd (cc)
 
@@ -121,7 +121,7 @@ takes_without : (limits : LimitsView) (book : Book) (bytes : List ℕ) (file : F
 unfolding load_of
 takes_without limits book bytes file e none =
     let all = records_legs book file.records in
-    (counts_of file all, ap (joined_counts limits book) e ∙ ap (λ (faults : List (JoinCode × ℕ)). counts_or file (first_or faults all)) none)
+    (counts_of file all, ap (joined_counts limits book) e ∙ ap (λ (faults : List (JoinCode × ℕ)). counts_or file (legs_or_fault faults all)) none)
 
 has_none : (limits : LimitsView) (book : Book) (bytes : List ℕ) (file : File) → file_of_bytes bytes ≡ Ok file → Takes limits book bytes → file_faults limits book file ≡ []
 has_none limits book bytes file e takes =

@@ -8,8 +8,8 @@ use Rattle.std.proofs.lemmas.Bool.Decides.{nat_tests}
 use Rattle.std.proofs.lemmas.List.Elements.{All-head, All-tail}
 use Rattle.std.proofs.lemmas.List.Sorted.{IsPermutation-append_right, IsPermutation-cons, IsPermutation-middle, IsPermutation-refl, IsPermutation-sym, IsPermutation-trans}
 use Rattle.legs.specs.Index.{legs_in_box}
-use Rattle.writer.specs.Entries.{EntryView}
-use Rattle.trajdb.specs.Answers.{name_of}
+use Rattle.writer.specs.Entries.{NamedLegView}
+use Rattle.trajdb.specs.Answers.{feature_name}
 use Rattle.together.specs.Told.{told}
 use Rattle.together.specs.Parts.{own_legs, own_names}
 use Rattle.together.specs.Merging.{BoxMerge, FeaturesAnswerMerge, LegsAnswerMerge, LegsMerge, NamesMerge}
@@ -63,7 +63,7 @@ all_parts g n within (x ∷ xs) =
 
 pub legs_merge : LegsMerge
 unfolding parts_from
-legs_merge f n entries within = all_parts (λ (e : EntryView). f e.name) n (λ e. within e.name) entries
+legs_merge f n entries within = all_parts (λ (e : NamedLegView). f e.name) n (λ e. within e.name) entries
 
 pub names_merge : NamesMerge
 unfolding parts_from
@@ -77,21 +77,21 @@ flat-agree {X} L u v same (k ∷ ks) all =
 
 pub box_merge : BoxMerge
 box_merge f n whole parts query are =
-    let answer : List EntryView = told whole (legs_in_box query whole.legs) in
-    subst (λ (l : List EntryView). IsPermutation answer l)
+    let answer : List NamedLegView = told whole (legs_in_box query whole.legs) in
+    subst (λ (l : List NamedLegView). IsPermutation answer l)
     (flat-agree (λ k. k < n) (λ k. own_legs f k answer) (λ k. told (parts k) (legs_in_box query (parts k).legs)) (λ k h. sym (box_law f k whole (parts k) query (are.each k h))) (range_with_len 0 n) (range_within n))
     (legs_merge f n answer are.within)
 
 pub legs_answer_merge : LegsAnswerMerge
 legs_answer_merge f n whole parts predicate rect period all own are a b =
-    subst (λ (l : List EntryView). IsPermutation (told whole all) l)
+    subst (λ (l : List NamedLegView). IsPermutation (told whole all) l)
     (flat-agree (λ k. k < n) (λ k. own_legs f k (told whole all)) (λ k. told (parts k) (own k)) (λ k h. sym (legs_law f k whole (parts k) predicate rect period all (own k) (are.each k h) a (b k h))) (range_with_len 0 n) (range_within n))
     (legs_merge f n (told whole all) are.within)
 
 pub features_answer_merge : FeaturesAnswerMerge
 features_answer_merge f n whole parts predicate rect period all own are a b =
-    let answer : List (List ℕ) = map (name_of whole) all in
+    let answer : List (List ℕ) = map (feature_name whole) all in
     subst (λ (l : List (List ℕ)). IsPermutation answer l)
-    (flat-agree (λ k. k < n) (λ k. own_names f k answer) (λ k. map (name_of (parts k)) (own k))
+    (flat-agree (λ k. k < n) (λ k. own_names f k answer) (λ k. map (feature_name (parts k)) (own k))
     (λ k h. sym (features_law f k whole (parts k) predicate rect period all (own k) (are.each k h) are.whole_told (are.each_told k h) a (b k h))) (range_with_len 0 n) (range_within n))
     (names_merge f n answer are.within)

@@ -11,7 +11,7 @@ use Rattle.legs.specs.Legs.{LegView}
 use Rattle.legs.specs.Limits.{LimitsView}
 use Rattle.legs.specs.declared.joining.JoinCode.{JoinCode}
 use Rattle.parts.specs.Names.{part_of}
-use Rattle.querylang.specs.Line.{line_of}
+use Rattle.querylang.specs.Line.{line_command}
 use Rattle.querylang.specs.declared.LineCode.{LineCode}
 use Rattle.querylang.specs.declared.Command.{Command}
 use Rattle.querylang.specs.declared.Command.TheVariants.{Load, Count, Box, Legs, Features, Trajectory, Write}
@@ -121,7 +121,7 @@ module _ (n : ℕ) (limits : LimitsView) (own_limits : ℕ → LimitsView) (whol
 
     line_keeps : (line : List ℕ) → AllOrNone n limits own_limits files own_files whole parts line → ArePartsOf (part_of n) n (line_book limits files whole line) (λ k. line_book (own_limits k) (own_files k) (parts k) line)
     unfolding AcceptsLine line_book
-    line_keeps line agree = said_keeps (line_of line) agree
+    line_keeps line agree = said_keeps (line_command line) agree
 
 pub script_law : ScriptLaw
 script_law n limits own_limits files own_files whole parts [] text own are have agree says own_says = ((says, own_says), are)

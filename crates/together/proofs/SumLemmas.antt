@@ -8,7 +8,7 @@ use Rattle.std.proofs.lemmas.List.{length-append, length-map}
 use Rattle.std.proofs.lemmas.List.FromFn.{length-range_with_len}
 use Rattle.std.proofs.lemmas.List.Sums.{sum_by-cons}
 use Rattle.mfcsv.specs.Views.{RecordView, leg_count}
-use Rattle.legs.specs.Book.{Book, empty_book, first_or, leg_at, record_legs, records_legs, with_record, with_records}
+use Rattle.legs.specs.Book.{Book, empty_book, legs_or_fault, leg_added, record_legs, records_legs, with_record, with_records}
 use Rattle.legs.specs.Counting.{names_after}
 use Rattle.legs.specs.Legs.{LegView}
 use Rattle.legs.specs.declared.joining.JoinCode.{JoinCode}
@@ -76,7 +76,7 @@ legs_in r = leg_count (length r.positions)
 
 legs_are : (book : Book) (r : RecordView) → length (record_legs book r) ≡ legs_in r
 unfolding legs_in
-legs_are book r = length-map (range_with_len 0 (leg_count (length r.positions))) (leg_at book r) ∙ length-range_with_len 0 (leg_count (length r.positions))
+legs_are book r = length-map (range_with_len 0 (leg_count (length r.positions))) (leg_added book r) ∙ length-range_with_len 0 (leg_count (length r.positions))
 
 all_legs : (book : Book) (records : List RecordView) → length (records_legs book records) ≡ sum_by legs_in records
 all_legs book [] = refl
@@ -100,7 +100,7 @@ own_names_after f k records =
     sym (names_of empty_book (own_records f k records)) ∙ now.names ∙ ap (own_names f k) (names_of empty_book records)
 
 -- what is joined are the legs of the records
-ok_legs : (faults : List (JoinCode × ℕ)) (all legs : List LegView) → first_or faults all ≡ Ok legs → legs ≡ all
+ok_legs : (faults : List (JoinCode × ℕ)) (all legs : List LegView) → legs_or_fault faults all ≡ Ok legs → legs ≡ all
 ok_legs [] all legs e = cc
 ok_legs (fault ∷ faults) all legs e = absurd (cc)
 

@@ -4,11 +4,11 @@ use Rattle.std.specs.List.{range_with_len}
 use Rattle.legs.specs.declared.head.BookHead.{BookHead}
 use Rattle.legs.specs.Book.{Book}
 use Rattle.legs.specs.Limits.{LimitsView}
-use Rattle.querylang.specs.Line.{line_of}
+use Rattle.querylang.specs.Line.{line_command}
 use Rattle.querylang.specs.declared.LineCode.{LineCode}
 use Rattle.querylang.specs.declared.Command.{Command}
 use Rattle.querylang.specs.declared.Command.TheVariants.{Load, Count, Box, Legs, Features, Trajectory, Write}
-use Rattle.writer.specs.Entries.{EntryView}
+use Rattle.writer.specs.Entries.{NamedLegView}
 use Rattle.trajdb.specs.Answers.{IsLineText}
 use Rattle.together.specs.Told.{told_count_text, told_names_text, told_text}
 use Rattle.together.specs.Parts.{own_legs, own_names}
@@ -17,7 +17,7 @@ use Rattle.together.specs.Joining.{ArePartsOf}
 module _ (f : List ℕ → ℕ) (n : ℕ) where
   -- the whole answers some legs, and each part those of them that are its own, in their order
   pub record LegsTogether (head : Option BookHead) (text : List ℕ) (own : ℕ → List ℕ) : Type 0 where
-    pub legs : List EntryView
+    pub legs : List NamedLegView
     pub whole : text ≡ told_text head legs
     pub each : (k : ℕ) → k < n → own k ≡ told_text head (own_legs f k legs)
 
@@ -62,4 +62,4 @@ LineLaw =
     → ArePartsOf f n whole parts
     → IsLineText limits files whole line text
     → ((k : ℕ) → k < n → IsLineText (own_limits k) (own_files k) (parts k) line (own k))
-    → SayTogether f n whole.head (line_of line) text own
+    → SayTogether f n whole.head (line_command line) text own

@@ -6,10 +6,10 @@ use Rattle.mfcsv.specs.Views.{RecordView}
 use Rattle.legs.specs.Legs.{LegView}
 use Rattle.legs.specs.Boxes.{BoxView, RectView}
 use Rattle.legs.specs.Index.{legs_in_box}
-use Rattle.legs.specs.Book.{Book, feature_of, with_records}
+use Rattle.legs.specs.Book.{Book, feature_named, with_records}
 use Rattle.predicates.specs.declared.Predicate.{Predicate}
 use Rattle.trajdb.specs.Picks.{Picks}
-use Rattle.trajdb.specs.Answers.{HoldsOfFeature, HoldsOfLeg, legs_text, name_of, names_text, track_of}
+use Rattle.trajdb.specs.Answers.{HoldsOfFeature, HoldsOfLeg, legs_text, feature_name, names_text, track_of}
 use Rattle.together.specs.Told.{told, told_text, told_names_text}
 use Rattle.together.specs.Parts.{IsPartOf, IsTold, late, own_legs, own_names, own_records}
 
@@ -22,7 +22,7 @@ LegsText = (book : Book) (legs : List LegView)
 abbrev pub NamesText : Type 0
 NamesText =
     (book : Book) (features : List ℕ)
-    → names_text book features ≡ told_names_text (map (name_of book) features)
+    → names_text book features ≡ told_names_text (map (feature_name book) features)
 
 -- `box`
 abbrev pub BoxLaw : Type 0
@@ -50,23 +50,23 @@ FeaturesLaw =
     (range_with_len 0 (length whole.names)) all
     → Picks (HoldsOfFeature predicate rect period part.legs)
     (range_with_len 0 (length part.names)) own
-    → map (name_of part) own ≡ own_names f k (map (name_of whole) all)
+    → map (feature_name part) own ≡ own_names f k (map (feature_name whole) all)
 
 -- `trajectory`
 abbrev pub TrajectoryLaw : Type 0
 TrajectoryLaw =
     (f : List ℕ → ℕ) (k : ℕ) (whole part : Book) (name : List ℕ) → IsPartOf f k whole part
     → IsTold whole → IsTold part
-    → told part (track_of (feature_of part.names name) part.legs)
-    ≡ own_legs f k (told whole (track_of (feature_of whole.names name) whole.legs))
+    → told part (track_of (feature_named part.names name) part.legs)
+    ≡ own_legs f k (told whole (track_of (feature_named whole.names name) whole.legs))
 
 -- and of the part that has the name it is the whole's
 abbrev pub TrackLaw : Type 0
 TrackLaw =
     (f : List ℕ → ℕ) (whole part : Book) (name : List ℕ) → IsPartOf f (f name) whole part
     → IsTold whole → IsTold part
-    → told part (track_of (feature_of part.names name) part.legs)
-    ≡ told whole (track_of (feature_of whole.names name) whole.legs)
+    → told part (track_of (feature_named part.names name) part.legs)
+    ≡ told whole (track_of (feature_named whole.names name) whole.legs)
 
 -- the records of a file that come too early for the part are those of the whole that are of the part
 abbrev pub LateLaw : Type 0

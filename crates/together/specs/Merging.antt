@@ -9,9 +9,9 @@ use Rattle.legs.specs.Boxes.{BoxView, RectView}
 use Rattle.legs.specs.Index.{legs_in_box}
 use Rattle.legs.specs.Book.{Book}
 use Rattle.predicates.specs.declared.Predicate.{Predicate}
-use Rattle.writer.specs.Entries.{EntryView}
+use Rattle.writer.specs.Entries.{NamedLegView}
 use Rattle.trajdb.specs.Picks.{Picks}
-use Rattle.trajdb.specs.Answers.{HoldsOfFeature, HoldsOfLeg, name_of}
+use Rattle.trajdb.specs.Answers.{HoldsOfFeature, HoldsOfLeg, feature_name}
 use Rattle.together.specs.Told.{told}
 use Rattle.together.specs.Parts.{own_legs, own_names}
 use Rattle.together.specs.Joining.{ArePartsOf}
@@ -19,7 +19,7 @@ use Rattle.together.specs.Joining.{ArePartsOf}
 -- any legs that are told, part after part
 abbrev pub LegsMerge : Type 0
 LegsMerge =
-    (f : List ℕ → ℕ) (n : ℕ) (entries : List EntryView) → ((name : List ℕ) → f name < n)
+    (f : List ℕ → ℕ) (n : ℕ) (entries : List NamedLegView) → ((name : List ℕ) → f name < n)
     → IsPermutation entries (flat_map (λ k. own_legs f k entries) (range_with_len 0 n))
 
 -- any names
@@ -57,5 +57,5 @@ FeaturesAnswerMerge =
     → ((k : ℕ) → k < n
     → Picks (HoldsOfFeature predicate rect period (parts k).legs)
     (range_with_len 0 (length (parts k).names)) (own k))
-    → IsPermutation (map (name_of whole) all)
-    (flat_map (λ k. map (name_of (parts k)) (own k)) (range_with_len 0 n))
+    → IsPermutation (map (feature_name whole) all)
+    (flat_map (λ k. map (feature_name (parts k)) (own k)) (range_with_len 0 n))

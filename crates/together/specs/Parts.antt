@@ -3,7 +3,7 @@ use Rattle.std.specs.Prelude.{ℕ, ◌≡◌, ◌≢◌, ◌==◌, ◌++◌, ◌
 use Rattle.mfcsv.specs.Views.{RecordView}
 use Rattle.legs.specs.Book.{Book, with_record, is_before, name_end}
 use Rattle.legs.specs.Law.{IsThere}
-use Rattle.writer.specs.Entries.{EntryView}
+use Rattle.writer.specs.Entries.{NamedLegView}
 use Rattle.together.specs.Told.{all_told}
 
 -- a name of part k
@@ -15,7 +15,7 @@ abbrev pub own_names : (List ℕ → ℕ) → ℕ → List (List ℕ) → List (
 own_names f k names = filter (is_in f k) names
 
 -- the told legs of part k, in their order
-abbrev pub own_legs : (List ℕ → ℕ) → ℕ → List EntryView → List EntryView
+abbrev pub own_legs : (List ℕ → ℕ) → ℕ → List NamedLegView → List NamedLegView
 own_legs f k entries = filter (λ e. is_in f k e.name) entries
 
 -- the records of part k, in their order

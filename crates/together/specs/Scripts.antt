@@ -2,7 +2,7 @@
 use Rattle.std.specs.Prelude.{ℕ, ◌≡◌, ◌<◌, ◌⊎◌, ◌++◌, ◌∷◌, List, [], Some}
 use Rattle.legs.specs.Book.{Book}
 use Rattle.legs.specs.Limits.{LimitsView}
-use Rattle.querylang.specs.Line.{line_of}
+use Rattle.querylang.specs.Line.{line_command}
 use Rattle.parts.specs.Names.{part_of}
 use Rattle.trajdb.specs.Answers.{AcceptsLine, line_book}
 use Rattle.trajdb.specs.Files.{file_named}
@@ -41,7 +41,7 @@ module _ (n : ℕ) (limits : LimitsView) (own_limits : ℕ → LimitsView)
   RunTogether whole parts (line ∷ lines) text own =
       (first : List ℕ) × (others : List ℕ) × (own_first : ℕ → List ℕ) × (own_others : ℕ → List ℕ)
       × (text ≡ first ++ others) × ((k : ℕ) → k < n → own k ≡ own_first k ++ own_others k)
-      × SayTogether (part_of n) n whole.head (line_of line) first own_first
+      × SayTogether (part_of n) n whole.head (line_command line) first own_first
       × RunTogether (line_book limits files whole line)
       (λ k. line_book (own_limits k) (own_files k) (parts k) line) lines others own_others
 

@@ -6,7 +6,7 @@ use Rattle.mfcsv.specs.declared.File.{File}
 use Rattle.legs.specs.declared.head.BookHead.{BookHead}
 use Rattle.legs.specs.Legs.{LegView}
 use Rattle.legs.specs.Limits.{LimitsView}
-use Rattle.legs.specs.Book.{Book, with_record, with_records, record_legs, records_legs, with_file, joined, first_or, file_faults, head_with}
+use Rattle.legs.specs.Book.{Book, with_record, with_records, record_legs, records_legs, with_file, joined, legs_or_fault, file_faults, head_with}
 use Rattle.legs.specs.declared.joining.JoinCode.{JoinCode}
 
 with_record-legs : (book : Book) (r : RecordView) → (with_record book r).legs ≡ book.legs ++ record_legs book r
@@ -33,7 +33,7 @@ with_records-rows book (r ∷ records) =
 abbrev pub book_with_parts : Option BookHead → List (List ℕ) → List LegView → List (List (List ℕ)) → Book
 book_with_parts head names legs rows = record { head = head; names = names; legs = legs; rows = rows }
 
-first_or-ok : (faults : List (JoinCode × ℕ)) (legs found : List LegView) → first_or faults legs ≡ Ok found → legs ≡ found
+first_or-ok : (faults : List (JoinCode × ℕ)) (legs found : List LegView) → legs_or_fault faults legs ≡ Ok found → legs ≡ found
 first_or-ok [] legs found e = cc
 first_or-ok (f ∷ faults) legs found e = absurd (cc)
 

@@ -6,7 +6,7 @@ use Rattle.std.proofs.lemmas.List.Elements.{All-nil, All-cons}
 use Rattle.std.proofs.lemmas.List.Sums.{position_or_len_is}
 use Rattle.std.proofs.lemmas.Option.{slice_get-get_or, get_or_from_slice_get, slice_get_within, same_Some}
 use Rattle.std.proofs.lemmas.Slice.Eq.{bytes_eq-Decides}
-use Rattle.legs.specs.Book.{feature_of, number_of}
+use Rattle.legs.specs.Book.{feature_named, feature_number}
 use Rattle.legs.specs.Index.{feature_count}
 use Rattle.legs.specs.Law.{IsName}
 use Rattle.legs.specs.Legs.{LegView}
@@ -20,7 +20,7 @@ own_names names own = record {
       let within : i < length names = omega (arith, l, h) in
       let a = (own i within (get_or names i d) (slice_get-get_or names i d within)).1 in
       let b = (own j h (get_or names j d) (slice_get-get_or names j d h)).1 in
-      let c : Some i ≡ Some j = sym a ∙ ap (λ name. feature_of names name) e ∙ b in
+      let c : Some i ≡ Some j = sym a ∙ ap (λ name. feature_named names name) e ∙ b in
       let same = same_Some i j c in
       absurd (omega (arith, l, same));
 }
@@ -39,9 +39,9 @@ names_own names are f name at =
     let same : bytes_eq name (get_or names f []) ≡ true = (bytes_eq-Decides name (get_or names f [])).1 (sym is) in
     let before : (k : ℕ) → k < f → bytes_eq name (get_or names k []) ≡ false =
     λ k l. differ name (get_or names k []) (λ e. are.distinct k f [] l within (sym e ∙ sym is)) in
-    let number : number_of names name ≡ f = position_or_len_is (bytes_eq name) names f [] (omega (arith, within)) before (λ h. same) in
-    let test : ltb (number_of names name) (length names) ≡ true = grind (arith, nat_tests) in
-    (subst IsName is (are.each f [] within), ap (λ b. cond b (Some (number_of names name)) None) test ∙ ap Some number)
+    let number : feature_number names name ≡ f = position_or_len_is (bytes_eq name) names f [] (omega (arith, within)) before (λ h. same) in
+    let test : ltb (feature_number names name) (length names) ≡ true = grind (arith, nat_tests) in
+    (subst IsName is (are.each f [] within), ap (λ b. cond b (Some (feature_number names name)) None) test ∙ ap Some number)
 
 -- the feature of each leg is one of those that are counted
 fold_max-le : (legs : List LegView) (n m : ℕ) → m ≤ n → m ≤ fold (λ count leg. max count (leg.feature + 1)) n legs

@@ -7,7 +7,7 @@ use Rattle.legs.specs.Costs.{ShapeView}
 use Rattle.legs.specs.Law.{IsBook}
 use Rattle.legs.specs.Limits.{IsLimits, LimitsView}
 use Rattle.legs.specs.Tracks.{StandsFor}
-use Rattle.boxsearch.specs.Index.{content, words, IndexView, IsMarked, IsSound as IsSoundIndex}
+use Rattle.boxsearch.specs.Index.{content, words, IndexView, IsMarked, IsSoundIndex}
 use Rattle.catalogue.specs.Holding.{AnswersBook, HoldsBook, HoldsButFirst, IsAtRest, IsOfBook, IsUnfinishedStore}
 use Rattle.register.specs.Saved.{CatalogueView}
 use Rattle.register.specs.Saving.{IsSavingStop}

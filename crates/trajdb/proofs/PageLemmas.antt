@@ -4,7 +4,7 @@ use Rattle.std.specs.Prelude.{◌⊎◌}
 use Rattle.legs.specs.Asking.{Leaves as IndexLeaves}
 use Rattle.legs.specs.declared.listed.Listed.{Ghosts}
 use Rattle.trajdb.specs.Database.{CoreView}
-use Rattle.trajdb.specs.Calls.{HasPages, IsUnwritten, KeepsPages, LeavesBook, LeavesPages}
+use Rattle.trajdb.specs.Calls.{HasIndexPages, IsUnwritten, KeepsPages, LeavesBook, LeavesPages}
 use Rattle.trajdb.proofs.FaultLemmas.{leaves-refl, leaves-trans}
 
 either : (b : Bool) → (b ≡ true) ⊎ (b ≡ false)
@@ -38,7 +38,7 @@ unwritten g a b c l k (inr u) = inr (record {
   sound = λ s. u.sound (l.sound s);
 })
 
-left_after : {I : Type 0} (g : Ghosts I) (a b c : CoreView I) → (b.begun ≡ true) ⊎ (b.begun ≡ false) → b.failed ≡ false → KeepsPages g a b → HasPages g b → LeavesPages g b.index c.index → LeavesPages g a.index c.index
+left_after : {I : Type 0} (g : Ghosts I) (a b c : CoreView I) → (b.begun ≡ true) ⊎ (b.begun ≡ false) → b.failed ≡ false → KeepsPages g a b → HasIndexPages g b → LeavesPages g b.index c.index → LeavesPages g a.index c.index
 left_after g a b c (inl t) lives p h r = record { marked = λ m. r.marked (h.begun t); clean = λ k. inl (r.marked (h.begun t)) }
 left_after g a b c (inr n) lives p h r =
     let l = (p.idle n lives).index in

@@ -8,7 +8,7 @@ use Rattle.legs.specs.Limits.{LimitsView}
 use Rattle.pages.specs.Store.{Store, Stays, IsLawful}
 use Rattle.pages.specs.declared.unsynced.Unsynced.{Unsynced}
 use Rattle.pagecache.specs.Cache.{page_of, pages_as_written, payload_of, sealed_payload, stored_payload}
-use Rattle.boxsearch.specs.Index.{words, written, IndexView, IsMarked, IsSound as IsSoundIndex}
+use Rattle.boxsearch.specs.Index.{words, written, IndexView, IsMarked, IsSoundIndex}
 use Rattle.catalogue.specs.Holding.{HoldsBook, IsAtRest}
 use Rattle.register.specs.Saved.{CatalogueView}
 use Rattle.legs.specs.Asking.{IsLater as IsLaterIndex, Leaves as IndexLeaves}

@@ -11,7 +11,7 @@ use Rattle.legs.specs.declared.index.IndexFault.{IndexFault}
 use Rattle.legs.specs.declared.index.IndexFault.TheVariants as index
 use Rattle.trajdb.specs.declared.RunFault.TheVariants.{Failed}
 use Rattle.pagecache.specs.Cache.{Cache, payload_of, IsClean, IsSettled}
-use Rattle.boxsearch.specs.Index.{content, IndexView, IsMarked, IsSound as IsSoundIndex}
+use Rattle.boxsearch.specs.Index.{content, IndexView, IsMarked, IsSoundIndex}
 use Rattle.header.specs.Front.{SaysState}
 use Rattle.catalogue.specs.Holding.{IsAtRest}
 use Rattle.register.specs.Saved.{CatalogueView}

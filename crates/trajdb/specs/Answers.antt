@@ -11,17 +11,17 @@ use Rattle.legs.specs.Legs.{LegView}
 use Rattle.legs.specs.Boxes.{RectView, box_over}
 use Rattle.legs.specs.Index.{legs_in_box, legs_of}
 use Rattle.legs.specs.Limits.{LimitsView}
-use Rattle.legs.specs.Book.{Book, joined, book_after, feature_of}
+use Rattle.legs.specs.Book.{Book, joined, book_after, feature_named}
 use Rattle.legs.specs.Counting.{names_after}
 use Rattle.legs.specs.declared.joining.JoinCode.{JoinCode}
-use Rattle.querylang.specs.Line.{line_of}
-use Rattle.querylang.specs.CodeText.{code_text}
+use Rattle.querylang.specs.Line.{line_command}
+use Rattle.querylang.specs.CodeText.{line_code_text}
 use Rattle.querylang.specs.declared.LineCode.{LineCode}
 use Rattle.querylang.specs.declared.Command.{Command}
 use Rattle.querylang.specs.declared.Command.TheVariants.{Load, Count, Box, Legs, Features, Trajectory, Write}
 use Rattle.predicates.specs.declared.Predicate.{Predicate}
 use Rattle.predicates.specs.Predicates.{Holds}
-use Rattle.writer.specs.Entries.{EntryView}
+use Rattle.writer.specs.Entries.{NamedLegView}
 use Rattle.writer.specs.File.{entries_text, features_text, file_text as written_text, frame_of as head_frame}
 use Rattle.writer.specs.declared.entry.Frame.{Frame}
 use Rattle.trajdb.specs.Picks.{Picks}
@@ -98,19 +98,19 @@ count_text book =
 
 -- how legs are written: with the dimension of the first accepted file, and with times as offsets from its start
 -- instant
-abbrev pub frame_of : Option BookHead → Frame
-frame_of (Some head) = head_frame head
-frame_of None = record { dimension = Two; base = pos 0 }
+abbrev pub book_frame : Option BookHead → Frame
+book_frame (Some head) = head_frame head
+book_frame None = record { dimension = Two; base = pos 0 }
 
 -- the name of a feature
-abbrev pub name_of : Book → ℕ → List ℕ
-name_of book feature = slice_index_or book.names feature []
+abbrev pub feature_name : Book → ℕ → List ℕ
+feature_name book feature = slice_index_or book.names feature []
 
 -- a leg with its name and attribute values
-abbrev pub entry_of : Book → LegView → EntryView
-entry_of book leg =
+abbrev pub named_leg_of : Book → LegView → NamedLegView
+named_leg_of book leg =
     record {
-      name = name_of book leg.feature;
+      name = feature_name book leg.feature;
       leg = leg;
       values = slice_index_or book.rows leg.row [];
     }
@@ -118,7 +118,7 @@ entry_of book leg =
 -- the answer of legs: a record for each
 abbrev pub legs_text : Book → List LegView → List ℕ
 legs_text book legs =
-    ok_text (length legs) ++ entries_text (frame_of book.head) (map (entry_of book) legs)
+    ok_text (length legs) ++ entries_text (book_frame book.head) (map (named_leg_of book) legs)
 
 -- the legs of a feature, if there is one
 abbrev pub track_of : Option ℕ → List LegView → List LegView
@@ -157,7 +157,7 @@ IsLegsAnswer book predicate rect period text =
 
 -- the answer of features
 abbrev pub names_text : Book → List ℕ → List ℕ
-names_text book features = ok_text (length features) ++ features_text (map (name_of book) features)
+names_text book features = ok_text (length features) ++ features_text (map (feature_name book) features)
 
 -- the answer of the features of which the predicate holds
 abbrev pub IsFeaturesAnswer : Book → Predicate → RectView → PeriodView → List ℕ → Type 0
@@ -169,7 +169,7 @@ IsFeaturesAnswer book predicate rect period text =
 -- legs as a file: two header lines and a record for each leg
 abbrev pub file_answer : Book → BookHead → List LegView → List ℕ
 file_answer book head legs =
-    ok_text (length legs + 2) ++ written_text head (map (entry_of book) legs)
+    ok_text (length legs + 2) ++ written_text head (map (named_leg_of book) legs)
 
 -- the answer to `write`
 abbrev pub write_text : Option BookHead → Book → List ℕ
@@ -187,7 +187,7 @@ IsAnswer limits files book (Legs predicate rect period) text =
 IsAnswer limits files book (Features predicate rect period) text =
     IsFeaturesAnswer book predicate rect period text
 IsAnswer limits files book (Trajectory name) text =
-    text ≡ legs_text book (track_of (feature_of book.names name) book.legs)
+    text ≡ legs_text book (track_of (feature_named book.names name) book.legs)
 IsAnswer limits files book Write text = text ≡ write_text book.head book
 
 -- the book after a command
@@ -215,7 +215,7 @@ abbrev pub IsSaid : LimitsView → List (List ℕ × List ℕ) → Book → Resu
     → List ℕ → Type 0
 IsSaid limits files book (Ok (Some command)) text = IsAnswer limits files book command text
 IsSaid limits files book (Ok None) text = text ≡ []
-IsSaid limits files book (Err code) text = text ≡ refusal_text (code_text code)
+IsSaid limits files book (Err code) text = text ≡ refusal_text (line_code_text code)
 
 -- the book after a line that was read
 abbrev pub said_book : LimitsView → List (List ℕ × List ℕ) → Book → Result (Option Command) LineCode
@@ -233,12 +233,12 @@ AcceptsSaid limits files book (Err code) = ⊥
 
 -- the text is the answer to a line, over a book
 unfoldable pub IsLineText : LimitsView → List (List ℕ × List ℕ) → Book → List ℕ → List ℕ → Type 0
-IsLineText limits files book line text = IsSaid limits files book (line_of line) text
+IsLineText limits files book line text = IsSaid limits files book (line_command line) text
 
 -- the book after a line
 unfoldable pub line_book : LimitsView → List (List ℕ × List ℕ) → Book → List ℕ → Book
-line_book limits files book line = said_book limits files book (line_of line)
+line_book limits files book line = said_book limits files book (line_command line)
 
 -- so is the line
 unfoldable pub AcceptsLine : LimitsView → List (List ℕ × List ℕ) → Book → List ℕ → Type 0
-AcceptsLine limits files book line = AcceptsSaid limits files book (line_of line)
+AcceptsLine limits files book line = AcceptsSaid limits files book (line_command line)

@@ -5,13 +5,13 @@ use Rattle.timebase.specs.Period.{PeriodView}
 use Rattle.legs.specs.declared.head.BookHead.{BookHead}
 use Rattle.legs.specs.Legs.{LegView}
 use Rattle.legs.specs.Boxes.{box_over, everything}
-use Rattle.legs.specs.Book.{Book, feature_of}
+use Rattle.legs.specs.Book.{Book, feature_named}
 use Rattle.legs.specs.Costs.{ShapeView, RisesBy, RisesAtMost, reaches, search_cost, track_cost, track_in_bound}
 use Rattle.predicates.specs.Near.{box_near}
 use Rattle.legs.specs.Index.{HasRisen, legs_of}
 use Rattle.legs.specs.Asking.{IsLater as IsLaterIndex, Leaves as IndexLeaves}
 use Rattle.legs.specs.declared.listed.Listed.{Ghosts}
-use Rattle.querylang.specs.Line.{line_of}
+use Rattle.querylang.specs.Line.{line_command}
 use Rattle.querylang.specs.declared.LineCode.{LineCode}
 use Rattle.querylang.specs.declared.Command.{Command}
 use Rattle.querylang.specs.declared.Command.TheVariants.{Load, Count, Box, Legs, Features, Trajectory, Write}
@@ -51,7 +51,7 @@ pub record LeavesPages {I : Type 0} (g : Ghosts I) (old new : I) : Type 0 where
   pub clean : g.is_clean old → g.is_marked new ⊎ IsUnwritten g old new
 
 -- of a database that has begun page 0 is marked; of one that has neither begun nor failed no page is changed
-pub record HasPages {I : Type 0} (g : Ghosts I) (core : CoreView I) : Type 0 where
+pub record HasIndexPages {I : Type 0} (g : Ghosts I) (core : CoreView I) : Type 0 where
   pub begun : core.begun ≡ true → g.is_marked core.index
   pub idle : core.begun ≡ false → core.failed ≡ false → g.is_clean core.index
 
@@ -60,8 +60,8 @@ pub record HasPages {I : Type 0} (g : Ghosts I) (core : CoreView I) : Type 0 whe
 pub record KeepsPages {I : Type 0} (g : Ghosts I) (old new : CoreView I) : Type 0 where
   pub begun : old.begun ≡ true → new.begun ≡ true
   pub idle : new.begun ≡ false → new.failed ≡ false → LeavesBook g old new
-  pub pages : g.is_faithful old.index → HasPages g old → HasPages g new
-  pub written : g.is_faithful old.index → HasPages g old → LeavesPages g old.index new.index
+  pub pages : g.is_faithful old.index → HasIndexPages g old → HasIndexPages g new
+  pub written : g.is_faithful old.index → HasIndexPages g old → LeavesPages g old.index new.index
 
 -- a sound database has begun exactly where it had, or an accepted file began it
 abbrev pub Begins : {I : Type 0} → Ghosts I → CoreView I → CoreView I → Type 0 → Type 0
@@ -165,11 +165,11 @@ LoadsIn files (Err code) = ⊥
 
 -- so is the line
 unfoldable pub LoadsBy : List (List ℕ × List ℕ) → List ℕ → Type 0
-LoadsBy files line = LoadsIn files (line_of line)
+LoadsBy files line = LoadsIn files (line_command line)
 
 -- the line is a `load`, be its file there or not
 abbrev pub IsLoadLine : List ℕ → Type 0
-IsLoadLine line = (name : List ℕ) × (line_of line ≡ Ok (Some (Load name)))
+IsLoadLine line = (name : List ℕ) × (line_command line ≡ Ok (Some (Load name)))
 
 -- so is some line
 abbrev pub HasLoad : List (List ℕ) → Type 0
@@ -177,7 +177,7 @@ HasLoad lines = (k : ℕ) × (k < length lines) × IsLoadLine (slice_index_or li
 
 -- the line is a command, or is refused
 unfoldable pub Speaks : List ℕ → Type 0
-Speaks line = line_of line ≡ Ok None → ⊥
+Speaks line = line_command line ≡ Ok None → ⊥
 
 -- how many pages a command asks for
 abbrev pub track_asks : Option ℕ → Option ShapeView → List LegView → ℕ
@@ -211,7 +211,7 @@ AsksFor book plan (Features predicate rect period) old new =
     RisesAtMost old new
     (features_bound (range_with_len 0 (length book.names)) period plan book.legs)
 AsksFor book plan (Trajectory name) old new =
-    RisesBy old new (track_asks (feature_of book.names name) plan book.legs)
+    RisesBy old new (track_asks (feature_named book.names name) plan book.legs)
 AsksFor book plan Write old new = RisesBy old new (write_asks book.head plan book.legs)
 
 -- of a sound database a question asked for that many pages

@@ -1,6 +1,6 @@
 -- What a check finds of a database.
 use Rattle.std.specs.Prelude.{ℕ, ◌≡◌, ◌≢◌, ◌≤◌, List, length, slice_get, All, AllPairs, Option, Some, None}
-use Rattle.legs.specs.Book.{feature_of}
+use Rattle.legs.specs.Book.{feature_named}
 use Rattle.legs.specs.Law.{IsName}
 use Rattle.legs.specs.declared.head.BookHead.{BookHead}
 use Rattle.trajdb.specs.Database.{CoreView}
@@ -24,7 +24,7 @@ pub record AreNames (names : List (List ℕ)) : Type 0 where
 abbrev pub IsOwnName : List (List ℕ) → ℕ → Type 0
 IsOwnName names feature =
     (name : List ℕ) → slice_get names feature ≡ Some name
-    → IsName name × (feature_of names name ≡ Some feature)
+    → IsName name × (feature_named names name ≡ Some feature)
 
 -- before the first accepted file there is no name; each row has as many attribute values as the head has columns
 pub record FitsHead (of : Option BookHead) (features : ℕ)

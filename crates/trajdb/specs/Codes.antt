@@ -8,4 +8,4 @@ use Rattle.trajdb.specs.declared.FileCode.TheVariants.{Text, Join}
 -- the printed code of a file's refusal, for its text or for joining it
 abbrev pub file_code : FileCode → List ℕ
 file_code (Text code) = text.code_text code
-file_code (Join code) = join.code_text code
+file_code (Join code) = join.join_code_text code

@@ -4,7 +4,7 @@ use Rattle.legs.specs.Costs.{ShapeView}
 use Rattle.boxsearch.specs.Index.{IndexView, words}
 use Rattle.pages.specs.Store.{Store, Faulted}
 use Rattle.trajdb.specs.Database.{CoreView, IsSound as IsSoundCore}
-use Rattle.trajdb.specs.Calls.{HasPages as HasPagesCore}
+use Rattle.trajdb.specs.Calls.{HasIndexPages}
 use Rattle.register.specs.declared.fault.CatalogueFault.{CatalogueFault}
 use Rattle.register.specs.declared.fault.CatalogueFault.TheVariants.{Memory, Store as StoreFailed, Damaged, StoreFull, Unfinished, Version, Malformed}
 
@@ -34,7 +34,7 @@ IsSoundDb db = IsSoundCore words db
 
 -- of a database that has begun page 0 is marked; of one that has neither begun nor failed no page is changed
 abbrev pub HasPages : DbView → Type 0
-HasPages db = HasPagesCore words db
+HasPages db = HasIndexPages words db
 
 -- the store failed where that is said, and has no room for any page where that is said
 abbrev pub IsCaused : Store → Store → CatalogueFault → Type 0

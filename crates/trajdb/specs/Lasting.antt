@@ -4,7 +4,7 @@ use Rattle.legs.specs.Book.{Book}
 use Rattle.legs.specs.Costs.{ShapeView}
 use Rattle.legs.specs.Limits.{LimitsView}
 use Rattle.pages.specs.Store.{Store, Faulted, IsLawful}
-use Rattle.boxsearch.specs.Index.{written, IndexView, IsMarked, IsSound as IsSoundIndex}
+use Rattle.boxsearch.specs.Index.{written, IndexView, IsMarked, IsSoundIndex}
 use Rattle.catalogue.specs.Holding.{HoldsBook, IsAtRest, IsUnfinishedStore}
 use Rattle.register.specs.Lasting.{IsStop}
 use Rattle.register.specs.declared.fault.CatalogueFault.{CatalogueFault}

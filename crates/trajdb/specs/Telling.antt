@@ -6,9 +6,9 @@ use Rattle.std.specs.List.{range_with_len}
 use Rattle.timebase.specs.Period.{PeriodView}
 use Rattle.legs.specs.Legs.{LegView}
 use Rattle.legs.specs.Boxes.{RectView, box_over, everything}
-use Rattle.legs.specs.Book.{feature_of}
+use Rattle.legs.specs.Book.{feature_named}
 use Rattle.legs.specs.Law.{IsThere}
-use Rattle.legs.specs.Limits.{most}
+use Rattle.legs.specs.Limits.{greatest_limit}
 use Rattle.legs.specs.Sieves.{IsSieved}
 use Rattle.legs.specs.declared.sieve.Sieve.{Sieve}
 use Rattle.legs.specs.Questions.{Question, InBox, OfFeature}
@@ -18,8 +18,8 @@ use Rattle.legs.specs.declared.listed.Listed.{Ghosts}
 use Rattle.predicates.specs.Near.{box_near}
 use Rattle.predicates.specs.Predicates.{Holds}
 use Rattle.predicates.specs.declared.Predicate.{Predicate}
-use Rattle.querylang.specs.CodeText.{code_text}
-use Rattle.querylang.specs.Line.{line_of}
+use Rattle.querylang.specs.CodeText.{line_code_text}
+use Rattle.querylang.specs.Line.{line_command}
 use Rattle.querylang.specs.declared.LineCode.{LineCode}
 use Rattle.querylang.specs.declared.Command.{Command}
 use Rattle.querylang.specs.declared.Command.TheVariants.{Load, Count, Box, Legs, Features, Trajectory, Write}
@@ -121,9 +121,9 @@ module _ {I : Type 0} (g : Ghosts I) (core : CoreView I) where
   IsToldAnswer files (Box rect period) text = IsToldLegs (InBox (box_over rect period)) text
   IsToldAnswer files (Legs predicate rect period) text = IsToldPicks predicate rect period text
   IsToldAnswer files (Features predicate rect period) text =
-      length core.book.names ≤ most → IsToldFeatures predicate rect period text
+      length core.book.names ≤ greatest_limit → IsToldFeatures predicate rect period text
   IsToldAnswer files (Trajectory name) text =
-      length core.book.names ≤ most → IsToldTrack (feature_of core.book.names name) text
+      length core.book.names ≤ greatest_limit → IsToldTrack (feature_named core.book.names name) text
   IsToldAnswer files Write text = IsToldFile core.book.head text
 
   -- the page is met by a question, and is not what it is to be there; or it is page 0, where the catalogue lacks a name or
@@ -170,11 +170,11 @@ module _ {I : Type 0} (g : Ghosts I) (files : List (List ℕ × List ℕ)) where
   TellsSaid old new (Ok (Some command)) text =
       IsToldAnswer g old files command text × LeftBy g files old new command text
   TellsSaid old new (Ok None) text = (text ≡ []) × (new ≡ old)
-  TellsSaid old new (Err code) text = (text ≡ refusal_text (code_text code)) × (new ≡ old)
+  TellsSaid old new (Err code) text = (text ≡ refusal_text (line_code_text code)) × (new ≡ old)
 
   -- the text is what a line answers by what is told, and this is left
   unfoldable pub TellsLine : (old new : CoreView I) → List ℕ → List ℕ → Type 0
-  TellsLine old new line text = TellsSaid old new (line_of line) text
+  TellsLine old new line text = TellsSaid old new (line_command line) text
 
   -- the text is the answers to lines, one after another, each by what is told after the lines before
   abbrev pub TellsLines : (old new : CoreView I) → List (List ℕ) → List ℕ → Type 0

@@ -82,7 +82,7 @@ impl<S: PageStore> Core<TreeIndex<S>> {
     ghost use Rattle.legs.specs.declared.index.IndexFault.{IndexFault};
     ghost use Rattle.pagecache.specs.Cache.{payload_of, IsClean};
     ghost use Rattle.treecheck.specs.Checking.{AreTracksOf};
-    ghost use Rattle.boxsearch.specs.Index.{content, words, IsSound};
+    ghost use Rattle.boxsearch.specs.Index.{content, words, IsSoundIndex};
     ghost use Rattle.header.specs.Front.{SaysState};
     ghost use Rattle.trajdb.specs.Calls.{IsAsked, IsQuestionFault, LeavesBook};
     ghost use Rattle.trajdb.specs.Checking.{Reports};
@@ -109,12 +109,12 @@ impl<S: PageStore> Core<TreeIndex<S>> {
     /// Checks its index.
     fn check_index(&mut self) -> Result<(), IndexFault>
         ensures sound { OnOk result (IsTrue self.old.index.cache.store.is_faithful
-            → IsSound self.new.index) }
+            → IsSoundIndex self.new.index) }
         ensures tracks { OnOk result (IsTrue self.old.index.cache.store.is_faithful
             → AreTracksOf self.new.tracks (length self.new.book.rows) (content self.new.index)) }
         ensures says { OnOk result (IsTrue self.old.index.cache.store.is_faithful
             → SaysState self.new.begun (payload_of self.new.index.cache 0)) }
-        ensures only { IsSound self.old.index
+        ensures only { IsSoundIndex self.old.index
             → AreTracksOf self.old.tracks (length self.old.book.rows) (content self.old.index)
             → SaysState self.old.begun (payload_of self.old.index.cache 0)
             → IfErr result MayRefuse }

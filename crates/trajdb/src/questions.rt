@@ -40,10 +40,10 @@ impl<I: Start> Core<I> {
     ghost use Rattle.std.specs.List.{range_with_len};
     ghost use Rattle.legs.specs.Boxes.{box_over, everything};
     ghost use Rattle.legs.specs.Index.{legs_in_box, legs_of, live_legs_of};
-    ghost use Rattle.legs.specs.Limits.{most};
-    ghost use Rattle.legs.specs.Book.{feature_of};
+    ghost use Rattle.legs.specs.Limits.{greatest_limit};
+    ghost use Rattle.legs.specs.Book.{feature_named};
     ghost use Rattle.trajdb.specs.Picks.{Picks};
-    ghost use Rattle.trajdb.specs.Answers.{HoldsOfFeature, HoldsOfLeg, IsFeaturesAnswer, IsLegsAnswer, frame_of, entry_of, file_answer, legs_text, name_of, names_text, track_of, write_text};
+    ghost use Rattle.trajdb.specs.Answers.{HoldsOfFeature, HoldsOfLeg, IsFeaturesAnswer, IsLegsAnswer, book_frame, named_leg_of, file_answer, legs_text, feature_name, names_text, track_of, write_text};
     ghost use Rattle.legs.specs.Costs.{search_cost};
     ghost use Rattle.predicates.specs.Near.{box_near};
     ghost use Rattle.legs.specs.Law.{IsThere};
@@ -55,7 +55,7 @@ impl<I: Start> Core<I> {
 
     /// How legs are written.
     fn frame(&self) -> Frame
-        ensures { result ≡ frame_of self.now.book.head }
+        ensures { result ≡ book_frame self.now.book.head }
     {
         match &self.head {
             Some(head) => Frame {
@@ -74,7 +74,7 @@ impl<I: Start> Core<I> {
 
     /// The name of a feature.
     fn name(&self, feature: u32) -> Result<&str, RunFault>
-        ensures name { IfOk result (λ name. name.now ≡ name_of self.now.book feature) }
+        ensures name { IfOk result (λ name. name.now ≡ feature_name self.now.book feature) }
         ensures there { OnOk result (feature < length self.now.book.names) }
         ensures fault { IfErr result (IsText (feature < length self.now.book.names)) }
     {
@@ -86,7 +86,7 @@ impl<I: Start> Core<I> {
 
     /// A leg with the name of its feature and the attribute values of its record.
     fn entry<'a>(&'a self, leg: &'a Leg) -> Result<Entry<'a>, RunFault>
-        ensures entry { IfOk result (λ entry. entry ≡ entry_of self.now.book leg.now) }
+        ensures entry { IfOk result (λ entry. entry ≡ named_leg_of self.now.book leg.now) }
         ensures there { OnOk result (IsThere self.now.book leg.now) }
         ensures fault { IfErr result (IsText (IsThere self.now.book leg.now)) }
     {
@@ -128,12 +128,12 @@ impl<I: Start> Core<I> {
     /// The legs of the feature of a name.
     pub(crate) fn legs_of(&mut self, alloc: Global, name: &str) -> Result<Vec<Leg>, RunFault>
         ensures found { IfOk result (λ legs. IsSound I.Listed self.old
-            → legs.items ≡ track_of (feature_of self.old.book.names name.now) self.old.book.legs) }
-        ensures says { IfOk result (λ legs. length self.old.book.names ≤ most
-            → AreToldOf I.Listed self.old (feature_of self.old.book.names name.now) legs.items) }
+            → legs.items ≡ track_of (feature_named self.old.book.names name.now) self.old.book.legs) }
+        ensures says { IfOk result (λ legs. length self.old.book.names ≤ greatest_limit
+            → AreToldOf I.Listed self.old (feature_named self.old.book.names name.now) legs.items) }
         ensures named { IfErr result (Names I.Listed self.old
             (DeniesTrack I.Listed self.old None)) }
-        ensures asks { OnOk result (Asks I.Listed self.old self.new (track_asks (feature_of
+        ensures asks { OnOk result (Asks I.Listed self.old self.new (track_asks (feature_named
             self.old.book.names name.now))) }
         ensures leaves { LeavesBook I.Listed self.old self.new }
         ensures refused { IfErr result (IsRefused I.Listed self.old self.new) }
@@ -222,7 +222,7 @@ impl<I: Start> Core<I> {
 
     /// How many features there are.
     fn feature_count(&self) -> u32
-        ensures { length self.now.book.names ≤ most → result ≡ length self.now.book.names }
+        ensures { length self.now.book.names ≤ greatest_limit → result ≡ length self.now.book.names }
     {
         u32::try_from(self.tracks.feature_count()).unwrap_or(u32::MAX)
     }
@@ -238,7 +238,7 @@ impl<I: Start> Core<I> {
         ensures found { IfOk result (λ features. IsSound I.Listed self.old
             → Picks (HoldsOfFeature predicate rect.now period.now self.old.book.legs)
             (range_with_len 0 (length self.old.book.names)) features.items) }
-        ensures says { IfOk result (λ features. length self.old.book.names ≤ most
+        ensures says { IfOk result (λ features. length self.old.book.names ≤ greatest_limit
             → PicksLive I.Listed self.old predicate rect.now period.now
             (range_with_len 0 (length self.old.book.names)) features.items) }
         ensures named { IfErr result (Names I.Listed self.old
@@ -259,7 +259,7 @@ impl<I: Start> Core<I> {
 
     /// The names of features.
     fn names(&self, alloc: Global, features: &[u32]) -> Result<Vec<&str>, RunFault>
-        ensures names { IfOk result (λ names. map (λ n. n.now) names.items ≡ map (name_of
+        ensures names { IfOk result (λ names. map (λ n. n.now) names.items ≡ map (feature_name
             self.now.book) features.now) }
         ensures fault { IfErr result (IsText (All (λ feature. feature < length
             self.now.book.names) features.now)) }
@@ -284,7 +284,7 @@ impl<I: Start> Core<I> {
     }
 
     fn entries<'a>(&'a self, alloc: Global, legs: &'a [Leg]) -> Result<Vec<Entry<'a>>, RunFault>
-        ensures entries { IfOk result (λ entries. entries.items ≡ map (entry_of
+        ensures entries { IfOk result (λ entries. entries.items ≡ map (named_leg_of
             self.now.book) legs.now) }
         ensures there { OnOk result (All (IsThere self.now.book) legs.now) }
         ensures fault { IfErr result (IsText (All (IsThere self.now.book) legs.now)) }
@@ -372,13 +372,13 @@ impl<I: Start> Core<I> {
     /// The answer to `trajectory`.
     pub(crate) fn track_text(&mut self, alloc: Global, name: &str) -> Result<Vec<u8>, RunFault>
         ensures text { IfOk result (λ text. IsSound I.Listed self.old
-            → text.items ≡ legs_text self.old.book (track_of (feature_of
+            → text.items ≡ legs_text self.old.book (track_of (feature_named
             self.old.book.names name.now) self.old.book.legs)) }
-        ensures says { IfOk result (λ text. length self.old.book.names ≤ most
-            → IsToldTrack I.Listed self.old (feature_of self.old.book.names name.now) text.items) }
+        ensures says { IfOk result (λ text. length self.old.book.names ≤ greatest_limit
+            → IsToldTrack I.Listed self.old (feature_named self.old.book.names name.now) text.items) }
         ensures named { IfErr result (Names I.Listed self.old
             (DeniesTrack I.Listed self.old None)) }
-        ensures asks { OnOk result (Asks I.Listed self.old self.new (track_asks (feature_of
+        ensures asks { OnOk result (Asks I.Listed self.old self.new (track_asks (feature_named
             self.old.book.names name.now))) }
         ensures leaves { LeavesBook I.Listed self.old self.new }
         ensures refused { IfErr result (IsRefused I.Listed self.old self.new) }
@@ -420,7 +420,7 @@ impl<I: Start> Core<I> {
     ) -> Result<Vec<u8>, RunFault>
         ensures text { IfOk result (λ text. IsSound I.Listed self.old
             → IsFeaturesAnswer self.old.book predicate rect.now period.now text.items) }
-        ensures says { IfOk result (λ text. length self.old.book.names ≤ most
+        ensures says { IfOk result (λ text. length self.old.book.names ≤ greatest_limit
             → IsToldFeatures I.Listed self.old predicate rect.now period.now text.items) }
         ensures named { IfErr result (Names I.Listed self.old
             (DeniesTrack I.Listed self.old (Some period.now))) }

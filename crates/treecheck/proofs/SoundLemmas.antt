@@ -16,7 +16,7 @@ use Rattle.std.specs.Prelude.{Result, Ok, Err, OnOk}
 use Rattle.tbtree.specs.declared.fault.TreeFault.{TreeFault}
 use Rattle.treecheck.specs.Checking.{Agree, AreTracksOf}
 use Rattle.boxsearch.specs.Beside.{with_cache}
-use Rattle.boxsearch.specs.Index.{content, IndexView, IsSound}
+use Rattle.boxsearch.specs.Index.{content, IndexView, IsSoundIndex}
 use Rattle.tbnode.proofs.LawLemmas.{legs_are_lawful}
 use Rattle.tbtree.proofs.LawLemmas as tree
 use Rattle.tbtree.proofs.LegalLemmas.{content_lawful}
@@ -49,7 +49,7 @@ module _ (i : IndexView) (tracks : TracksView) (rows : ℕ) where
     same : content i ≡ h.legs
     same = content_is i fa ∙ tree.content_is (pages_of_cache i.cache) i.tree h.legs h.pages shape h.stands
 
-    pub sound : IsSound i
+    pub sound : IsSoundIndex i
     sound = record {
       faithful = fa;
       works = works;
@@ -82,7 +82,7 @@ module _ (i : IndexView) (tracks : TracksView) (rows : ℕ) where
         at : (f : ℕ) → f < length tracks.names → (t : Track) × (slice_get tracks.tracks f ≡ Some t)
         at f l = get_at tracks.tracks f (let p = a.paired in omega (arith, l, p))
 
-  module _ (s : IsSound i) (a : AreTracksOf tracks rows (content i)) where
+  module _ (s : IsSoundIndex i) (a : AreTracksOf tracks rows (content i)) where
     pub agrees : Agree tracks rows i.legs
     agrees = record { paired = a.paired; legs_are = a.legs_are ∙ sym s.counted; rows_are = a.rows_are; few_rows = (let r = a.few_rows in let n = s.counted in omega (arith, r, n)); few_names = a.few_names }
 

@@ -2,7 +2,7 @@
 use Rattle.std.specs.Prelude.{ℕ, ◌≡◌, ◌≢◌, ◌≤◌, ◌<◌, List, length, slice_index_or, All, None}
 use Rattle.legs.specs.Index.{feature_count, last_end}
 use Rattle.legs.specs.Legs.{LegView}
-use Rattle.legs.specs.Limits.{most}
+use Rattle.legs.specs.Limits.{greatest_limit}
 use Rattle.legs.specs.Tracks.{TracksView, IsTrack}
 use Rattle.legs.specs.declared.tracks.Track.{Track}
 
@@ -18,7 +18,7 @@ pub record AreTracksOf (tracks : TracksView) (rows : ℕ) (legs : List LegView) 
   pub rows_are : tracks.rows ≡ rows
   pub in_rows : All (λ leg. leg.row < rows) legs
   pub few_rows : rows ≤ length legs
-  pub few_names : length tracks.names ≤ most
+  pub few_names : length tracks.names ≤ greatest_limit
 
 -- the numbers of the tracks are those of so many rows and legs
 pub record Agree (tracks : TracksView) (rows legs : ℕ) : Type 0 where
@@ -26,4 +26,4 @@ pub record Agree (tracks : TracksView) (rows legs : ℕ) : Type 0 where
   pub legs_are : tracks.legs ≡ legs
   pub rows_are : tracks.rows ≡ rows
   pub few_rows : rows ≤ legs
-  pub few_names : length tracks.names ≤ most
+  pub few_names : length tracks.names ≤ greatest_limit

@@ -11,7 +11,7 @@ ghost use Rattle.tbtree.specs.Nodes.{pages_of_cache};
 ghost use Rattle.tbtree.specs.Shape.{IsShape};
 ghost use Rattle.treecheck.specs.Checking.{Agree, AreTracksOf};
 ghost use Rattle.boxsearch.specs.Beside.{with_cache};
-ghost use Rattle.boxsearch.specs.Index.{content, words, IsSound};
+ghost use Rattle.boxsearch.specs.Index.{content, words, IsSoundIndex};
 ghost use Rattle.header.specs.Front.{SaysState};
 ghost use Rattle.legs.specs.Asking.{Leaves};
 ghost use Rattle.legs.specs.Index.{MayRefuse, HasRisen};
@@ -267,7 +267,7 @@ pub fn check<S: PageStore>(
     begun: bool,
 ) -> Result<(), IndexFault>
     // What passes is sound, with the tracks of its legs; what is sound passes.
-    ensures sound { OnOk result (IsTrue index.old.cache.store.is_faithful → IsSound index.new) }
+    ensures sound { OnOk result (IsTrue index.old.cache.store.is_faithful → IsSoundIndex index.new) }
     // The tracks and the number of rows are then those of the index's legs.
     ensures tracks { OnOk result (IsTrue index.old.cache.store.is_faithful
         → AreTracksOf tracks.now rows (content index.new)) }
@@ -276,7 +276,7 @@ pub fn check<S: PageStore>(
         → SaysState begun (payload_of index.new.cache 0)) }
     // A sound index with its tracks and a right page 0 fails only if memory runs out or the store
     // fails.
-    ensures only { IsSound index.old → AreTracksOf tracks.now rows (content index.old)
+    ensures only { IsSoundIndex index.old → AreTracksOf tracks.now rows (content index.old)
         → SaysState begun (payload_of index.old.cache 0) → IfErr result MayRefuse }
 
     // Nothing changes.

@@ -23,7 +23,7 @@ use Rattle.tbtree.specs.Nodes.{Pages}
 use Rattle.tbtree.specs.declared.tree.Place.{Place}
 use Rattle.tbtree.specs.declared.tree.TbTree.{TbTree}
 use Rattle.treecheck.specs.Checking.{Agree}
-use Rattle.boxsearch.specs.Index.{content, words, IndexView, IsSound}
+use Rattle.boxsearch.specs.Index.{content, words, IndexView, IsSoundIndex}
 use Rattle.version1.specs.OldLegs.{pages_of_old}
 use Rattle.catalogue.specs.Beginning.{IsCaused}
 use Rattle.register.specs.ChainReader.{fault_of}
@@ -77,7 +77,7 @@ module _ (held_chains : (nodes : Pages LegView BoxView) (tree : TbTree) (rows to
   module _ (one_list : (nodes : Pages LegView BoxView) (most rows total : ℕ) (places : List Place) (tracks : List Track) (a b : List LegView)
       → HoldChains nodes most rows total places tracks a → HoldChains nodes most rows total places tracks b → a ≡ b) where
     -- an index of the legs that the chains hold is that of the book
-    pub book_brought : (i : IndexView) → IsSound i → i.tree.shape ≡ near → Holds leaf c.tracks.rows c.tracks.legs (content i) → AnswersBook (present_shape shape) limits book c i
+    pub book_brought : (i : IndexView) → IsSoundIndex i → i.tree.shape ≡ near → Holds leaf c.tracks.rows c.tracks.legs (content i) → AnswersBook (present_shape shape) limits book c i
     book_brought i sound shape_is holds = record {
       shape_is = shape_is ∙ a.shape_is;
       of = a.of;

@@ -15,7 +15,7 @@ use Rattle.pages.specs.declared.payload.Payload.{Payload}
 use Rattle.tbnode.specs.Nodes.{LeafView, Node, ALeaf, AnInner, as_leaf, as_inner}
 use Rattle.tbnode.specs.Parts.{number_at, signed_at, slot, all_below}
 use Rattle.tbnode.specs.Layout.{has_moments, has_start, has_end}
-use Rattle.tbnode.specs.Form.{feature_of, leg_count, leaf_of, is_leaf, inner_of, is_inner, node_by, node_of}
+use Rattle.tbnode.specs.Form.{leaf_feature, leaf_leg_count, leaf_from_bytes, is_leaf, inner_of, is_inner, node_by, node_of}
 use Rattle.version1.specs.OldForm.{old_leg_of, is_old_leg, old_leg_at, old_leaf_of, is_old_leg_at, is_old_leaf, old_node_by, old_node_of, OldLegsAreLawful, IsFlat, OldLegsAreFlat, OldInnersAreInners}
 use Rattle.tbnode.proofs.ListLemmas.{and_left, and_right, all_below-at, length-made, get-made, all-made}
 use Rattle.tbnode.proofs.LawLemmas.{and_three, legs_moments, legs_start, legs_end, is_leg-from}
@@ -77,15 +77,15 @@ pub ruleset laws = (rises, t0_some, t1_some, x0_some, y0_some, x1_some, y1_some)
 -- the form
 
 pub record OldLeafForm (bytes : List ℕ) : Type 0 where
-  pub some : 1 ≤ leg_count bytes
-  pub room : leg_count bytes ≤ 63
+  pub some : 1 ≤ leaf_leg_count bytes
+  pub room : leaf_leg_count bytes ≤ 63
   pub zero : number_at 2 14 bytes ≡ 0
-  pub legs : all_below (is_old_leg_at bytes) (leg_count bytes) ≡ true
+  pub legs : all_below (is_old_leg_at bytes) (leaf_leg_count bytes) ≡ true
 
 pub old_leaf_form : (bytes : List ℕ) → is_old_leaf bytes ≡ true → OldLeafForm bytes
 unfolding is_old_leaf
 old_leaf_form bytes e =
-    let n = leg_count bytes in
+    let n = leaf_leg_count bytes in
     let a = nat_le 1 n in
     let b = nat_le n 63 in
     let z = number_at 2 14 bytes == 0 in
@@ -103,21 +103,21 @@ leg_passes : (bytes : List ℕ) (i : ℕ) → is_old_leg_at bytes i ≡ true →
 unfolding is_old_leg_at
 leg_passes bytes i e = and_left (is_old_leg (slot 64 i bytes)) ((i == 0) || nat_lt (old_leg_at bytes (i - 1)).ordinal (old_leg_at bytes i).ordinal) e
 
-pub old_leg_lawful : (bytes : List ℕ) (i : ℕ) → is_old_leaf bytes ≡ true → i < leg_count bytes → is_old_leg (slot 64 i bytes) ≡ true
+pub old_leg_lawful : (bytes : List ℕ) (i : ℕ) → is_old_leaf bytes ≡ true → i < leaf_leg_count bytes → is_old_leg (slot 64 i bytes) ≡ true
 old_leg_lawful bytes i e h =
     let f = old_leaf_form bytes e in
-    leg_passes bytes i (all_below-at (is_old_leg_at bytes) (leg_count bytes) i f.legs h)
+    leg_passes bytes i (all_below-at (is_old_leg_at bytes) (leaf_leg_count bytes) i f.legs h)
 
-length-legs : (bytes : List ℕ) → length (old_leaf_of bytes).legs ≡ leg_count bytes
+length-legs : (bytes : List ℕ) → length (old_leaf_of bytes).legs ≡ leaf_leg_count bytes
 unfolding old_leaf_of
-length-legs bytes = length-made (old_leg_at bytes) (leg_count bytes)
+length-legs bytes = length-made (old_leg_at bytes) (leaf_leg_count bytes)
 
-pub old_legs_counted : (bytes : List ℕ) (v : LeafView LegView) → old_leaf_of bytes ≡ v → length v.legs ≡ leg_count bytes
+pub old_legs_counted : (bytes : List ℕ) (v : LeafView LegView) → old_leaf_of bytes ≡ v → length v.legs ≡ leaf_leg_count bytes
 old_legs_counted bytes v e = ap (λ w. length w.legs) (sym e) ∙ length-legs bytes
 
 pub old_leg_shown : (bytes : List ℕ) (v : LeafView LegView) (i : ℕ) (l : LegView) → old_leaf_of bytes ≡ v → i < length v.legs → l ≡ old_leg_at bytes i → slice_get v.legs i ≡ Some l
 unfolding old_leaf_of
-old_leg_shown bytes v i l e h is = get-made (old_leg_at bytes) (leg_count bytes) i l v.legs (ap (λ w. w.legs) e) h is
+old_leg_shown bytes v i l e h is = get-made (old_leg_at bytes) (leaf_leg_count bytes) i l v.legs (ap (λ w. w.legs) e) h is
 
 -- the node
 
@@ -175,13 +175,13 @@ leaf_held p v e = leaf_by p.kind p.bytes v (ap as_leaf e)
 legs_of_form : (bytes : List ℕ) → is_old_leaf bytes ≡ true → All IsLeg (old_leaf_of bytes).legs
 unfolding old_leaf_of
 legs_of_form bytes e =
-    all-made IsLeg (old_leg_at bytes) (leg_count bytes)
-    (λ i l. leg_is (feature_of bytes) (slot 64 i bytes) (old_leg_lawful bytes i e l))
+    all-made IsLeg (old_leg_at bytes) (leaf_leg_count bytes)
+    (λ i l. leg_is (leaf_feature bytes) (slot 64 i bytes) (old_leg_lawful bytes i e l))
 
 legs_made_flat : (bytes : List ℕ) → All IsFlat (old_leaf_of bytes).legs
 unfolding old_leaf_of
 legs_made_flat bytes =
-    all-made IsFlat (old_leg_at bytes) (leg_count bytes) (λ i _. leg_flat (feature_of bytes) (slot 64 i bytes))
+    all-made IsFlat (old_leg_at bytes) (leaf_leg_count bytes) (λ i _. leg_flat (leaf_feature bytes) (slot 64 i bytes))
 
 pub old_legs_are_lawful : OldLegsAreLawful
 old_legs_are_lawful p v e =
@@ -200,7 +200,7 @@ no_inner_if false v = refl
 
 inner_by : (k : Kind) (bytes : List ℕ) → as_inner (old_node_by k bytes) ≡ as_inner (node_by k bytes)
 inner_by Header bytes = refl
-inner_by Leaf bytes = sym (no_inner_if (is_old_leaf bytes) (old_leaf_of bytes)) ∙ no_inner_if (is_leaf bytes) (leaf_of bytes)
+inner_by Leaf bytes = sym (no_inner_if (is_old_leaf bytes) (old_leaf_of bytes)) ∙ no_inner_if (is_leaf bytes) (leaf_from_bytes bytes)
 inner_by Inner bytes = refl
 inner_by Catalogue bytes = refl
 

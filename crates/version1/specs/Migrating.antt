@@ -6,7 +6,7 @@ use Rattle.pages.specs.Store.{Store as StoreView, Faulted}
 use Rattle.pagecache.specs.Cache.{stored_payload}
 use Rattle.treecheck.specs.Check.{HoldChains}
 use Rattle.tbtree.specs.declared.tree.Place.{Place}
-use Rattle.boxsearch.specs.Index.{content, IndexView, IsSound}
+use Rattle.boxsearch.specs.Index.{content, IndexView, IsSoundIndex}
 use Rattle.version1.specs.OldLegs.{pages_of_old}
 use Rattle.version1.specs.OldStore.{AnswersOld}
 use Rattle.register.specs.Saved.{CatalogueView}
@@ -27,7 +27,7 @@ pub record IsBrought (s : StoreView) (c : CatalogueView) (index : IndexView) : T
   pub leaf : ℕ
   pub places : List Place
   pub kept : AnswersOld (stored_payload s) s.count c leaf index.tree.shape places
-  pub sound : IsSound index
+  pub sound : IsSoundIndex index
   pub legs : HoldChains (pages_of_old s) leaf c.tracks.rows c.tracks.legs places c.tracks.tracks
       (content index)
 

@@ -10,7 +10,7 @@ use Rattle.pages.specs.declared.payload.Payload.{Payload}
 use Rattle.tbnode.specs.Nodes.{LeafView, Node, ALeaf, as_inner}
 use Rattle.tbnode.specs.Parts.{number_at, signed_at, slot, all_below}
 use Rattle.tbnode.specs.Layout.{has_moments, has_start, has_end}
-use Rattle.tbnode.specs.Form.{feature_of, leg_count, node_by, node_of}
+use Rattle.tbnode.specs.Form.{leaf_feature, leaf_leg_count, node_by, node_of}
 
 -- the leg of a feature that 64 bytes say; its heights are 0
 unfoldable pub old_leg_of : ℕ → List ℕ → LegView
@@ -36,15 +36,15 @@ is_old_leg bytes =
 
 -- leg i of a leaf
 abbrev pub old_leg_at : List ℕ → ℕ → LegView
-old_leg_at bytes i = old_leg_of (feature_of bytes) (slot 64 i bytes)
+old_leg_at bytes i = old_leg_of (leaf_feature bytes) (slot 64 i bytes)
 
 -- what a leaf's bytes say
 unfoldable pub old_leaf_of : List ℕ → LeafView LegView
 old_leaf_of bytes = record {
-  feature = feature_of bytes;
+  feature = leaf_feature bytes;
   previous = number_at 4 4 bytes;
   next = number_at 4 8 bytes;
-  legs = map (old_leg_at bytes) (range_with_len 0 (leg_count bytes));
+  legs = map (old_leg_at bytes) (range_with_len 0 (leaf_leg_count bytes));
 }
 
 -- leg i is lawful, and its ordinal is above that of the leg before it
@@ -56,8 +56,8 @@ is_old_leg_at bytes i =
 -- the form of a leaf: 1 to 63 legs, lawful, their ordinals rising
 unfoldable pub is_old_leaf : List ℕ → Bool
 is_old_leaf bytes =
-    nat_le 1 (leg_count bytes) && nat_le (leg_count bytes) 63 && (number_at 2 14 bytes == 0)
-    && all_below (is_old_leg_at bytes) (leg_count bytes)
+    nat_le 1 (leaf_leg_count bytes) && nat_le (leaf_leg_count bytes) 63 && (number_at 2 14 bytes == 0)
+    && all_below (is_old_leg_at bytes) (leaf_leg_count bytes)
 
 -- the node that bytes of a kind say
 abbrev pub old_node_by : Kind → List ℕ → Option (Node LegView BoxView)

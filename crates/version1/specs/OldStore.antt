@@ -17,9 +17,9 @@ use Rattle.version1.specs.OldLegs.{pages_of_old}
 use Rattle.register.specs.Chain.{most_used, text_at}
 use Rattle.header.specs.Fields.{FitsFields}
 use Rattle.catalogue.specs.Holding.{IsOfBook}
-use Rattle.register.specs.Lasting.{front_fault, IsLawful, IsWithin}
+use Rattle.register.specs.Lasting.{front_fault, IsLawfulCatalogue, IsWithin}
 use Rattle.header.specs.Front.{front_of}
-use Rattle.register.specs.Saved.{dimension_of, fields_for, CatalogueView}
+use Rattle.register.specs.Saved.{dimensions_of, fields_for, CatalogueView}
 use Rattle.register.specs.Saving.{contents_of}
 use Rattle.register.specs.Text.{catalogue_text, IsWhole}
 use Rattle.register.specs.declared.fault.CatalogueFault.{CatalogueFault}
@@ -77,7 +77,7 @@ pub record SaysOld (at : ℕ → Option Payload) (count : ℕ) (c : CatalogueVie
   pub fits : FitsFields (fields_for c.limits c.head tree first length)
   pub shape : IsOldShape tree.shape
   pub limits : IsLimits c.limits
-  pub dimension : dimension_of c.head ≡ 2
+  pub dimension : dimensions_of c.head ≡ 2
   pub few : div_ceil length most_used ≤ count
   pub text : text_at at length first ≡ Some (catalogue_text (contents_of c places))
 
@@ -90,7 +90,7 @@ pub record IsKeptOld (at : ℕ → Option Payload) (count : ℕ) (c : CatalogueV
   pub finished : old_payload_fault (at 0) ≡ None
   pub within : IsWithin count tree
   pub works : tree.spent ≡ false
-  pub lawful : IsLawful count c places
+  pub lawful : IsLawfulCatalogue count c places
 
 -- the pages of a finished store of version 1 hold a book under limits: they keep its catalogue, and a tree of that
 -- shape that holds its legs

@@ -10,7 +10,7 @@ ghost use Rattle.pages.specs.Store.{IsLawful, Stays};
 ghost use Rattle.pagecache.specs.Cache.{stored_payload};
 ghost use Rattle.treecheck.specs.Check.{HoldChains};
 ghost use Rattle.treecheck.specs.Checking.{Agree};
-ghost use Rattle.boxsearch.specs.Index.{content, words, IsMarked, IsSound};
+ghost use Rattle.boxsearch.specs.Index.{content, words, IsMarked, IsSoundIndex};
 ghost use Rattle.version1.specs.OldLegs.{pages_of_old};
 ghost use Rattle.catalogue.specs.Holding.{AnswersBook, IsUnfinishedStore};
 ghost use Rattle.register.specs.Lasting.{ComesFirst, IsBehindFirst, IsStop};
@@ -114,16 +114,16 @@ fn bring_legs<S: PageStore, T: PageStore>(
     index: TreeIndex<T>,
 ) -> Result<TreeIndex<T>, (T, CatalogueFault)>
     requires leaf { 2 ≤ leaf }
-    ensures brought { IfOk result (λ new. IsTrue (S.seen old.old).is_faithful → IsSound index
-        → content index ≡ [] → IsSound new × HoldChains (pages_of_old (S.seen old.old))
+    ensures brought { IfOk result (λ new. IsTrue (S.seen old.old).is_faithful → IsSoundIndex index
+        → content index ≡ [] → IsSoundIndex new × HoldChains (pages_of_old (S.seen old.old))
         leaf tracks.now.rows tracks.now.legs places.now tracks.now.tracks (content new)) }
-    ensures marked { IfOk result (λ new. IsTrue (S.seen old.old).is_faithful → IsSound index
+    ensures marked { IfOk result (λ new. IsTrue (S.seen old.old).is_faithful → IsSoundIndex index
         → content index ≡ [] → IsMarked index.cache → IsMarked new.cache) }
     ensures later { IfOk result (λ new. IsLater words index new) }
     ensures unfinished { IfErr result (λ back. IsTrue (S.seen old.old).is_faithful
-        → IsSound index → content index ≡ [] → IsMarked index.cache
+        → IsSoundIndex index → content index ≡ [] → IsMarked index.cache
         → IsUnfinishedStore (T.seen back.0)) }
-    ensures only { IfErr result (λ back. IsTrue (S.seen old.old).is_faithful → IsSound index
+    ensures only { IfErr result (λ back. IsTrue (S.seen old.old).is_faithful → IsSoundIndex index
         → content index ≡ [] → Agree tracks.now tracks.now.rows tracks.now.legs
         → (legs : List LegView) → HoldChains (pages_of_old (S.seen old.old)) leaf tracks.now.rows
         tracks.now.legs places.now tracks.now.tracks legs → IsSavingStop back.1) }

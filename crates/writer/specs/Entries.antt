@@ -3,7 +3,7 @@ use Rattle.std.specs.Prelude.{List, ℕ}
 use Rattle.legs.specs.Legs.{LegView}
 
 -- a leg with the name of its feature and the attribute values of its record
-pub record EntryView : Type 0 where
+pub record NamedLegView : Type 0 where
   pub name : List ℕ
   pub leg : LegView
   pub values : List (List ℕ)

@@ -8,7 +8,7 @@ use Rattle.mfcsv.specs.declared.Dimension.{Dimension}
 use Rattle.mfcsv.specs.declared.Dimension.TheVariants.{Two, Three}
 use Rattle.mfcsv.specs.declared.Position.{Position}
 use Rattle.legs.specs.declared.head.BookHead.{BookHead}
-use Rattle.writer.specs.Entries.{EntryView}
+use Rattle.writer.specs.Entries.{NamedLegView}
 use Rattle.writer.specs.Records.{record_text, leg_record, point_text}
 use Rattle.writer.specs.declared.entry.Frame.{Frame}
 
@@ -17,15 +17,15 @@ abbrev pub features_text : List (List ℕ) → List ℕ
 features_text names = flat_map (λ name. record_text (name ∷ [])) names
 
 -- the x of both ends of all legs, the y, and the z
-abbrev pub xs : List EntryView → List ℤ
+abbrev pub xs : List NamedLegView → List ℤ
 xs entries = flat_map (λ e. e.leg.x0 ∷ e.leg.x1 ∷ []) entries
 
 -- the y of the two ends of all legs
-abbrev pub ys : List EntryView → List ℤ
+abbrev pub ys : List NamedLegView → List ℤ
 ys entries = flat_map (λ e. e.leg.y0 ∷ e.leg.y1 ∷ []) entries
 
 -- the z of the two ends of all legs
-abbrev pub zs : List EntryView → List ℤ
+abbrev pub zs : List NamedLegView → List ℤ
 zs entries = flat_map (λ e. e.leg.z0 ∷ e.leg.z1 ∷ []) entries
 
 -- the first of numbers, 0 where there are none
@@ -42,7 +42,7 @@ abbrev pub greatest : List ℤ → ℤ
 greatest ns = fold int_max (first_or_zero ns) ns
 
 -- the greatest end of all legs, or the base where that is later
-abbrev pub end_from : ℤ → List EntryView → ℤ
+abbrev pub end_from : ℤ → List NamedLegView → ℤ
 end_from base entries = fold int_max base (map (λ e. e.leg.t1) entries)
 
 -- a dimension as it is printed
@@ -51,17 +51,17 @@ dimension_text Two = codes "2D"
 dimension_text Three = codes "3D"
 
 -- the least coordinates of all legs
-abbrev pub lower_corner : List EntryView → Position
+abbrev pub lower_corner : List NamedLegView → Position
 lower_corner entries =
     record { x = least (xs entries); y = least (ys entries); z = least (zs entries) }
 
 -- the greatest coordinates of all legs
-abbrev pub upper_corner : List EntryView → Position
+abbrev pub upper_corner : List NamedLegView → Position
 upper_corner entries =
     record { x = greatest (xs entries); y = greatest (ys entries); z = greatest (zs entries) }
 
 -- the fields of `@stboundedby`: the corners, the base and the end of all legs
-unfoldable pub bounds_fields : BookHead → List EntryView → List (List ℕ)
+unfoldable pub bounds_fields : BookHead → List NamedLegView → List (List ℕ)
 bounds_fields head entries =
     codes "@stboundedby" ∷ head.crs ∷ dimension_text head.dimension
     ∷ point_text head.dimension (lower_corner entries)
@@ -78,11 +78,11 @@ columns_fields head =
     codes "@columns" ∷ codes "mfidref" ∷ codes "trajectory" ∷ column_fields head.columns
 
 -- the record of an entry, its times as offsets from the base
-abbrev pub entry_record : Frame → EntryView → List ℕ
+abbrev pub entry_record : Frame → NamedLegView → List ℕ
 entry_record frame e = leg_record e.name frame e.leg e.values
 
 -- the records of entries
-abbrev pub entries_text : Frame → List EntryView → List ℕ
+abbrev pub entries_text : Frame → List NamedLegView → List ℕ
 entries_text frame entries = flat_map (entry_record frame) entries
 
 -- the dimension of a head, and its base
@@ -90,7 +90,7 @@ abbrev pub frame_of : BookHead → Frame
 frame_of head = record { dimension = head.dimension; base = head.base }
 
 -- the records of a file: its two header lines, then each leg's
-unfoldable pub file_text : BookHead → List EntryView → List ℕ
+unfoldable pub file_text : BookHead → List NamedLegView → List ℕ
 file_text head entries =
     record_text (bounds_fields head entries) ++ record_text (columns_fields head)
     ++ entries_text (frame_of head) entries

@@ -27,13 +27,13 @@ abbrev pub begin_of : LegView → Position
 begin_of leg = record { x = leg.x0; y = leg.y0; z = leg.z0 }
 
 -- where a leg ends
-abbrev pub end_of : LegView → Position
-end_of leg = record { x = leg.x1; y = leg.y1; z = leg.z1 }
+abbrev pub last_position : LegView → Position
+last_position leg = record { x = leg.x1; y = leg.y1; z = leg.z1 }
 
 -- both positions of a leg
 abbrev pub positions_text : Dimension → LegView → List ℕ
 positions_text dimension leg =
-    point_text dimension (begin_of leg) ++ 32 ∷ [] ++ point_text dimension (end_of leg)
+    point_text dimension (begin_of leg) ++ 32 ∷ [] ++ point_text dimension (last_position leg)
 
 -- a leg's fields: its feature's name, its start and end as offsets in seconds from the base, its
 -- positions, the attribute values of its record

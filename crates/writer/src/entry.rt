@@ -21,9 +21,9 @@ pub struct Entry<'a> {
 }
 
 impl<'a> Model for Entry<'a> {
-    ghost use Rattle.writer.specs.Entries.{EntryView};
+    ghost use Rattle.writer.specs.Entries.{NamedLegView};
 
-    ghost Value = { EntryView };
+    ghost Value = { NamedLegView };
 
     ghost view = { λ a. record { name = a.name.now; leg = a.leg.now; values = a.values } };
 }

@@ -1,7 +1,7 @@
 //! A leg's record.
 ghost use Rattle.std.specs.Prelude.{false, replicate, ◌≡◌, ◌++◌, ◌∷◌, [], ◌-ℤ◌, IfOk, OnOk, map};
 ghost use Rattle.fixedpoint.specs.NumberText.{coord_text, offset_text};
-ghost use Rattle.writer.specs.Records.{begin_of, end_of, leg_record, point_text, positions_text};
+ghost use Rattle.writer.specs.Records.{begin_of, last_position, leg_record, point_text, positions_text};
 ghost use Rattle.writer.specs.Written.{written};
 
 use crate::entry::Frame;
@@ -68,7 +68,7 @@ pub(crate) fn begin_of(leg: &Leg) -> Position
 
 /// Where a leg ends.
 fn end_of(leg: &Leg) -> Position
-    ensures { result ≡ end_of leg.now }
+    ensures { result ≡ last_position leg.now }
 {
     Position {
         x: leg.x1,

@@ -1,14 +1,14 @@
 //! The cases that the lines give.
 use crate::numbers::Numbers;
 use std::alloc::{AllocError, Global};
-use zones::{Course, Place, Position, Ring};
+use zones::{Course, CoursePlace, Position, Ring};
 
 /// A course, the part of it that is asked for, and a zone.
 #[derive(Drop)]
 pub struct Case {
     pub course: Course,
-    pub first: Place,
-    pub last: Place,
+    pub first: CoursePlace,
+    pub last: CoursePlace,
     pub rings: Vec<Ring>,
 }
 
@@ -18,10 +18,10 @@ pub fn position(numbers: &mut Numbers) -> Option<Position> {
     Position::new(x, y)
 }
 
-fn place(numbers: &mut Numbers) -> Option<Place> {
+fn place(numbers: &mut Numbers) -> Option<CoursePlace> {
     let num = numbers.take()?;
     let den = numbers.take()?;
-    Place::new(num as i128, den as i128)
+    CoursePlace::new(num as i128, den as i128)
 }
 
 fn ring(alloc: Global, numbers: &mut Numbers) -> Result<Option<Ring>, AllocError> {
@@ -55,8 +55,8 @@ pub fn rings(alloc: Global, numbers: &mut Numbers) -> Result<Option<Vec<Ring>>, 
 #[derive(Drop)]
 struct Asked {
     course: Course,
-    first: Place,
-    last: Place,
+    first: CoursePlace,
+    last: CoursePlace,
 }
 
 fn asked_of(numbers: &mut Numbers) -> Option<Asked> {

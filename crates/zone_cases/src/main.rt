@@ -19,11 +19,11 @@ use leg_cases::{LegCase, read_gate_case, read_leg_case};
 use mfcsv::Position;
 use std::alloc::{AllocError, Global};
 use std::io::{self, BufRead, BufReader};
-use zones::{Cut, Place, stays};
+use zones::{CoursePlace, Cut, stays};
 use zoning::{Moment, Side, Stay};
 
 /// Prints a place in lowest terms.
-fn print_place(rt: &impl Print, place: &Place) -> io::Result<()> {
+fn print_place(rt: &impl Print, place: &CoursePlace) -> io::Result<()> {
     if place.num < 0 {
         print!(rt; "-")?;
     }

@@ -1,3 +1,4 @@
 pub mod Sides
 pub mod NearLemmas
 pub mod PartLemmas
+pub mod CourseLemmas

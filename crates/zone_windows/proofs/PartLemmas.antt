@@ -34,9 +34,6 @@ in_both window other h p i =
 pub through : (window other : Window) → Holds window other → (near rings whole : List (List Corner)) → AgreeIn other near rings → AgreeIn window rings whole → AgreeIn other near whole
 through window other h near rings whole a b p i = a p i ∙ b p (in_both window other h p i)
 
-pub agree_both : (window : Window) (one two three : List (List Corner)) → AgreeIn window one two → AgreeIn window two three → AgreeIn window one three
-agree_both window one two three a b p i = a p i ∙ b p i
-
 -- the rings of a part agree with the zone in each window that the part's has
 pub part_agrees : (whole : List (List Corner)) (part : Part) (window : Window) → IsPartOf whole part → Holds part.window window → AgreeIn window part.rings.items whole
 part_agrees whole part window is h p i = is.agree p (in_both part.window window h p i)

@@ -1,9 +1,8 @@
-//! Windows: for each window of the plane a zone with fewer corners that is the same zone in the window.
+//! Windows: for each course a zone with fewer corners that is the same zone on the course.
 #![tactic(auto)]
 
 mod near;
 mod part;
 mod windows;
 
-pub use near::{Window, rings_near};
 pub use windows::Windows;

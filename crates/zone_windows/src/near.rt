@@ -1,21 +1,30 @@
-//! A zone without corners that are far from a window.
-ghost use Rattle.std.specs.Prelude.{◌≡◌, ◌++◌, IfOk, OnOk};
+//! A zone without corners that are far from a window, or on one side of a course's line.
+ghost use Rattle.std.specs.Prelude.{◌≡◌, ◌++◌, ◌*ℤ◌, ◌-ℤ◌, IfOk, OnOk};
 ghost use Rattle.std.specs.List.{list_all};
-ghost use Rattle.zone_windows.specs.Near.{AgreeIn, are_above, are_below, are_left, are_right};
-ghost use Rattle.zone_windows.specs.Near.{is_above, is_below, is_left, is_right, is_far};
-ghost use Rattle.zone_windows.specs.Near.{is_needless, is_ring_far, near_ring, ring_kept};
+ghost use Rattle.zones.specs.Places.{IsCoordinate};
+ghost use Rattle.zone_windows.specs.Near.{AgreeAlong, AgreeIn, across, along, are_above, are_below, are_left, are_right};
+ghost use Rattle.zone_windows.specs.Near.{are_port, are_starboard, is_above, is_below, is_left, is_port, is_right, is_starboard};
+ghost use Rattle.zone_windows.specs.Near.{is_far, is_needless, is_ring_far, near_ring, ring_kept};
 
 use std::alloc::{AllocError, Global};
-use zones::{Position, Ring};
+use zones::{Course, Position, Ring};
 
 /// The points from `left` to `right` and from `low` to `high`, all four among them.
-#[derive(Clone, Copy, PartialEq, Eq, Debug)]
-pub struct Window {
-    pub left: i64,
-    pub right: i64,
-    pub low: i64,
-    pub high: i64,
+#[derive(Clone, Copy)]
+pub(crate) struct Window {
+    pub(crate) left: i64,
+    pub(crate) right: i64,
+    pub(crate) low: i64,
+    pub(crate) high: i64,
 }
+
+/// A course that stands still: no corner is on a side of it.
+const STILL: Course = Course {
+    x0: 0,
+    y0: 0,
+    x1: 0,
+    y1: 0,
+};
 
 /// Whether a corner is above the window.
 fn is_above(window: Window, corner: &Position) -> bool
@@ -77,29 +86,108 @@ fn are_right(window: Window, one: &Position, two: &Position, three: &Position) -
     is_right(window, one) && is_right(window, two) && is_right(window, three)
 }
 
-/// Whether three corners are all above the window, all below it, all left of it or all right of it.
-fn is_far(window: Window, one: &Position, two: &Position, three: &Position) -> bool
-    ensures { result ≡ is_far window one.now two.now three.now }
+/// a - b.
+fn difference(a: i64, b: i64) -> i64
+    requires a_in { IsCoordinate a }
+    requires b_in { IsCoordinate b }
+    ensures { result ≡ a -ℤ b }
+{
+    a - b
+}
+
+/// a * b.
+fn product(a: i64, b: i64) -> i128
+    ensures { result ≡ a *ℤ b }
+{
+    a as i128 * b as i128
+}
+
+/// The greater of two products where a corner is left of the course's line.
+fn along(course: &Course, corner: &Position) -> i128
+    ensures { result ≡ along course.now corner.now }
+{
+    product(
+        difference(course.x1, course.x0),
+        difference(corner.y, course.y0),
+    )
+}
+
+/// The greater where it is right.
+fn across(course: &Course, corner: &Position) -> i128
+    ensures { result ≡ across course.now corner.now }
+{
+    product(
+        difference(course.y1, course.y0),
+        difference(corner.x, course.x0),
+    )
+}
+
+/// Whether a corner is left of the course's line.
+fn is_port(course: &Course, corner: &Position) -> bool
+    ensures { result ≡ is_port course.now corner.now }
+{
+    along(course, corner) > across(course, corner)
+}
+
+/// Whether a corner is right of it.
+fn is_starboard(course: &Course, corner: &Position) -> bool
+    ensures { result ≡ is_starboard course.now corner.now }
+{
+    along(course, corner) < across(course, corner)
+}
+
+/// Whether three corners are left of the course's line.
+#[tactic(auto, unfolding(crate::specs::Near::are_port))]
+fn are_port(course: &Course, one: &Position, two: &Position, three: &Position) -> bool
+    ensures { result ≡ are_port course.now one.now two.now three.now }
+{
+    is_port(course, one) && is_port(course, two) && is_port(course, three)
+}
+
+/// Whether three corners are right of it.
+#[tactic(auto, unfolding(crate::specs::Near::are_starboard))]
+fn are_starboard(course: &Course, one: &Position, two: &Position, three: &Position) -> bool
+    ensures { result ≡ are_starboard course.now one.now two.now three.now }
+{
+    is_starboard(course, one) && is_starboard(course, two) && is_starboard(course, three)
+}
+
+/// Whether three corners are all on one side of the window, or of the course's line.
+fn is_far(window: Window, course: &Course, one: &Position, two: &Position, three: &Position) -> bool
+    ensures { result ≡ is_far window course.now one.now two.now three.now }
 {
     are_above(window, one, two, three)
         || are_below(window, one, two, three)
         || are_left(window, one, two, three)
         || are_right(window, one, two, three)
+        || are_port(course, one, two, three)
+        || are_starboard(course, one, two, three)
 }
 
 /// Whether a corner may be left out, between the one that stayed before it and the first of those behind it.
-fn is_needless(window: Window, before: &Position, corner: &Position, behind: &[Position]) -> bool
-    ensures { result ≡ is_needless window before.now corner.now behind.now }
+fn is_needless(
+    window: Window,
+    course: &Course,
+    before: &Position,
+    corner: &Position,
+    behind: &[Position],
+) -> bool
+    ensures { result ≡ is_needless window course.now before.now corner.now behind.now }
 {
     match behind {
-        [next, ..] => is_far(window, before, corner, next),
+        [next, ..] => is_far(window, course, before, corner, next),
         [] => false,
     }
 }
 
-/// The ring without corners that are far from the window.
-fn ring_near(alloc: Global, ring: &Ring, window: Window) -> Result<Ring, AllocError>
-    ensures { IfOk result (λ near. near ≡ near_ring window ring.now) }
+/// The ring without corners that may be left out.
+fn ring_near(
+    alloc: Global,
+    ring: &Ring,
+    window: Window,
+    course: &Course,
+) -> Result<Ring, AllocError>
+    ensures { IfOk result (λ near. near ≡ near_ring window course.now ring.now) }
 {
     let mut near = Vec::new(alloc);
     let corners = ring.corners();
@@ -110,7 +198,7 @@ fn ring_near(alloc: Global, ring: &Ring, window: Window) -> Result<Ring, AllocEr
     let mut left = corners;
     'corners: while let [corner, behind @ ..] = left {
         left = behind;
-        if is_needless(window, &before, corner, behind) {
+        if is_needless(window, course, &before, corner, behind) {
             continue;
         }
         near.push(*corner)?;
@@ -164,25 +252,41 @@ fn push_ring_near(
     near: &mut Vec<Ring>,
     ring: &Ring,
     window: Window,
+    course: &Course,
 ) -> Result<(), AllocError>
     ensures { OnOk result (near.new.items
-        ≡ near.old.items ++ ring_kept window ring.now) }
+        ≡ near.old.items ++ ring_kept window course.now ring.now) }
 {
     if is_ring_far(ring, window) {
         return Ok(());
     }
-    let kept = ring_near(alloc, ring, window)?;
+    let kept = ring_near(alloc, ring, window, course)?;
     Ok(near.push(kept)?)
 }
 
-/// The rings of a zone without corners that are far from the window.
-pub fn rings_near(alloc: Global, rings: &[Ring], window: Window) -> Result<Vec<Ring>, AllocError>
-    // At each point in the window the two zones are one.
-    ensures { IfOk result (λ near. AgreeIn window near.items rings.now) }
+/// The rings without corners that do not count on the course's line in the window.
+pub(crate) fn rings_along(
+    alloc: Global,
+    rings: &[Ring],
+    window: Window,
+    course: &Course,
+) -> Result<Vec<Ring>, AllocError>
+    ensures { IfOk result (λ near. AgreeAlong window course.now near.items rings.now) }
 {
     let mut near = Vec::new(alloc);
     for ring in rings {
-        push_ring_near(alloc, &mut near, ring, window)?;
+        push_ring_near(alloc, &mut near, ring, window, course)?;
     }
     Ok(near)
+}
+
+/// The rings of a zone without corners that are far from the window.
+pub(crate) fn rings_near(
+    alloc: Global,
+    rings: &[Ring],
+    window: Window,
+) -> Result<Vec<Ring>, AllocError>
+    ensures { IfOk result (λ near. AgreeIn window near.items rings.now) }
+{
+    rings_along(alloc, rings, window, &STILL)
 }

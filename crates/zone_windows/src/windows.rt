@@ -1,11 +1,12 @@
 //! Windows of a zone, each cut in two as long as that leaves out corners.
 ghost use Rattle.std.specs.Prelude.{OnOk, ◌≡◌, ◌++◌, [], ◌∷◌};
+ghost use Rattle.zone_windows.specs.Near.{window_of};
 
-use crate::near::{Window, rings_near};
+use crate::near::{Window, rings_along};
 use crate::part::{Cut, MOST_DEPTH, Part};
 use std::alloc::{AllocError, Global};
 use std::marker::Model;
-use zones::Ring;
+use zones::{Course, Ring};
 
 /// The most parts that are cut.
 const MOST_CUTS: usize = 65536;
@@ -37,6 +38,18 @@ impl Model for Windows {
     ghost invariant = { λ a. ArePartsOf a.whole.items a.parts.items };
 }
 
+/// The least window with the course.
+fn window_of(course: &Course) -> Window
+    ensures { result ≡ window_of course.now }
+{
+    Window {
+        left: course.x0.min(course.x1),
+        right: course.x0.max(course.x1),
+        low: course.y0.min(course.y1),
+        high: course.y0.max(course.y1),
+    }
+}
+
 /// Appends both parts of a cut.
 fn push_cut(parts: &mut Vec<Part>, cut: Cut) -> Result<(), AllocError>
     ensures { OnOk result (parts.new.items ≡ (parts.old.items ++ cut.first ∷ []) ++ cut.second ∷ []) }
@@ -48,7 +61,7 @@ fn push_cut(parts: &mut Vec<Part>, cut: Cut) -> Result<(), AllocError>
 
 impl Windows {
     ghost use Rattle.std.specs.Prelude.{◌≡◌, IfOk};
-    ghost use Rattle.zone_windows.specs.Near.{AgreeIn};
+    ghost use Rattle.zone_windows.specs.Near.{AgreeIn, AgreeOn};
 
     /// The windows of a zone's rings.
     pub fn of(alloc: Global, rings: Vec<Ring>) -> Result<Windows, AllocError>
@@ -127,11 +140,12 @@ impl Windows {
         }
     }
 
-    /// The rings near a window.
-    pub fn near(&self, alloc: Global, window: Window) -> Result<Vec<Ring>, AllocError>
-        // At each point in the window their zone is the whole zone.
-        ensures { IfOk result (λ near. AgreeIn window near.items self.now) }
+    /// The rings near a course.
+    pub fn near(&self, alloc: Global, course: &Course) -> Result<Vec<Ring>, AllocError>
+        // At each place on the course their zone is the whole zone.
+        ensures { IfOk result (λ near. AgreeOn course.now near.items self.now) }
     {
-        rings_near(alloc, self.rings_in(window), window)
+        let window = window_of(course);
+        rings_along(alloc, self.rings_in(window), window, course)
     }
 }

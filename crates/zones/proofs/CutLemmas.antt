@@ -1,12 +1,12 @@
 -- Cuts so far, and one more.
 use Rattle.std.proofs.Common.{true, false, Bool, ◌≡◌, ◌⊎◌, inl, inr, ◌↔◌, List, [], ◌∷◌, ◌++◌, ℤ, pos, ◌*ℤ◌, ◌<ℤ◌, ◌≤ℤ◌, arith}
 use Rattle.std.proofs.lemmas.Int.{ints, by_lt_z}
-use Rattle.zones.specs.declared.cuts.Place.{Place}
+use Rattle.zones.specs.declared.cuts.CoursePlace.{CoursePlace}
 use Rattle.zones.specs.declared.cuts.Cut.{Cut}
 use Rattle.zones.specs.Places.{Corner, CourseView, point_at}
 use Rattle.zones.specs.Zones.{in_zone}
 use Rattle.zones.specs.Stays.{IsStay, IsEntry, IsNever, IsOutAfter}
-use Rattle.zones.specs.Cuts.{IsWithin, IsHeld, AllAfter, AllApart, AllBetween, IsStays}
+use Rattle.zones.specs.Cuts.{IsWithinCut, IsHeld, AllAfter, AllApart, AllBetween, IsStays}
 use Rattle.zones.proofs.Products.{scale_strictly, swap}
 use Rattle.zones.proofs.Orders.{scale, less_back}
 use Rattle.zones.proofs.Shrinking.{through}
@@ -28,7 +28,7 @@ le_less a b c d e f p q r h k =
     less_back (a *ℤ f) (e *ℤ b) d q (omega (arith, ints, x, y, swap a d f, swap c b f, swap e d b))
 
 -- all of the cuts end before the place
-abbrev pub AllBefore : Place → List Cut → Type 0
+abbrev pub AllBefore : CoursePlace → List Cut → Type 0
 AllBefore place [] = Unit {0}
 AllBefore place (cut ∷ cuts) = ((cut.hi.num *ℤ place.den) <ℤ (place.num *ℤ cut.hi.den)) × AllBefore place cuts
 
@@ -37,22 +37,22 @@ held_first [] c n d h = absurd h
 held_first (x ∷ xs) c n d (inl h) = inl h
 held_first (x ∷ xs) c n d (inr h) = inr (held_first xs c n d h)
 
-held_last : (cs : List Cut) (c : Cut) (n d : ℤ) → IsWithin c n d → IsHeld (cs ++ (c ∷ [])) n d
+held_last : (cs : List Cut) (c : Cut) (n d : ℤ) → IsWithinCut c n d → IsHeld (cs ++ (c ∷ [])) n d
 held_last [] c n d h = inl h
 held_last (x ∷ xs) c n d h = inr (held_last xs c n d h)
 
-held_split : (cs : List Cut) (c : Cut) (n d : ℤ) → IsHeld (cs ++ (c ∷ [])) n d → IsHeld cs n d ⊎ IsWithin c n d
+held_split : (cs : List Cut) (c : Cut) (n d : ℤ) → IsHeld (cs ++ (c ∷ [])) n d → IsHeld cs n d ⊎ IsWithinCut c n d
 held_split [] c n d (inl h) = inr h
 held_split [] c n d (inr h) = absurd h
 held_split (x ∷ xs) c n d (inl h) = inl (inl h)
 held_split (x ∷ xs) c n d (inr h) = more (held_split xs c n d h)
   where
-    more : IsHeld xs n d ⊎ IsWithin c n d → IsHeld (x ∷ xs) n d ⊎ IsWithin c n d
+    more : IsHeld xs n d ⊎ IsWithinCut c n d → IsHeld (x ∷ xs) n d ⊎ IsWithinCut c n d
     more (inl k) = inl (inr k)
     more (inr k) = inr k
 
 -- no cut that ends before a place holds it or a later one
-not_held : (p : Place) (cs : List Cut) (n d : ℤ) → pos 0 <ℤ d → AllBefore p cs → (p.num *ℤ d) ≤ℤ (n *ℤ p.den) → IsHeld cs n d → ⊥
+not_held : (p : CoursePlace) (cs : List Cut) (n d : ℤ) → pos 0 <ℤ d → AllBefore p cs → (p.num *ℤ d) ≤ℤ (n *ℤ p.den) → IsHeld cs n d → ⊥
 not_held p [] n d z b from h = h
 not_held p (x ∷ xs) n d z b from (inl h) =
     let l : (x.hi.num *ℤ d) <ℤ (n *ℤ x.hi.den) = less_le x.hi.num x.hi.den p.num p.den n d x.hi.positive p.positive z b.0 from in
@@ -60,7 +60,7 @@ not_held p (x ∷ xs) n d z b from (inl h) =
     absurd (omega (arith, ints, l, g))
 not_held p (x ∷ xs) n d z b from (inr h) = not_held p xs n d z b.1 from h
 
-after_more : (p : Place) (cs : List Cut) (c : Cut) → AllAfter p cs → (p.num *ℤ c.lo.den) <ℤ (c.lo.num *ℤ p.den) → AllAfter p (cs ++ (c ∷ []))
+after_more : (p : CoursePlace) (cs : List Cut) (c : Cut) → AllAfter p cs → (p.num *ℤ c.lo.den) <ℤ (c.lo.num *ℤ p.den) → AllAfter p (cs ++ (c ∷ []))
 after_more p [] c a h = (h, tt)
 after_more p (x ∷ xs) c a h = (a.0, after_more p xs c a.1 h)
 
@@ -68,20 +68,20 @@ apart_more : (cs : List Cut) (c : Cut) → AllApart cs → AllBefore c.lo cs →
 apart_more [] c a b = (tt, tt)
 apart_more (x ∷ xs) c a b = (after_more x.hi xs c a.0 b.0, apart_more xs c a.1 b.1)
 
-before_later : (p q : Place) (cs : List Cut) → (p.num *ℤ q.den) ≤ℤ (q.num *ℤ p.den) → AllBefore p cs → AllBefore q cs
+before_later : (p q : CoursePlace) (cs : List Cut) → (p.num *ℤ q.den) ≤ℤ (q.num *ℤ p.den) → AllBefore p cs → AllBefore q cs
 before_later p q [] h b = tt
 before_later p q (x ∷ xs) h b = (less_le x.hi.num x.hi.den p.num p.den q.num q.den x.hi.positive p.positive q.positive b.0 h, before_later p q xs h b.1)
 
-before_more : (p : Place) (cs : List Cut) (c : Cut) → AllBefore p cs → (c.hi.num *ℤ p.den) <ℤ (p.num *ℤ c.hi.den) → AllBefore p (cs ++ (c ∷ []))
+before_more : (p : CoursePlace) (cs : List Cut) (c : Cut) → AllBefore p cs → (c.hi.num *ℤ p.den) <ℤ (p.num *ℤ c.hi.den) → AllBefore p (cs ++ (c ∷ []))
 before_more p [] c b h = (h, tt)
 before_more p (x ∷ xs) c b h = (b.0, before_more p xs c b.1 h)
 
-between_more : (p q : Place) (cs : List Cut) (c : Cut) → AllBetween p q cs → (p.num *ℤ c.lo.den) ≤ℤ (c.lo.num *ℤ p.den) → (c.hi.num *ℤ q.den) ≤ℤ (q.num *ℤ c.hi.den) → AllBetween p q (cs ++ (c ∷ []))
+between_more : (p q : CoursePlace) (cs : List Cut) (c : Cut) → AllBetween p q cs → (p.num *ℤ c.lo.den) ≤ℤ (c.lo.num *ℤ p.den) → (c.hi.num *ℤ q.den) ≤ℤ (q.num *ℤ c.hi.den) → AllBetween p q (cs ++ (c ∷ []))
 between_more p q [] c b h k = (h, k, tt)
 between_more p q (x ∷ xs) c b h k = (b.0, b.1, between_more p q xs c b.2 h k)
 
 -- one cut more, at one fraction
-exact_more : (b : Bool) (cs : List Cut) (c : Cut) (from : Place) (n d : ℤ) → pos 0 <ℤ d → AllBefore from cs → (from.num *ℤ c.lo.den) ≤ℤ (c.lo.num *ℤ from.den)
+exact_more : (b : Bool) (cs : List Cut) (c : Cut) (from : CoursePlace) (n d : ℤ) → pos 0 <ℤ d → AllBefore from cs → (from.num *ℤ c.lo.den) ≤ℤ (c.lo.num *ℤ from.den)
     → ((n *ℤ from.den) <ℤ (from.num *ℤ d) → (b ≡ true) ↔ IsHeld cs n d)
     → ((from.num *ℤ d) ≤ℤ (n *ℤ from.den) → (n *ℤ c.lo.den) <ℤ (c.lo.num *ℤ d) → b ≡ false)
     → ((c.lo.num *ℤ d) ≤ℤ (n *ℤ c.lo.den) → (n *ℤ c.hi.den) ≤ℤ (c.hi.num *ℤ d) → b ≡ true)
@@ -108,19 +108,19 @@ exact_more b cs c from n d z below up old before inside outside =
     no : b ≡ true → b ≡ false → ⊥
     no p q = cc
 
-    early_only : (n *ℤ from.den) <ℤ (from.num *ℤ d) → ((b ≡ true) ↔ IsHeld cs n d) → IsHeld cs n d ⊎ IsWithin c n d → b ≡ true
+    early_only : (n *ℤ from.den) <ℤ (from.num *ℤ d) → ((b ≡ true) ↔ IsHeld cs n d) → IsHeld cs n d ⊎ IsWithinCut c n d → b ≡ true
     early_only e t (inl h) = t.1 h
     early_only e t (inr w) =
         let l : (n *ℤ c.lo.den) <ℤ (c.lo.num *ℤ d) = less_le n d from.num from.den c.lo.num c.lo.den z from.positive c.lo.positive e up in
         let k = w.after in
         absurd (omega (arith, ints, l, k))
 
-    none : (from.num *ℤ d) ≤ℤ (n *ℤ from.den) → (IsWithin c n d → ⊥) → IsHeld cs n d ⊎ IsWithin c n d → b ≡ true
+    none : (from.num *ℤ d) ≤ℤ (n *ℤ from.den) → (IsWithinCut c n d → ⊥) → IsHeld cs n d ⊎ IsWithinCut c n d → b ≡ true
     none late f (inl h) = absurd (not_held from cs n d z below late h)
     none late f (inr w) = absurd (f w)
 
 -- what is known of the cuts up to a place, without it
-pub record IsSoFar (rings : List (List Corner)) (course : CourseView) (first last from : Place) (cuts : List Cut) : Type 0 where
+pub record IsSoFar (rings : List (List Corner)) (course : CourseView) (first last from : CoursePlace) (cuts : List Cut) : Type 0 where
   pub start : (first.num *ℤ from.den) ≤ℤ (from.num *ℤ first.den)
   pub order : (from.num *ℤ last.den) ≤ℤ (last.num *ℤ from.den)
   pub apart : AllApart cuts
@@ -130,7 +130,7 @@ pub record IsSoFar (rings : List (List Corner)) (course : CourseView) (first las
       (n d : ℤ) → pos 0 <ℤ d → (first.num *ℤ d) ≤ℤ (n *ℤ first.den) → (n *ℤ from.den) <ℤ (from.num *ℤ d)
       → (in_zone rings (point_at course n d) ≡ true) ↔ IsHeld cuts n d
 
-pub so_far_none : (rings : List (List Corner)) (course : CourseView) (first last : Place) → (first.num *ℤ last.den) ≤ℤ (last.num *ℤ first.den) → IsSoFar rings course first last first []
+pub so_far_none : (rings : List (List Corner)) (course : CourseView) (first last : CoursePlace) → (first.num *ℤ last.den) ≤ℤ (last.num *ℤ first.den) → IsSoFar rings course first last first []
 so_far_none rings course first last h = record {
   start = omega (arith, ints);
   order = h;
@@ -140,7 +140,7 @@ so_far_none rings course first last h = record {
   exact = λ n d z low high. absurd (omega (arith, ints, low, high));
 }
 
-module _ (rings : List (List Corner)) (course : CourseView) (first last from next : Place) (cuts : List Cut) (cut : Cut)
+module _ (rings : List (List Corner)) (course : CourseView) (first last from next : CoursePlace) (cuts : List Cut) (cut : Cut)
     (s : IsSoFar rings course first last from cuts)
     (e : IsEntry rings course from last cut.lo)
     (t : IsStay rings course cut.lo last (record { end = cut.hi; next = next }))
@@ -179,7 +179,7 @@ module _ (rings : List (List Corner)) (course : CourseView) (first last from nex
           (λ past. let k = through n d last.num last.den cut.hi.num cut.hi.den z last.positive cut.hi.positive high over in absurd (omega (arith, ints, k, past)));
     }
 
-pub so_far_never : (rings : List (List Corner)) (course : CourseView) (first last from : Place) (cuts : List Cut)
+pub so_far_never : (rings : List (List Corner)) (course : CourseView) (first last from : CoursePlace) (cuts : List Cut)
     → IsSoFar rings course first last from cuts → IsNever rings course from last → IsStays rings course first last cuts
 so_far_never rings course first last from cuts s never = record {
   apart = s.apart;
@@ -197,7 +197,7 @@ so_far_never rings course first last from cuts s never = record {
     no b p q = cc
 
 -- where the first place is after the last, there is none between them
-pub none_between : (rings : List (List Corner)) (course : CourseView) (first last : Place) → (last.num *ℤ first.den) <ℤ (first.num *ℤ last.den) → IsStays rings course first last []
+pub none_between : (rings : List (List Corner)) (course : CourseView) (first last : CoursePlace) → (last.num *ℤ first.den) <ℤ (first.num *ℤ last.den) → IsStays rings course first last []
 none_between rings course first last h = record {
   apart = tt;
   between = tt;

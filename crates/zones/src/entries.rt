@@ -2,7 +2,7 @@
 ghost use Rattle.std.specs.Prelude.{ℤ, ◌*ℤ◌, ◌≤ℤ◌};
 ghost use Rattle.zones.specs.Entries.{IsNextEntry};
 
-use crate::cuts::{Place, fraction_of, is_before};
+use crate::cuts::{CoursePlace, fraction_of, is_before};
 use crate::inside::is_inside;
 use crate::places::{Course, Ring};
 use crate::turns::next_turn;
@@ -10,12 +10,17 @@ use crate::turns::next_turn;
 /// Where a course is in a zone first.
 #[derive(Clone, Copy, Debug)]
 pub(crate) enum Entry {
-    At(Place),
+    At(CoursePlace),
     Never,
 }
 
 /// Where a course is in a zone first, from `first` to `last`.
-pub(crate) fn next_entry(rings: &[Ring], course: &Course, first: Place, last: Place) -> Entry
+pub(crate) fn next_entry(
+    rings: &[Ring],
+    course: &Course,
+    first: CoursePlace,
+    last: CoursePlace,
+) -> Entry
     requires order { (first.num *ℤ last.den) ≤ℤ (last.num *ℤ first.den) }
     ensures { IsNextEntry rings.now course.now first last result }
 {

@@ -11,7 +11,7 @@ mod staying;
 mod tests;
 mod turns;
 
-pub use cuts::{Cut, Place};
+pub use cuts::{CoursePlace, Cut};
 pub use edges::heading;
 pub use inside::is_inside;
 pub use places::{Course, Gate, Position, Ring};

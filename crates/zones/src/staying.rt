@@ -2,7 +2,7 @@
 ghost use Rattle.std.specs.Prelude.{IfOk};
 ghost use Rattle.zones.specs.Cuts.{IsStays};
 
-use crate::cuts::{Cut, Place, is_before};
+use crate::cuts::{CoursePlace, Cut, is_before};
 use crate::entries::{Entry, next_entry};
 use crate::leaving::stay_from;
 use crate::places::{Course, Ring};
@@ -13,8 +13,8 @@ use std::alloc::{AllocError, Global};
 pub fn stays(
     rings: &[Ring],
     course: &Course,
-    first: Place,
-    last: Place,
+    first: CoursePlace,
+    last: CoursePlace,
     alloc: Global,
 ) -> Result<Vec<Cut>, AllocError>
     ensures { IfOk result (λ cuts. IsStays rings.now course.now first last cuts.items) }

@@ -5,7 +5,7 @@ ghost use Rattle.zones.specs.Places.{point_at};
 ghost use Rattle.zones.specs.Zones.{edges, zone_edges};
 ghost use Rattle.zones.specs.Turns.{sign, at, is_opposite, side, height, width, Calm, AllCalm};
 
-use crate::cuts::{Place, sign_on};
+use crate::cuts::{CoursePlace, sign_on};
 use crate::edges::{is_steep, slope_of, start_of};
 use crate::places::{Course, Position, Ring};
 use std::cmp::Ordering;
@@ -22,20 +22,20 @@ fn is_opposite(one: Ordering, other: Ordering) -> bool
 }
 
 /// The place at which c0 + c1 * s is 0.
-fn root(c0: i128, c1: i128) -> Place
+fn root(c0: i128, c1: i128) -> CoursePlace
     requires small { unsigned_abs c0 < 2 ^ 103 }
     requires small_slope { unsigned_abs c1 < 2 ^ 103 }
     requires slope { c1 ≢ pos 0 }
     ensures { at c0 c1 result.num result.den ≡ pos 0 }
 {
     if c1 > 0 {
-        return Place { num: -c0, den: c1 };
+        return CoursePlace { num: -c0, den: c1 };
     }
-    Place { num: c0, den: -c1 }
+    CoursePlace { num: c0, den: -c1 }
 }
 
 /// The place between two at which the sign of c0 + c1 * s turns round; the second if it does not.
-pub(crate) fn turn(c0: i128, c1: i128, from: Place, to: Place) -> Place
+pub(crate) fn turn(c0: i128, c1: i128, from: CoursePlace, to: CoursePlace) -> CoursePlace
     requires small { unsigned_abs c0 < 2 ^ 103 }
     requires small_slope { unsigned_abs c1 < 2 ^ 103 }
     requires order { (from.num *ℤ to.den) <ℤ (to.num *ℤ from.den) }
@@ -51,7 +51,13 @@ pub(crate) fn turn(c0: i128, c1: i128, from: Place, to: Place) -> Place
 }
 
 /// Where the course crosses an edge's line, between two places; the second where it does not.
-fn turn_of_line(from: &Position, to: &Position, course: &Course, first: Place, last: Place) -> Place
+fn turn_of_line(
+    from: &Position,
+    to: &Position,
+    course: &Course,
+    first: CoursePlace,
+    last: CoursePlace,
+) -> CoursePlace
     requires order { (first.num *ℤ last.den) <ℤ (last.num *ℤ first.den) }
     ensures after { (first.num *ℤ result.den) <ℤ (result.num *ℤ first.den) }
     ensures up_to { (result.num *ℤ last.den) ≤ℤ (last.num *ℤ result.den) }
@@ -69,7 +75,12 @@ fn turn_of_line(from: &Position, to: &Position, course: &Course, first: Place, l
 }
 
 /// Where the course passes a corner's height.
-fn turn_upwards(corner: &Position, course: &Course, first: Place, last: Place) -> Place
+fn turn_upwards(
+    corner: &Position,
+    course: &Course,
+    first: CoursePlace,
+    last: CoursePlace,
+) -> CoursePlace
     requires order { (first.num *ℤ last.den) <ℤ (last.num *ℤ first.den) }
     ensures after { (first.num *ℤ result.den) <ℤ (result.num *ℤ first.den) }
     ensures up_to { (result.num *ℤ last.den) ≤ℤ (last.num *ℤ result.den) }
@@ -86,7 +97,12 @@ fn turn_upwards(corner: &Position, course: &Course, first: Place, last: Place) -
 }
 
 /// Where the course passes a corner in x.
-fn turn_sideways(corner: &Position, course: &Course, first: Place, last: Place) -> Place
+fn turn_sideways(
+    corner: &Position,
+    course: &Course,
+    first: CoursePlace,
+    last: CoursePlace,
+) -> CoursePlace
     requires order { (first.num *ℤ last.den) <ℤ (last.num *ℤ first.den) }
     ensures after { (first.num *ℤ result.den) <ℤ (result.num *ℤ first.den) }
     ensures up_to { (result.num *ℤ last.den) ≤ℤ (last.num *ℤ result.den) }
@@ -104,7 +120,13 @@ fn turn_sideways(corner: &Position, course: &Course, first: Place, last: Place) 
 
 /// The first place between two, or the second, up to which no sign turns round that tells of an
 /// edge.
-fn turn_of_edge(from: &Position, to: &Position, course: &Course, first: Place, last: Place) -> Place
+fn turn_of_edge(
+    from: &Position,
+    to: &Position,
+    course: &Course,
+    first: CoursePlace,
+    last: CoursePlace,
+) -> CoursePlace
     requires order { (first.num *ℤ last.den) <ℤ (last.num *ℤ first.den) }
     ensures after { (first.num *ℤ result.den) <ℤ (result.num *ℤ first.den) }
     ensures up_to { (result.num *ℤ last.den) ≤ℤ (last.num *ℤ result.den) }
@@ -123,7 +145,7 @@ fn turn_of_edge(from: &Position, to: &Position, course: &Course, first: Place, l
 }
 
 /// The same of all edges of a ring.
-fn turn_round(ring: &Ring, course: &Course, first: Place, last: Place) -> Place
+fn turn_round(ring: &Ring, course: &Course, first: CoursePlace, last: CoursePlace) -> CoursePlace
     requires order { (first.num *ℤ last.den) <ℤ (last.num *ℤ first.den) }
     ensures after { (first.num *ℤ result.den) <ℤ (result.num *ℤ first.den) }
     ensures up_to { (result.num *ℤ last.den) ≤ℤ (last.num *ℤ result.den) }
@@ -146,7 +168,12 @@ fn turn_round(ring: &Ring, course: &Course, first: Place, last: Place) -> Place
 
 /// The same of all edges of a zone: between the two places the course is in the zone at all
 /// moments or at none.
-pub(crate) fn next_turn(rings: &[Ring], course: &Course, first: Place, last: Place) -> Place
+pub(crate) fn next_turn(
+    rings: &[Ring],
+    course: &Course,
+    first: CoursePlace,
+    last: CoursePlace,
+) -> CoursePlace
     requires order { (first.num *ℤ last.den) <ℤ (last.num *ℤ first.den) }
     ensures after { (first.num *ℤ result.den) <ℤ (result.num *ℤ first.den) }
     ensures up_to { (result.num *ℤ last.den) ≤ℤ (last.num *ℤ result.den) }

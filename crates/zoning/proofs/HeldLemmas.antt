@@ -1,23 +1,26 @@
 -- Stays over cuts hold the moments at the fractions that the cuts hold.
-use Rattle.std.proofs.Common.{ℕ, ◌<◌, ◌++◌, List, [], ◌∷◌, ℤ, pos, ◌-ℤ◌, ◌*ℤ◌, ◌≤ℤ◌, ◌<ℤ◌, ◌≡◌, arith, sym, subst, true, inl, inr}
+use Rattle.std.proofs.Common.{ℕ, ◌<◌, ◌++◌, ◌↔◌, All, List, [], ◌∷◌, ℤ, pos, ◌-ℤ◌, ◌*ℤ◌, ◌≤ℤ◌, ◌<ℤ◌, ◌≡◌, arith, sym, subst, true, inl, inr}
 use Rattle.std.proofs.lemmas.Int.{clamps, ints}
 use Rattle.std.proofs.lemmas.List.{append_assoc, append-nil}
+use Rattle.std.proofs.lemmas.List.Elements.{All-nil}
 use Rattle.timebase.specs.Period.{PeriodView}
-use Rattle.legs.specs.Legs.{LegView, HasMoment, first_moment, last_moment}
+use Rattle.legs.specs.Legs.{LegView, HasMoment, IsMomentOf, first_moment, last_moment}
 use Rattle.clipping.specs.Inside.{duration}
 use Rattle.clipping.proofs.Fractions.{scale, scale_strictly}
 use Rattle.clipping.proofs.Products.{products}
 use Rattle.zones.proofs.Products.{difference_times}
 use Rattle.zones.specs.Places.{Corner, CourseView, point_at}
 use Rattle.zones.specs.Zones.{in_zone}
-use Rattle.zones.specs.Cuts.{AllBetween, IsStays, IsWithin}
+use Rattle.zones.specs.Cuts.{AllBetween, IsStays, IsWithinCut}
 use Rattle.zones.specs.Cuts as cuts
-use Rattle.zones.specs.declared.cuts.Place.{Place}
+use Rattle.zones.specs.declared.cuts.CoursePlace.{CoursePlace}
 use Rattle.zones.specs.declared.cuts.Cut.{Cut}
-use Rattle.zoning.specs.Parts.{number_of}
+use Rattle.zoning.specs.Parts.{numerator_of}
 use Rattle.zoning.specs.Asking.{IsAsked}
-use Rattle.zoning.specs.Stays.{AllInside, AreOver, AreStays, IsDuring, IsHeld, IsOver}
+use Rattle.zoning.specs.Lengths.{IsNotAfter}
+use Rattle.zoning.specs.Stays.{AllInside, AreOver, AreStays, IsDuring, IsInAStay, IsInZone, IsOf, IsOver}
 use Rattle.zoning.specs.declared.stay.Stay.{Stay}
+use Rattle.zoning.proofs.ApartLemmas.{all_apart, all_forward}
 use Rattle.zoning.proofs.PartLemmas.{all_inside}
 use Rattle.zoning.proofs.Orders.{after_from, after_to, before_from, before_to}
 
@@ -35,26 +38,26 @@ module _ (leg : LegView) where
     abbrev pub whole : ℤ
     whole = pos d *ℤ duration leg
 
-    within_to : (cut : Cut) (stay : Stay) → IsOver leg cut stay → IsWithin cut part whole → IsDuring stay n d
+    within_to : (cut : Cut) (stay : Stay) → IsOver leg cut stay → IsWithinCut cut part whole → IsDuring stay n d
     within_to cut stay over h = record {
-      after = after_from (number_of stay.enters) cut.lo.num cut.lo.den (pos stay.enters.den) leg.t0 (duration leg) n (pos d) cut.lo.positive (den_positive stay.enters.den stay.enters.rest stay.enters.proper) over.enters.at h.after;
-      before = before_from (number_of stay.leaves) cut.hi.num cut.hi.den (pos stay.leaves.den) leg.t0 (duration leg) n (pos d) cut.hi.positive (den_positive stay.leaves.den stay.leaves.rest stay.leaves.proper) over.leaves.at h.before;
+      after = after_from (numerator_of stay.enters) cut.lo.num cut.lo.den (pos stay.enters.den) leg.t0 (duration leg) n (pos d) cut.lo.positive (den_positive stay.enters.den stay.enters.rest stay.enters.proper) over.enters.at h.after;
+      before = before_from (numerator_of stay.leaves) cut.hi.num cut.hi.den (pos stay.leaves.den) leg.t0 (duration leg) n (pos d) cut.hi.positive (den_positive stay.leaves.den stay.leaves.rest stay.leaves.proper) over.leaves.at h.before;
     }
 
-    within_from : (cut : Cut) (stay : Stay) → IsOver leg cut stay → IsDuring stay n d → IsWithin cut part whole
+    within_from : (cut : Cut) (stay : Stay) → IsOver leg cut stay → IsDuring stay n d → IsWithinCut cut part whole
     within_from cut stay over h = record {
-      after = after_to (number_of stay.enters) cut.lo.num cut.lo.den (pos stay.enters.den) leg.t0 (duration leg) n (pos d) cut.lo.positive (den_positive stay.enters.den stay.enters.rest stay.enters.proper) over.enters.at h.after;
-      before = before_to (number_of stay.leaves) cut.hi.num cut.hi.den (pos stay.leaves.den) leg.t0 (duration leg) n (pos d) cut.hi.positive (den_positive stay.leaves.den stay.leaves.rest stay.leaves.proper) over.leaves.at h.before;
+      after = after_to (numerator_of stay.enters) cut.lo.num cut.lo.den (pos stay.enters.den) leg.t0 (duration leg) n (pos d) cut.lo.positive (den_positive stay.enters.den stay.enters.rest stay.enters.proper) over.enters.at h.after;
+      before = before_to (numerator_of stay.leaves) cut.hi.num cut.hi.den (pos stay.leaves.den) leg.t0 (duration leg) n (pos d) cut.hi.positive (den_positive stay.leaves.den stay.leaves.rest stay.leaves.proper) over.leaves.at h.before;
     }
 
-    pub held_to : (cs : List Cut) (stays : List Stay) → AreOver leg cs stays → cuts.IsHeld cs part whole → IsHeld stays n d
+    pub held_to : (cs : List Cut) (stays : List Stay) → AreOver leg cs stays → cuts.IsHeld cs part whole → IsInAStay stays n d
     held_to [] [] over h = h
     held_to [] (stay ∷ stays) over h = absurd over
     held_to (cut ∷ cs) [] over h = absurd over
     held_to (cut ∷ cs) (stay ∷ stays) over (inl h) = inl (within_to cut stay over.0 h)
     held_to (cut ∷ cs) (stay ∷ stays) over (inr h) = inr (held_to cs stays over.1 h)
 
-    pub held_from : (cs : List Cut) (stays : List Stay) → AreOver leg cs stays → IsHeld stays n d → cuts.IsHeld cs part whole
+    pub held_from : (cs : List Cut) (stays : List Stay) → AreOver leg cs stays → IsInAStay stays n d → cuts.IsHeld cs part whole
     held_from [] [] over h = h
     held_from [] (stay ∷ stays) over h = absurd over
     held_from (cut ∷ cs) [] over h = absurd over
@@ -90,9 +93,10 @@ positive_product a b h g = let s = scale_strictly (pos 0) a b g h in omega (arit
 
 -- a leg without a moment in the period has no stay there
 pub none_stays : (rings : List (List Corner)) (leg : LegView) (period : PeriodView) → (HasMoment leg period → ⊥) → AreStays rings leg period []
-none_stays rings leg period none n d m = absurd (none (n, d, m))
+none_stays rings leg period none =
+    record { exact = λ n d m. absurd (none (n, d, m)); apart = tt; ordered = All-nil (λ stay. IsNotAfter stay.enters stay.leaves); each = All-nil (IsOf leg period) }
 
-module _ (leg : LegView) (period : PeriodView) (course : CourseView) (first last : Place) (asked : IsAsked leg period course first last) where
+module _ (leg : LegView) (period : PeriodView) (course : CourseView) (first last : CoursePlace) (asked : IsAsked leg period course first last) where
   w0 : pos 0 <ℤ duration leg
   w0 = let h = asked.rises in omega (arith, ints, h)
 
@@ -104,19 +108,22 @@ module _ (leg : LegView) (period : PeriodView) (course : CourseView) (first last
       (let e = asked.last_num in let f = asked.last_den in omega (arith, ints, clamps, e, f))
       between
 
-  pub are_stays : (rings : List (List Corner)) (cs : List Cut) (stays : List Stay) → IsStays rings course first last cs → AreOver leg cs stays → AreStays rings leg period stays
-  are_stays rings cs stays is over n d m =
-      let t : ℤ = leg.t0 in
-      let w : ℤ = duration leg in
-      let part : ℤ = n -ℤ t *ℤ pos d in
-      let whole : ℤ = pos d *ℤ w in
-      let w1 : pos 0 ≤ℤ w = omega (arith, ints, w0) in
-      let d0 : pos 0 <ℤ pos d = let h = m.divisor in omega (arith, ints, h) in
-      let from : (first.num *ℤ whole) ≤ℤ (part *ℤ first.den) =
-      subst (λ (k : ℤ). (k *ℤ whole) ≤ℤ (part *ℤ first.den)) (sym asked.first_num) (subst (λ (k : ℤ). ((first_moment leg period -ℤ t) *ℤ whole) ≤ℤ (part *ℤ k)) (sym asked.first_den) (from_first (first_moment leg period) t w n (pos d) w1 m.from)) in
-      let to : (part *ℤ last.den) ≤ℤ (last.num *ℤ whole) =
-      subst (λ (k : ℤ). (part *ℤ last.den) ≤ℤ (k *ℤ whole)) (sym asked.last_num) (subst (λ (k : ℤ). (part *ℤ k) ≤ℤ ((last_moment leg period -ℤ t) *ℤ whole)) (sym asked.last_den) (to_last (last_moment leg period) t w n (pos d) w1 m.to)) in
-      let exact = is.exact part whole (positive_product (pos d) w d0 w0) from to in (
-        λ h. held_to leg n d cs stays over (exact.0 (subst (λ (c : CourseView). in_zone rings (point_at c part whole) ≡ true) (sym asked.way) h)),
-        λ h. subst (λ (c : CourseView). in_zone rings (point_at c part whole) ≡ true) asked.way (exact.1 (held_from leg n d cs stays over h)),
-      )
+  pub are_stays : (rings : List (List Corner)) (cs : List Cut) (stays : List Stay) → IsStays rings course first last cs → AreOver leg cs stays → All (IsOf leg period) stays → AreStays rings leg period stays
+  are_stays rings cs stays is over each = record { exact = exact; apart = all_apart leg w0 cs stays over is.apart; ordered = all_forward leg w0 cs stays over; each = each }
+    where
+      exact : (n : ℤ) (d : ℕ) → IsMomentOf leg period n d → IsInZone rings leg n d ↔ IsInAStay stays n d
+      exact n d m =
+          let t : ℤ = leg.t0 in
+          let w : ℤ = duration leg in
+          let part : ℤ = n -ℤ t *ℤ pos d in
+          let whole : ℤ = pos d *ℤ w in
+          let w1 : pos 0 ≤ℤ w = omega (arith, ints, w0) in
+          let d0 : pos 0 <ℤ pos d = let h = m.divisor in omega (arith, ints, h) in
+          let from : (first.num *ℤ whole) ≤ℤ (part *ℤ first.den) =
+          subst (λ (k : ℤ). (k *ℤ whole) ≤ℤ (part *ℤ first.den)) (sym asked.first_num) (subst (λ (k : ℤ). ((first_moment leg period -ℤ t) *ℤ whole) ≤ℤ (part *ℤ k)) (sym asked.first_den) (from_first (first_moment leg period) t w n (pos d) w1 m.from)) in
+          let to : (part *ℤ last.den) ≤ℤ (last.num *ℤ whole) =
+          subst (λ (k : ℤ). (part *ℤ last.den) ≤ℤ (k *ℤ whole)) (sym asked.last_num) (subst (λ (k : ℤ). (part *ℤ k) ≤ℤ ((last_moment leg period -ℤ t) *ℤ whole)) (sym asked.last_den) (to_last (last_moment leg period) t w n (pos d) w1 m.to)) in
+          let found = is.exact part whole (positive_product (pos d) w d0 w0) from to in (
+            λ h. held_to leg n d cs stays over (found.0 (subst (λ (c : CourseView). in_zone rings (point_at c part whole) ≡ true) (sym asked.way) h)),
+            λ h. subst (λ (c : CourseView). in_zone rings (point_at c part whole) ≡ true) asked.way (found.1 (held_from leg n d cs stays over h)),
+          )

@@ -1,6 +1,11 @@
 pub mod Orders
 pub mod Terms
 pub mod PartLemmas
+pub mod ApartLemmas
 pub mod HeldLemmas
 pub mod LiveLemmas
 pub mod WindowLemmas
+pub mod MomentLemmas
+pub mod VisitLemmas
+pub mod SideLemmas
+pub mod RectangleLaw

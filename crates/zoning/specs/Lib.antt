@@ -1,4 +1,8 @@
 pub mod Parts
 pub mod Stays
 pub mod Asking
-pub mod Windows
+pub mod Ends
+pub mod Lengths
+pub mod Visits
+pub mod Sides
+pub mod Rectangles

@@ -5,8 +5,8 @@ use Rattle.clipping.specs.Inside.{duration}
 use Rattle.zoning.specs.declared.moment.Moment.{Moment}
 
 -- a moment is that many of its denominator's parts of a millisecond
-abbrev pub number_of : Moment → ℤ
-number_of moment = moment.whole *ℤ pos moment.den +ℤ pos moment.rest
+abbrev pub numerator_of : Moment → ℤ
+numerator_of moment = moment.whole *ℤ pos moment.den +ℤ pos moment.rest
 
 -- Helpers of private functions.
 -- num / den is a part: it is from 0 to 1, and its terms are small
@@ -17,4 +17,4 @@ pub record IsPart (num den : ℤ) : Type 0 where
 
 -- the moment is at that part of the leg's duration
 pub record IsAt (leg : LegView) (num den : ℤ) (moment : Moment) : Type 0 where
-  pub at : number_of moment *ℤ den ≡ (leg.t0 *ℤ den +ℤ duration leg *ℤ num) *ℤ pos moment.den
+  pub at : numerator_of moment *ℤ den ≡ (leg.t0 *ℤ den +ℤ duration leg *ℤ num) *ℤ pos moment.den

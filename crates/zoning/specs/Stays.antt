@@ -1,12 +1,15 @@
 -- The stays of a leg in a zone. All moments are fractions n / d of milliseconds since 1970-01-01T00:00:00Z.
-use Rattle.std.specs.Prelude.{ℕ, true, ◌≡◌, ◌⊎◌, ◌↔◌, List, [], ◌∷◌, ℤ, pos, ◌-ℤ◌, ◌*ℤ◌, ◌≤ℤ◌}
+use Rattle.std.specs.Prelude.{ℕ, true, ◌≡◌, ◌⊎◌, ◌↔◌, All, List, [], ◌∷◌, ℤ, pos, ◌-ℤ◌, ◌*ℤ◌, ◌<ℤ◌, ◌≤ℤ◌}
 use Rattle.timebase.specs.Period.{PeriodView}
 use Rattle.legs.specs.Legs.{LegView, IsMomentOf}
 use Rattle.clipping.specs.Inside.{duration}
 use Rattle.zones.specs.Places.{Corner, CourseView, Point, point_at}
 use Rattle.zones.specs.Zones.{in_zone}
 use Rattle.zones.specs.declared.cuts.Cut.{Cut}
-use Rattle.zoning.specs.Parts.{IsAt, IsPart, number_of}
+use Rattle.zoning.specs.Ends.{IsEndBy}
+use Rattle.zoning.specs.Lengths.{IsNotAfter}
+use Rattle.zoning.specs.Parts.{IsAt, IsPart, numerator_of}
+use Rattle.zoning.specs.declared.moment.Moment.{Moment}
 use Rattle.zoning.specs.declared.stay.Stay.{Stay}
 
 -- the course of a leg: its move in x and y
@@ -23,18 +26,41 @@ IsInZone rings leg n d = in_zone rings (place_of leg n d) ≡ true
 
 -- the moment n / d is in the stay: from its first moment to its last, both among them
 pub record IsDuring (stay : Stay) (n : ℤ) (d : ℕ) : Type 0 where
-  pub after : (number_of stay.enters *ℤ pos d) ≤ℤ (n *ℤ pos stay.enters.den)
-  pub before : (n *ℤ pos stay.leaves.den) ≤ℤ (number_of stay.leaves *ℤ pos d)
+  pub after : (numerator_of stay.enters *ℤ pos d) ≤ℤ (n *ℤ pos stay.enters.den)
+  pub before : (n *ℤ pos stay.leaves.den) ≤ℤ (numerator_of stay.leaves *ℤ pos d)
 
 -- one of the stays holds the moment n / d
-abbrev pub IsHeld : List Stay → ℤ → ℕ → Type 0
-IsHeld [] n d = ⊥
-IsHeld (stay ∷ stays) n d = IsDuring stay n d ⊎ IsHeld stays n d
+abbrev pub IsInAStay : List Stay → ℤ → ℕ → Type 0
+IsInAStay [] n d = ⊥
+IsInAStay (stay ∷ stays) n d = IsDuring stay n d ⊎ IsInAStay stays n d
 
--- At a moment of the leg in the period, the leg is in the zone exactly if one of the stays holds the moment.
-abbrev pub AreStays : List (List Corner) → LegView → PeriodView → List Stay → Type 0
-AreStays rings leg period stays =
-    (n : ℤ) (d : ℕ) → IsMomentOf leg period n d → IsInZone rings leg n d ↔ IsHeld stays n d
+-- one moment is before another
+abbrev pub IsBefore : Moment → Moment → Type 0
+IsBefore one other = (numerator_of one *ℤ pos other.den) <ℤ (numerator_of other *ℤ pos one.den)
+
+-- all of the stays begin after the moment
+abbrev pub AreAfter : Moment → List Stay → Type 0
+AreAfter moment [] = Unit {0}
+AreAfter moment (stay ∷ stays) = IsBefore moment stay.enters × AreAfter moment stays
+
+-- each stay ends before all later ones begin
+abbrev pub AreApart : List Stay → Type 0
+AreApart [] = Unit {0}
+AreApart (stay ∷ stays) = AreAfter stay.leaves stays × AreApart stays
+
+-- the stay is of the leg, and says what it begins and ends by
+pub record IsOf (leg : LegView) (period : PeriodView) (stay : Stay) : Type 0 where
+  pub same : stay.leg ≡ leg
+  pub begun : IsEndBy stay.enters leg.t0 period.start stay.enters_by
+  pub ended : IsEndBy stay.leaves leg.t1 period.end stay.leaves_by
+
+-- At a moment of the leg in the period, the leg is in the zone exactly if one of the stays holds the moment. They are in
+-- the order of time and apart; none ends before it begins.
+pub record AreStays (rings : List (List Corner)) (leg : LegView) (period : PeriodView) (stays : List Stay) : Type 0 where
+  pub exact : (n : ℤ) (d : ℕ) → IsMomentOf leg period n d → IsInZone rings leg n d ↔ IsInAStay stays n d
+  pub apart : AreApart stays
+  pub ordered : All (λ stay. IsNotAfter stay.enters stay.leaves) stays
+  pub each : All (IsOf leg period) stays
 
 -- Helpers of private functions.
 -- both places of a cut are parts

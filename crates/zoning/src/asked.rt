@@ -7,14 +7,14 @@ ghost use Rattle.zoning.specs.Stays.{course_of};
 
 use legs::Leg;
 use timebase::{Ms, Period};
-use zones::{Course, Place};
+use zones::{Course, CoursePlace};
 
 /// A leg's course, and the first and last place of it that is asked for.
 #[derive(Clone, Copy)]
 pub(crate) struct Asked {
     pub(crate) course: Course,
-    pub(crate) first: Place,
-    pub(crate) last: Place,
+    pub(crate) first: CoursePlace,
+    pub(crate) last: CoursePlace,
 }
 
 /// The course of a leg.
@@ -44,7 +44,7 @@ fn last_of(leg: &Leg, period: &Period) -> Ms
 }
 
 /// The place of a leg's course at one of its moments.
-fn place_at(leg: &Leg, at: Ms) -> Place
+fn place_at(leg: &Leg, at: Ms) -> CoursePlace
     requires from { leg.now.t0 ≤ℤ at }
     requires to { at ≤ℤ leg.now.t1 }
     ensures num { result.num ≡ at -ℤ leg.now.t0 }
@@ -52,7 +52,7 @@ fn place_at(leg: &Leg, at: Ms) -> Place
     ensures rises { leg.now.t0 <ℤ leg.now.t1 }
 {
     let (t0, t1) = (leg.t0.millis(), leg.t1.millis());
-    Place {
+    CoursePlace {
         num: (at.millis() - t0) as i128,
         den: (t1 - t0) as i128,
     }

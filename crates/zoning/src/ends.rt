@@ -1,36 +1,13 @@
 //! What a stay begins and ends by.
+ghost use Rattle.zoning.specs.Ends.{IsEndBy};
+
 use crate::moment::Moment;
 use timebase::Ms;
-
-/// What a stay begins or ends by, the first of these that is so.
-#[derive(Clone, Copy, PartialEq, Eq, Debug)]
-pub enum End {
-    /// The leg begins or ends there.
-    Leg,
-    /// The period does.
-    Period,
-    /// Neither: the leg meets the zone's edge there.
-    Edge,
-}
-
-impl End {
-    /// The end as it is printed.
-    pub fn as_str(self) -> &'static str {
-        match self {
-            End::Leg => "leg",
-            End::Period => "period",
-            End::Edge => "edge",
-        }
-    }
-}
+use visiting::End;
 
 /// What a moment is, of a leg's own end and a period's.
-pub(crate) fn end_by(moment: &Moment, leg: Ms, period: Ms) -> End {
-    if moment.is_at(leg) {
-        End::Leg
-    } else if moment.is_at(period) {
-        End::Period
-    } else {
-        End::Edge
-    }
+pub(crate) fn end_by(moment: &Moment, leg: Ms, period: Ms) -> End
+    ensures { IsEndBy moment.now leg period result }
+{
+    End::by(moment.is_at(leg), moment.is_at(period))
 }

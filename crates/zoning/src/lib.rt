@@ -12,11 +12,11 @@ mod site;
 mod stay;
 mod visits;
 
-pub use dwells::{Dwell, dwells_of};
-pub use ends::End;
+pub use dwells::dwells_of;
 pub use holding::{Tallies, Tally, features_ever, features_of};
 pub use moment::Moment;
 pub use sides::Side;
 pub use site::Site;
 pub use stay::{Stay, stays_of};
+pub use visiting::{Dwell, End};
 pub use visits::{Visit, visits_of};

@@ -1,5 +1,6 @@
 //! Moments and positions at a part of a leg.
-ghost use Rattle.std.specs.Prelude.{◌≡◌, pos, ◌+ℤ◌, ◌≤ℤ◌, unsigned_abs};
+ghost use Rattle.std.specs.Prelude.{◌≡◌, ◌<◌, ◌≤◌, ◌+◌, ◌*◌, pos, ◌+ℤ◌, ◌≤ℤ◌, unsigned_abs};
+ghost use Rattle.std.specs.Int.{IsGcd};
 ghost use Rattle.fixedpoint.specs.Number.{IsInRange};
 ghost use Rattle.timebase.specs.Instant.{IsMoment};
 ghost use Rattle.clipping.specs.Inside.{duration};
@@ -7,7 +8,7 @@ ghost use Rattle.zoning.specs.Parts.{IsAt, IsPart};
 
 use crate::moment::Moment;
 use fixedpoint::Coord;
-use fractions::{Fraction, lowest_terms, share_of};
+use fractions::{Fraction, Share, Terms, lowest_terms, share_of};
 use legs::Leg;
 use mfcsv::Position;
 use timebase::Ms;
@@ -37,13 +38,47 @@ fn den_of(part: Fraction) -> u128
     part.den.unsigned_abs()
 }
 
+/// A part of so many units: quickly none of them, or all.
+fn share_at(part: Fraction, units: u64) -> Share
+    requires { IsPart part.num part.den }
+    ensures product { unsigned_abs part.num * units
+        ≡ result.whole * unsigned_abs part.den + result.rest }
+    ensures rest { result.rest < unsigned_abs part.den }
+    ensures whole { result.whole ≤ units }
+{
+    if part.num == 0 {
+        return Share { whole: 0, rest: 0 };
+    }
+    if part.num == part.den {
+        return Share {
+            whole: units,
+            rest: 0,
+        };
+    }
+    share_of(part, units)
+}
+
+/// A proper fraction in lowest terms: quickly 0.
+fn terms_of(rest: u128, den: u128) -> Terms
+    requires { rest < den }
+    ensures same { rest * result.den ≡ result.num * den }
+    ensures lowest { IsGcd result.num result.den 1 }
+    ensures positive { 0 < result.den }
+    ensures small { result.den ≤ den }
+{
+    if rest == 0 {
+        return Terms { num: 0, den: 1 };
+    }
+    lowest_terms(rest, den)
+}
+
 /// The moment at a part of a leg's duration.
 pub(crate) fn moment_at(leg: &Leg, part: Fraction) -> Moment
     requires { IsPart part.num part.den }
     ensures { IsAt leg.now part.num part.den result }
 {
-    let share = share_of(part, duration_of(leg));
-    let terms = lowest_terms(share.rest, den_of(part));
+    let share = share_at(part, duration_of(leg));
+    let terms = terms_of(share.rest, den_of(part));
     Moment {
         whole: later(leg.t0, share.whole),
         rest: terms.num,
@@ -59,7 +94,7 @@ fn up_from(low: i64, high: i64, part: Fraction) -> i64
     requires up { low ≤ℤ high }
     ensures { IsInRange result }
 {
-    low + share_of(part, (high - low).unsigned_abs()).whole as i64
+    low + share_at(part, (high - low).unsigned_abs()).whole as i64
 }
 
 /// What is left of a part.

@@ -1,4 +1,7 @@
 //! The sides of a gate.
+ghost use Rattle.std.specs.Prelude.{◌≡◌, ◌<ℤ◌};
+ghost use Rattle.zoning.specs.Sides.{IsSideAfter, IsSideBefore, side_by};
+
 use crate::asked::course_of;
 use legs::Leg;
 use std::cmp::Ordering;
@@ -19,29 +22,29 @@ impl Side {
             Side::Right => "right",
         }
     }
-
-    /// The other side.
-    pub fn other(self) -> Side {
-        match self {
-            Side::Left => Side::Right,
-            Side::Right => Side::Left,
-        }
-    }
 }
 
-/// The side to which a leg leaves the gate's line; `None` if it runs along the line or stands still.
-pub(crate) fn side_after(gate: &Gate, leg: &Leg) -> Option<Side> {
-    match heading(gate, &course_of(leg)) {
+/// The side that a sign of the cross product tells.
+fn side_by(sign: Ordering) -> Option<Side>
+    ensures { result ≡ side_by sign }
+{
+    match sign {
         Ordering::Less => Some(Side::Left),
         Ordering::Equal => None,
         Ordering::Greater => Some(Side::Right),
     }
 }
 
+/// The side to which a leg leaves the gate's line; `None` if it runs along the line or stands still.
+pub(crate) fn side_after(gate: &Gate, leg: &Leg) -> Option<Side>
+    ensures { leg.now.t0 <ℤ leg.now.t1 → IsSideAfter gate.now leg.now result }
+{
+    side_by(heading(gate, &course_of(leg)))
+}
+
 /// The side from which it comes.
-pub(crate) fn side_before(gate: &Gate, leg: &Leg) -> Option<Side> {
-    match side_after(gate, leg) {
-        Some(side) => Some(side.other()),
-        None => None,
-    }
+pub(crate) fn side_before(gate: &Gate, leg: &Leg) -> Option<Side>
+    ensures { leg.now.t0 <ℤ leg.now.t1 → IsSideBefore gate.now leg.now result }
+{
+    side_by(heading(gate, &course_of(leg)).reverse())
 }

@@ -1,6 +1,6 @@
 //! Sites: zones made ready for legs.
 ghost use Rattle.std.specs.Prelude.{◌≡◌, ◌<ℤ◌};
-ghost use Rattle.zoning.specs.Windows.{window_of};
+ghost use Rattle.zoning.specs.Stays.{course_of};
 
 use crate::stay::{Stay, stays_of};
 use fixedpoint::Coord;
@@ -8,8 +8,8 @@ use legs::{Leg, Rect};
 use std::alloc::{AllocError, Global};
 use std::marker::Model;
 use timebase::Period;
-use zone_windows::{Window, Windows};
-use zones::{Gate, Position, Ring};
+use zone_windows::Windows;
+use zones::{Course, Gate, Position, Ring};
 
 /// A zone made ready for legs: its rings in windows, and its least box.
 #[derive(Drop)]
@@ -73,18 +73,16 @@ fn bounds_of(rings: &[Ring]) -> Option<Rect> {
     bounds.rect()
 }
 
-/// The least window with the leg.
-fn window_of(leg: &Leg) -> Window
-    ensures window { result ≡ window_of leg.now }
+/// The course of a leg.
+fn way_of(leg: &Leg) -> Course
+    ensures course { result ≡ course_of leg.now }
     ensures rises { leg.now.t0 <ℤ leg.now.t1 }
 {
-    let (x0, x1) = (leg.x0.units(), leg.x1.units());
-    let (y0, y1) = (leg.y0.units(), leg.y1.units());
-    Window {
-        left: x0.min(x1),
-        right: x0.max(x1),
-        low: y0.min(y1),
-        high: y0.max(y1),
+    Course {
+        x0: leg.x0.units(),
+        y0: leg.y0.units(),
+        x1: leg.x1.units(),
+        y1: leg.y1.units(),
     }
 }
 
@@ -133,7 +131,7 @@ impl Site {
         // At each moment of the leg in the period, the leg is in the site's zone exactly if one of the stays holds the moment.
         ensures { IfOk result (λ stays. AreStays self.now leg.now period.now stays.items) }
     {
-        let rings = self.windows.near(alloc, window_of(leg))?;
+        let rings = self.windows.near(alloc, &way_of(leg))?;
         stays_of(alloc, &rings, self.gate.as_ref(), leg, period)
     }
 

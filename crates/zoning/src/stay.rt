@@ -1,9 +1,10 @@
 //! The stays of legs in a zone.
-ghost use Rattle.std.specs.Prelude.{◌≡◌, IfOk};
-ghost use Rattle.zoning.specs.Stays.{AllInside, AreOver, AreStays, IsInside, IsOver};
+ghost use Rattle.std.specs.Prelude.{◌≡◌, All, IfOk, MatchOption, None};
+ghost use Rattle.zoning.specs.Ends.{IsEndBy};
+ghost use Rattle.zoning.specs.Stays.{AllInside, AreOver, AreStays, IsInside, IsOf, IsOver};
 
 use crate::asked::asked_of;
-use crate::ends::{End, end_by};
+use crate::ends::end_by;
 use crate::moment::Moment;
 use crate::part::{moment_at, position_at};
 use crate::sides::{Side, side_after, side_before};
@@ -12,7 +13,8 @@ use legs::Leg;
 use mfcsv::Position;
 use std::alloc::{AllocError, Global};
 use timebase::Period;
-use zones::{Cut, Gate, Place, Ring, stays};
+use visiting::End;
+use zones::{CoursePlace, Cut, Gate, Ring, stays};
 
 /// When and where a leg is in a zone in a period: from `enters` to `leaves`, both included, and at each moment between
 /// them.
@@ -69,7 +71,10 @@ fn side_to(gate: Option<&Gate>, leg: &Leg, leaves_by: End) -> Option<Side> {
 /// The stay of a leg in a cut of its course.
 fn stay_in(gate: Option<&Gate>, leg: &Leg, period: &Period, cut: &Cut) -> Stay
     requires { IsInside cut.now }
-    ensures { IsOver leg.now cut.now result }
+    ensures over { IsOver leg.now cut.now result }
+    ensures same { result.leg ≡ leg.now }
+    ensures begun { IsEndBy result.enters leg.now.t0 period.now.start result.enters_by }
+    ensures ended { IsEndBy result.leaves leg.now.t1 period.now.end result.leaves_by }
 {
     let (lo, hi) = (fraction_of(cut.lo), fraction_of(cut.hi));
     let (enters, leaves) = (moment_at(leg, lo), moment_at(leg, hi));
@@ -88,7 +93,7 @@ fn stay_in(gate: Option<&Gate>, leg: &Leg, period: &Period, cut: &Cut) -> Stay
     }
 }
 
-fn fraction_of(place: Place) -> Fraction
+fn fraction_of(place: CoursePlace) -> Fraction
     ensures num { result.num ≡ place.num }
     ensures den { result.den ≡ place.den }
 {
@@ -107,7 +112,8 @@ fn stays_in(
     cuts: &[Cut],
 ) -> Result<Vec<Stay>, AllocError>
     requires { AllInside cuts.now }
-    ensures { IfOk result (λ stays. AreOver leg.now cuts.now stays.items) }
+    ensures over { IfOk result (λ stays. AreOver leg.now cuts.now stays.items) }
+    ensures each { IfOk result (λ stays. All (IsOf leg.now period.now) stays.items) }
 {
     let mut stays = Vec::with_capacity(alloc, cuts.len())?;
     for cut in cuts {
@@ -127,6 +133,7 @@ pub fn stays_of(
     period: &Period,
 ) -> Result<Vec<Stay>, AllocError>
     // At each moment of the leg in the period, the leg is in the zone exactly if one of the stays holds the moment.
+    // The stays are in the order of time and apart; each is of the leg, and says what it begins and ends by.
     ensures { IfOk result (λ stays. AreStays rings.now leg.now period.now stays.items) }
 {
     match asked_of(leg, period) {

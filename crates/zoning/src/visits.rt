@@ -1,13 +1,15 @@
 //! Visits of features: stays that go on over several legs, joined.
-ghost use Rattle.std.specs.Prelude.{◌<◌, length, IfSome};
+ghost use Rattle.std.specs.Prelude.{◌≡◌, All, IfOk};
+ghost use Rattle.visiting.specs.Lengths.{not_below_0};
+ghost use Rattle.zoning.specs.Lengths.{IsNotAfter};
+ghost use Rattle.zoning.specs.Visits.{visits_of};
 
-use crate::ends::End;
 use crate::moment::Moment;
 use crate::sides::Side;
 use crate::stay::Stay;
 use mfcsv::Position;
 use std::alloc::{AllocError, Global};
-use std::collections::BTreeMap;
+use visiting::{End, Joined, Lasting, joined_of};
 
 /// A visit: one stay of a feature, or several, each of which begins at the moment at which the one before it ends.
 #[derive(Clone, Copy, PartialEq, Eq, Debug)]
@@ -34,12 +36,55 @@ pub struct Visit {
 }
 
 /// A number, or 0 in the place of one below 0.
-fn not_below_0(number: i64) -> u64 {
+fn not_below_0(number: i64) -> u64
+    ensures { result ≡ not_below_0 number }
+{
     if number < 0 { 0 } else { number.unsigned_abs() }
 }
 
 impl Visit {
-    /// The visit of one stay.
+    ghost use Rattle.std.specs.Prelude.{◌≡◌};
+    ghost use Rattle.zoning.specs.Lengths.{IsBetween, IsNotAfter, least_of, most_of};
+
+    /// How long the visit lasts, in whole microseconds: at least the first number and at most the second.
+    pub fn lasts(&self) -> (u64, u64)
+        // The first number is the visit with both moments rounded inwards, and not below 0.
+        ensures least { result.0 ≡ least_of self.now }
+        // The second number is the visit with both moments rounded outwards.
+        ensures most { result.1 ≡ most_of self.now }
+
+        // Of a visit that does not end before it begins, as none of `visits_of` does.
+        ensures between { IsNotAfter self.now.enters self.now.leaves
+            → IsBetween self.now.enters self.now.leaves result.0 result.1 }
+    {
+        let least = self.leaves.micros_down() - self.enters.micros_up();
+        let most = self.leaves.micros_up() - self.enters.micros_down();
+        (not_below_0(least), not_below_0(most))
+    }
+}
+
+impl Joined<Stay> for Visit {
+    ghost use Rattle.std.specs.Prelude.{refl};
+    ghost use Rattle.zoning.specs.Visits as visits;
+
+    ghost feature = { λ visit. visit.feature };
+
+    ghost part_feature = { λ stay. stay.leg.feature };
+
+    ghost of = { visits.visit_of };
+
+    ghost goes_on = { visits.goes_on };
+
+    ghost with_part = { visits.visit_with };
+
+    ghost begins = { λ stay. refl };
+
+    ghost keeps = { λ visit stay. refl };
+
+    fn feature_of(stay: &Stay) -> u32 {
+        stay.leg.feature
+    }
+
     fn of(stay: &Stay) -> Visit {
         Visit {
             feature: stay.leg.feature,
@@ -55,13 +100,13 @@ impl Visit {
         }
     }
 
-    /// Whether a stay of the same feature begins at the moment at which the visit ends.
     fn goes_on(&self, stay: &Stay) -> bool {
-        self.leaves == stay.enters
+        self.leaves.whole == stay.enters.whole
+            && self.leaves.rest == stay.enters.rest
+            && self.leaves.den == stay.enters.den
     }
 
-    /// The visit with a stay more at its end.
-    fn with(self, stay: &Stay) -> Visit {
+    fn with_part(self, stay: &Stay) -> Visit {
         Visit {
             leaves: stay.leaves,
             exit: stay.exit,
@@ -71,43 +116,42 @@ impl Visit {
             ..self
         }
     }
-
-    /// The least number of microseconds that the visit lasts: from the first whole microsecond in it to the last.
-    pub fn least(&self) -> u64 {
-        not_below_0(self.leaves.micros_down() - self.enters.micros_up())
-    }
-
-    /// The greatest number: from the last whole microsecond before it to the first one after it.
-    pub fn most(&self) -> u64 {
-        not_below_0(self.leaves.micros_up() - self.enters.micros_down())
-    }
 }
 
-/// The place of the visit that a stay goes on: the last one of its feature, if it ends where the stay begins.
-fn place_of(last: &BTreeMap<u32, usize>, visits: &[Visit], stay: &Stay) -> Option<usize>
-    ensures { IfSome result (λ place. place < length visits.now) }
-{
-    let place = *last.get(&stay.leg.feature)?;
-    if place < visits.len() && visits[place].goes_on(stay) {
-        Some(place)
-    } else {
-        None
+impl Lasting for Visit {
+    ghost use Rattle.zoning.specs.Lengths.{least_of, most_of};
+    ghost use Rattle.zoning.specs.Parts.{numerator_of};
+    ghost use Rattle.visiting.proofs.LengthLemmas.{always_near};
+
+    ghost feature = { λ visit. visit.feature };
+
+    ghost least = { least_of };
+
+    ghost most = { most_of };
+
+    ghost near = { λ visit. always_near (numerator_of visit.enters) (numerator_of visit.leaves)
+        visit.enters.den visit.leaves.den visit.enters.positive visit.leaves.positive };
+
+    fn feature(&self) -> u32 {
+        self.feature
+    }
+
+    fn lasts(&self) -> (u64, u64) {
+        self.lasts()
     }
 }
 
 /// The visits of stays, in the order of their first stays. If the stays of a feature are not in the order of time, its
 /// visits may overlap.
-pub fn visits_of(alloc: Global, stays: &[Stay]) -> Result<Vec<Visit>, AllocError> {
-    let mut visits = Vec::new(alloc);
-    let mut last = BTreeMap::new(alloc);
-    for stay in stays {
-        match place_of(&last, &visits, stay) {
-            Some(place) => visits[place] = visits[place].with(stay),
-            None => {
-                last.insert(stay.leg.feature, visits.len())?;
-                visits.push(Visit::of(stay))?;
-            }
-        }
-    }
-    Ok(visits)
+pub fn visits_of(alloc: Global, stays: &[Stay]) -> Result<Vec<Visit>, AllocError>
+    // A stay that begins when its feature's last visit ends goes on with that visit; any other
+    // begins a new one.
+    ensures value { IfOk result (λ visits. visits.items ≡ visits_of stays.now) }
+
+    // Where no stay ends before it begins, as none of `stays_of` does, no visit does.
+    ensures ordered { IfOk result
+        (λ visits. All (λ stay. IsNotAfter stay.enters stay.leaves) stays.now
+        → All (λ visit. IsNotAfter visit.enters visit.leaves) visits.items) }
+{
+    joined_of::<Stay, Visit>(alloc, stays)
 }

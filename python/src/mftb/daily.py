@@ -20,7 +20,7 @@ from typing import NamedTuple
 
 from mftb.asking import Store
 from mftb.commands import ended, example, say
-from mftb.feeds import ais, conversion, gpx, movebank
+from mftb.feeds import ais, conversion, gpx, movebank, seams
 from mftb.feeds import csv as tables
 from mftb.program import NAMING, find
 from mftb.sources import opened, plain_name
@@ -134,6 +134,9 @@ def take_all(day: Day, files: Sequence[str]) -> int:
         for file in files:
             try:
                 status = take(day, file)
+            except seams.OtherWords as why:
+                # The store has these words since its first file: no file of this run is loaded.
+                raise Refused(f"{why}; nothing is loaded now") from None
             except Refused as why:
                 raise Refused(f"{why}; {file} and what is behind it is not loaded") from None
             if status:
@@ -185,7 +188,10 @@ def words() -> Given:
     own, rest = parser.parse_known_args()
     feed = own.feed or feed_of(rest)
     if feed is None:
-        parser.error("no file says which source it is from; name it: --feed ais, csv, gpx or movebank")
+        parser.error(
+            "no file says which source it is from: a table needs --id, --time, --x and --y (tools/from_csv --help); "
+            "else name the source by --feed"
+        )
     module, unit = FEEDS[feed]
     options = module.parse(rest)
     if len(options.files) < 2:

@@ -106,7 +106,7 @@ class MomentForm(Form[Record]):
             places = (said.get(f"{axis}_{end}") for axis in "xyz")
             ends[f"place_{end}"] = tuple(float(text) for text in places if text is not None)
         by = {name: said.get(name, "") for name in ("enters_by", "leaves_by")}
-        where = {name: said.get(name, "") for name in ("zone", "from_side", "to_side")}
+        where = {name: said.get(name, "") for name in ("zone", "from_side", "to_side", "edge_in", "edge_out")}
         return {"feature": said["feature"], **ends, **by, **where}
 
 

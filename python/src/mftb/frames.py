@@ -37,6 +37,7 @@ COMMA, SPACE, QUOTE = b', "'
 # The program keeps coordinates in units of this part of one.
 UNITS = 1e7
 AXES = "xyz"
+ENDS = [f"{axis}_{end}" for axis in AXES for end in ("in", "out")]
 
 
 def frame(printed: Printed, form: Form, with_exact: bool = False) -> pandas.DataFrame:
@@ -172,7 +173,7 @@ def moments(data: bytes, form: MomentForm, with_exact: bool) -> pandas.DataFrame
                 found[name] = [exact(text, form.start) for text in column]
         elif name.endswith("_at"):
             found[name] = pandas.to_datetime(found[name], utc=True)
-        elif name.endswith(("_in", "_out")) or name in ("least", "most"):
+        elif name in ENDS or name in ("least", "most"):
             found[name] = found[name].astype(float)
         elif name in ("legs", "visits"):
             found[name] = found[name].astype("int64")

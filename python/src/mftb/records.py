@@ -57,11 +57,15 @@ class Stay(Inside):
 
     `zone` is empty where the zone has no name. `from_side` and `to_side` say on which side of a gate the
     feature is just before and just after: `left`, `right` or `none`; for other zones they are empty.
+    `edge_in` and `edge_out` are the edges of a rectangle that the leg meets: `left`, `right`, `bottom`, `top`, or
+    two as `left+top`; empty where the time does not begin or end by an edge.
     """
 
     zone: str = ""
     from_side: str = ""
     to_side: str = ""
+    edge_in: str = ""
+    edge_out: str = ""
 
 
 @dataclass(frozen=True, slots=True)
@@ -72,6 +76,8 @@ class Visit(Inside):
     zone: str = ""
     from_side: str = ""
     to_side: str = ""
+    edge_in: str = ""
+    edge_out: str = ""
 
 
 @dataclass(frozen=True, slots=True)

@@ -15,12 +15,11 @@ from collections import Counter
 from collections.abc import Callable, Iterable, Iterator, Sequence
 from contextlib import contextmanager
 from dataclasses import dataclass
-from itertools import chain, compress, islice, repeat
+from itertools import chain, islice, repeat
 from operator import itemgetter, methodcaller
 from typing import IO, Any, TextIO, TypeAlias
 
-from mftb import apart
-from mftb.texts import BadLine, LeftOut, Refused, several, utf8
+from mftb.texts import NEEDS_QUOTES, BadLine, LeftOut, Refused, further_fields, several, utf8
 
 # A field has fewer characters.
 LONGEST = 1 << 20
@@ -28,44 +27,48 @@ csv.field_size_limit(LONGEST)
 UNPACKING = EOFError, zlib.error, gzip.BadGzipFile, zipfile.BadZipFile, NotImplementedError
 # UTF-8, with or without a mark at the start.
 UTF_8 = "utf-8-sig"
-# Rows that are read at once, in this process, and in one of several.
-BATCH, FAR = 1000, 10_000
+# Rows, or records, that are held at once.
+BATCH = 1000
+# Signs of a text that are read at once, in this process, and in one of several.
+NEAR, FAR = 1 << 16, 1 << 21
 # What is read of a row: a position, or why there is none.
 Item: TypeAlias = Any
+Text: TypeAlias = TextIO | io.TextIOBase
 NOT_A_LETTER = re.compile("[^0-9a-z]")
 
 
-@dataclass(frozen=True)
+@dataclass
 class Table:
-    """What is read of lines of the usual form, column by column: a position of each line that has one.
+    """What is read of lines, column by column: a position of each line that has one.
 
-    `faults` are the places of the lines that have none, and why.
+    `rows` are the places of these lines, `axes` the texts and the numbers of each coordinate, `further` the attribute
+    values as fields of a record. `faults` are the places of the lines that have none, and why.
     """
 
+    rows: Sequence[int]
     features: list[str]
     moments: list[int]
-    places: list[tuple[str, ...]]
-    values: list[tuple[str, ...]]
+    axes: list[tuple[Sequence[str], list[float]]]
+    further: list[str]
+    segments: list[int]
     faults: list[tuple[int, Exception]]
 
-    def items(self) -> list[Item]:
-        """The same line by line."""
-        found: list[Item] = list(zip(self.features, self.moments, self.places, self.values, repeat(0)))
-        for place, why in self.faults:
-            found.insert(place, why)
-        return found
+
+# What gives the fields of a row, by its place.
+RowAt: TypeAlias = Callable[[int], list[str]]
 
 
 @dataclass(frozen=True)
 class RowReader:
     """What reads the rows below a header line.
 
-    `one` gives the position of a row, or says why there is none. `table` reads the fields of lines of the usual form
-    at once, column by column; or gives nothing, where they are to be read one by one.
+    `one` gives the position of a row, or says why there is none. `table` reads `columns` of rows of the usual form at
+    once; or gives nothing, where they are to be read one by one.
     """
 
     one: Callable[[list[str]], Item]
-    table: Callable[[list[str]], Table | None] = lambda fields: None
+    table: Callable[[list[Sequence[str]], RowAt], Table | None] | None = None
+    columns: Sequence[int] = ()
 
     def items(self, rows: list[Any], wide: int) -> list[Item]:
         """What is read of rows, which ought to have `wide` fields; a row that could not be cut is why."""
@@ -166,10 +169,10 @@ def first_row(table: Iterable[list[str]]) -> list[str]:
 
 @dataclass(frozen=True)
 class Lines:
-    """Lines of a table without a quote, and how many stand before them."""
+    """Lines of a table without a quote, in one text, and how many stand before them."""
 
     before: int
-    lines: list[str]
+    text: str
 
 
 @dataclass(frozen=True)
@@ -191,47 +194,81 @@ class Rows:
     def read(self, part: Lines | Cut) -> tuple[Sequence[int], list[Item] | Table]:
         """Line numbers, and what is read of each row, or why nothing is; a blank line is no row."""
         if isinstance(part, Lines):
-            table = self.table(part.lines)
-            if table:
-                return range(part.before + 1, part.before + 1 + len(part.lines)), table
+            lines = lines_of(part.text)
+            numbers: Sequence[int] = range(part.before + 1, part.before + 1 + len(lines))
+            table = self.table_of_lines(lines)
             # A row without a quote is its line, cut at the delimiters.
-            cut_rows = [line.rstrip("\r\n").split(self.delimiter) for line in part.lines]
-            part = Cut(range(part.before + 1, part.before + 1 + len(cut_rows)), cut_rows)
-        numbers, found = part.numbers, part.rows
+            found = [] if table else [line.split(self.delimiter) for line in lines]
+        else:
+            numbers, found = part.numbers, part.rows
+            table = self.table_of_rows(found)
+        if table:
+            return numbers, table
         if [""] in found:
             numbers = [number for number, row in zip(numbers, found) if row != [""]]
             found = [row for row in found if row != [""]]
         return numbers, self.reader.items(found, self.wide)
 
-    def table(self, lines: list[str]) -> Table | None:
+    def table_of_lines(self, lines: list[str]) -> Table | None:
         """What is read of lines that all have as many fields as the header line, and are of the usual form."""
-        if set(map(methodcaller("count", self.delimiter), lines)) != {self.wide - 1}:
+        if self.reader.table is None:
             return None
-        text = "".join(lines).replace("\r\n", "\n").removesuffix("\n")
-        return None if "\r" in text else self.reader.table(text.replace("\n", self.delimiter).split(self.delimiter))
+        # Of a longer line the last field has what is too much, with a delimiter.
+        cut_line = methodcaller("split", self.delimiter, self.wide - 1)
+        try:
+            *columns, last = zip(*map(itemgetter(*self.reader.columns, self.wide - 1), map(cut_line, lines)))
+        except IndexError:
+            return None
+        if self.delimiter in "".join(last):
+            return None
+        return self.reader.table(columns, lambda place: lines[place].split(self.delimiter))
+
+    def table_of_rows(self, rows: list[Any]) -> Table | None:
+        """What is read of such rows."""
+        if self.reader.table is None or set(map(type, rows)) != {list} or set(map(len, rows)) != {self.wide}:
+            return None
+        columns: list[Any] = list(zip(*map(itemgetter(*self.reader.columns), rows)))
+        return self.reader.table(columns, rows.__getitem__)
 
 
-def rows(text: Iterator[str], line: int, how: Rows, work: Work) -> Iterator[Any]:
+def lines_of(text: str) -> list[str]:
+    """The lines of a text, without their ends."""
+    if "\r" in text:
+        return [line.rstrip("\r\n") for line in io.StringIO(text, newline="")]
+    return text.removesuffix("\n").split("\n")
+
+
+def rows(text: Text, line: int, how: Rows, work: Work) -> Iterator[Any]:
     """What is judged of the rows behind a line, some at once."""
 
     def judged(part: Lines | Cut) -> Any:
         numbers, items = how.read(part)
         return work.judge(numbers, items) if items else None
 
-    parts = cut(text, line, how.delimiter, BATCH if work.jobs == 1 else FAR)
-    return filter(None, map(judged, parts) if work.jobs == 1 else apart.ordered(judged, parts, work.jobs))
+    if work.jobs == 1:
+        return filter(None, map(judged, cut(text, line, how.delimiter, NEAR)))
+    # Only what works in several processes takes the time to load this.
+    from mftb import apart
+
+    return filter(None, apart.ordered(judged, cut(text, line, how.delimiter, FAR), work.jobs))
 
 
-def cut(text: Iterator[str], line: int, delimiter: str, most: int) -> Iterator[Lines | Cut]:
-    """The lines of a table behind a line, at most so many at once but where a row goes on over lines."""
-    while lines := list(islice(text, most)):
-        if '"' in "".join(lines) or max(map(len, lines)) >= LONGEST:
+def cut(text: Text, line: int, delimiter: str, size: int) -> Iterator[Lines | Cut]:
+    """The lines of a table behind a line, of about so many signs at once but where a row goes on over lines."""
+    while piece := text.read(size) + text.readline():
+        lines = list(io.StringIO(piece, newline="")) if is_odd(piece) else []
+        if lines and ('"' in piece or max(map(len, lines)) >= LONGEST):
             numbers, found, count = quoted(lines, text, line, delimiter)
             yield Cut(numbers, found)
         else:
-            count = len(lines)
-            yield Lines(line, lines)
+            count = len(lines) or piece.count("\n") + (piece[-1] != "\n")
+            yield Lines(line, piece)
         line += count
+
+
+def is_odd(piece: str) -> bool:
+    """Whether a text may be more, or less, than lines that end in a line feed."""
+    return '"' in piece or "\r" in piece or len(piece) >= LONGEST
 
 
 def quoted(lines: list[str], text: Iterator[str], line: int, delimiter: str) -> tuple[list[int], list[Any], int]:
@@ -287,35 +324,49 @@ def column(header: list[str], *names: str) -> int:
     """The place of a column that must be there."""
     place = place_of(header, *names)
     if place is None:
-        raise BadLine(f"there is no column {names[0]!r}")
+        raise lacks(header, names[0])
     return place
+
+
+def lacks(header: list[str], name: str | None) -> BadLine:
+    """That there is no column of a name, and which there are."""
+    return BadLine(f"there is no column {name!r}, only {', '.join(map(repr, header))}")
 
 
 class Values:
     """What takes the attribute values from rows: `places` says where they stand, and is nothing for a blank one."""
 
-    def __init__(self, names: list[str], places: list[int | None], wide: int) -> None:
-        # A place behind the row's end stands for a column that is not there.
-        take = [wide if place is None else place for place in places]
-        self.names, self.blank = names, [""] if None in places else []
-        self.places, self.wide = take, wide
-        self.take: Any = itemgetter(*take) if len(take) > 1 else lambda row: tuple([row[place] for place in take])
+    def __init__(self, names: list[str], places: list[int | None]) -> None:
+        self.names, self.places = names, places
+        # The columns that are there.
+        self.columns = [place for place in places if place is not None]
 
     def of(self, row: list[str]) -> tuple[str, ...]:
         """The values of a row."""
-        values = self.take(row + self.blank if self.blank else row)
+        values = tuple(["" if place is None else row[place] for place in self.places])
         if not "".join(values).isascii():
             for value, name in zip(values, self.names):
                 utf8(value, name)
         return values
 
-    def of_all(self, fields: list[str], kept: Sequence[bool]) -> list[tuple[str, ...]] | None:
-        """The values of the rows that are kept, out of the fields of all; nothing where one may be no text."""
-        count = len(kept)
-        columns = [fields[at :: self.wide] if at < self.wide else [""] * count for at in self.places]
-        if not all("".join(column).isascii() for column in columns):
+    def further(self, columns: Iterable[Sequence[str]], count: int) -> list[str] | None:
+        """The values of so many rows as fields of records, from the columns that are there; or nothing.
+
+        That is so where one is no text.
+        """
+        if not self.places:
+            return [""] * count
+        there = iter(columns)
+        blank: Sequence[str] = [""] * count
+        every = [blank if place is None else next(there) for place in self.places]
+        text = "".join(map("".join, every))
+        try:
+            text.encode()
+        except UnicodeEncodeError:
             return None
-        return list(compress(zip(*columns), kept)) if columns else [()] * sum(kept)
+        if NEEDS_QUOTES.search(text):
+            return list(map(further_fields, zip(*every)))
+        return list(map(",".join, zip(repeat(""), *every)))
 
 
 class Columns:
@@ -333,9 +384,9 @@ class Columns:
         places = [place_of(header, *names) for names in self.names]
         self.missing -= {names[0] for names, at in zip(self.names, places) if at is not None}
         if self.missing and len(self.files) == 1:
-            raise BadLine(f"there is no column {self.first_missing()!r}")
+            raise lacks(header, self.first_missing())
         self.lacking.update(names[0] for names, at in zip(self.names, places) if at is None)
-        return Values([name for name, _ in self.pairs], places, len(header))
+        return Values([name for name, _ in self.pairs], places)
 
     def first_missing(self) -> str | None:
         """The first column that no file had, if there is one."""

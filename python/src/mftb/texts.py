@@ -6,8 +6,10 @@ Coordinates stay texts from end to end, and what cannot be read is said with its
 from __future__ import annotations
 
 import argparse
+import math
 import re
 from collections.abc import Callable, Iterable, Sequence
+from contextlib import suppress
 from datetime import date
 from decimal import Decimal
 from functools import lru_cache
@@ -21,11 +23,8 @@ EXPONENT = re.compile(r"[+-]?(?:[0-9]{1,20}\.?[0-9]{0,20}|\.[0-9]{1,20})[eE][+-]
 # Plain decimals from -180 to 180, and from -90 to 90, in their usual forms.
 LONGITUDE = re.compile(r"-?(?:[0-9]{1,2}|1[0-7][0-9])(?:\.[0-9]{1,20})?")
 LATITUDE = re.compile(r"-?[0-8]?[0-9](?:\.[0-9]{1,20})?")
-# Both with a blank between them, where a digit is not 0.
-USUAL = f"(?=[^1-9\n]*[1-9]){LONGITUDE.pattern} {LATITUDE.pattern}"
-USUAL_PLACE = re.compile(USUAL).fullmatch
-# Several such places, a line each.
-USUAL_PLACES = re.compile(f"{USUAL}(?:\n{USUAL})*+").fullmatch
+# What plain decimals are made of.
+DECIMAL_SIGNS = b"-.0123456789"
 # What stands for a longitude or a latitude that is not known.
 NO_LONGITUDE = re.compile(r"181(?:\.0*)?")
 NO_LATITUDE = re.compile(r"91(?:\.0*)?")
@@ -94,6 +93,14 @@ def degrees(longitude: str, latitude: str, names: Sequence[str]) -> tuple[str, .
     if not any(map(Decimal, place)):
         raise LeftOut("at 0 0")
     return place
+
+
+def numbers(texts: Sequence[str]) -> list[float]:
+    """The numbers of texts that are plain decimals, without a +; of others it may be none."""
+    if not "".join(texts).encode(errors="replace").translate(None, DECIMAL_SIGNS) and max(map(len, texts)) <= 40:
+        with suppress(ValueError):
+            return list(map(float, texts))
+    return [float(text) if LONGITUDE.fullmatch(text) else math.nan for text in texts]
 
 
 @lru_cache(maxsize=50_000)

@@ -49,11 +49,12 @@ class Zone:
 def read(path: str) -> list[Zone]:
     """Reads the zones of a file."""
     zones: dict[str, Zone] = {}
-    record = 1
+    record, first = 1, [""]
     with opened(path) as raw, long_fields():
         table = csv.reader(as_text(raw))
         try:
-            columns = header(next(table, []))
+            first = next(table, first) or first
+            columns = header(first)
             for row in table:
                 record += 1
                 if any(map(str.strip, row)):
@@ -63,7 +64,7 @@ def read(path: str) -> list[Zone]:
                     zones[zone.name] = zone
         except Fault as why:
             code = str(why)
-            raise Refused(f"{path} record {record}: {code}: {REASONS[code]}") from None
+            raise Refused(f"{path} record {record}: {code}: {reason(code, first[0])}") from None
         except csv.Error as why:
             raise Refused(f"{path} record {record}: {why}") from None
     return list(zones.values())
@@ -93,6 +94,12 @@ def header(row: list[str]) -> dict[str, int]:
     if "name" not in places or "wkt" not in places:
         raise Fault("Z2")
     return places
+
+
+def reason(code: str, start: str) -> str:
+    """Why a file is refused, in words, by how it starts."""
+    is_geojson = code == "Z2" and start.lstrip().startswith("{")
+    return REASONS[code] + (" (tools/zones_from makes a file of zones of GeoJSON)" if is_geojson else "")
 
 
 def zone_of(row: list[str], columns: dict[str, int]) -> Zone:

@@ -1,9 +1,10 @@
 //! `mftb check`: whether the pages of a file hold one database.
-use crate::commands::asking::database_to_ask;
+use crate::commands::asking::{AskedStore, database_to_ask};
 use crate::system::names::Names;
 use crate::system::opening::{open_asked, sweep};
 use arguments::Check;
 use outputs::Output;
+use pages::PageStore;
 use sessions::{Fault, check_and_close, send_all};
 use std::alloc::{AllocError, Global};
 use std::fs::File;
@@ -21,20 +22,37 @@ fn text_of(alloc: Global, report: &Report) -> Result<String, AllocError> {
     format!(in alloc; "ok 1\n{pages},{legs},{features}\n")
 }
 
-/// Opens the store to be read alone, and checks its database. A file that is absent is made, without
-/// a byte.
-pub(crate) fn check<'a, R: Files<File = File> + AllocGlobal + RandomSource, O: Output>(
+/// Opens the store to be read alone. A file that is absent is made, without a byte.
+fn store_to_check<'a, R: Files<File = File> + AllocGlobal>(
     rt: &R,
-    check: &Check<'a>,
+    store: &str,
+) -> Result<AskedStore, Fault<'a>> {
+    let names = Names::new(rt, store)?;
+    sweep(rt, &names);
+    open_asked(rt, &names)
+}
+
+/// Checks the database of a store, and says how much it holds.
+fn check_store<'a, R: AllocGlobal + RandomSource, S: PageStore + Drop, O: Output>(
+    rt: &R,
+    store: S,
+    cache_pages: u32,
     out: &mut O,
 ) -> Result<(), Fault<'a>> {
-    let names = Names::new(rt, check.store)?;
-    sweep(rt, &names);
-    let store = open_asked(rt, &names)?;
-    let database = database_to_ask(rt, store, check.cache_pages)?;
+    let database = database_to_ask(rt, store, cache_pages)?;
     let (_store, checked) = check_and_close(rt.alloc(), database);
     match checked {
         Ok(report) => send_all(out, text_of(rt.alloc(), &report)?.as_bytes()),
         Err(fault) => Err(Fault::Run(fault)),
     }
+}
+
+/// Checks the database of the store of that name.
+pub(crate) fn check<'a, R: Files<File = File> + AllocGlobal + RandomSource, O: Output>(
+    rt: &R,
+    check: &Check<'a>,
+    out: &mut O,
+) -> Result<(), Fault<'a>> {
+    let store = store_to_check(rt, check.store)?;
+    check_store(rt, store, check.cache_pages, out)
 }

@@ -57,6 +57,18 @@ fn text_of<S: PageStore>(
     Ok(text)
 }
 
+/// The text of the gaps of a store's database in a period.
+fn told_of<'a, R: AllocGlobal + RandomSource, S: PageStore + Drop>(
+    rt: &R,
+    store: S,
+    cache_pages: u32,
+    period: &Period,
+) -> Result<Vec<u8>, Fault<'a>> {
+    let mut database = database_to_ask(rt, store, cache_pages)?;
+    let text = text_of(rt.alloc(), &mut database, period);
+    close_asked(rt.alloc(), database, text)
+}
+
 /// Opens the store to be read alone, and prints the gaps of its features that have a moment in the period.
 pub(crate) fn print_gaps<'a, R: Files<File = File> + AllocGlobal + RandomSource, O: Output>(
     rt: &R,
@@ -66,8 +78,6 @@ pub(crate) fn print_gaps<'a, R: Files<File = File> + AllocGlobal + RandomSource,
     hold_words(&task.times)?;
     let period = period_of(task.times)?;
     let store = store_to_ask(rt, task.store)?;
-    let mut database = database_to_ask(rt, store, task.cache_pages)?;
-    let text = text_of(rt.alloc(), &mut database, &period);
-    let told = close_asked(rt.alloc(), database, text)?;
+    let told = told_of(rt, store, task.cache_pages, &period)?;
     send_all(out, &told)
 }

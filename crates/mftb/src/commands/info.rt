@@ -1,17 +1,18 @@
 //! `mftb info`: what a store holds.
-use crate::commands::asking::{database_to_ask, store_to_ask};
+use crate::commands::asking::store_to_ask;
 use crate::system::page_zero::{Header, read_extent, read_header};
 use arguments::{Info, InfoForm};
 use legs::Box3;
 use outputs::Output;
+use pagecache::PageCache;
 use pages::PageStore;
+use register::{Summary, summarize};
 use reports::{StoreReport, push_json, push_lines};
 use sessions::{CACHE_PAGES, Fault, send_all};
 use std::alloc::Global;
 use std::fs::File;
-use std::random::RandomSource;
 use std::rt::Files;
-use trajdb::{Db, RunFault};
+use trajdb::{OpenFault, RunFault};
 
 /// What is seen of the pages of a store.
 #[derive(Clone, Copy)]
@@ -34,20 +35,31 @@ fn look<'a, S: PageStore>(store: &mut S) -> Result<Seen, Fault<'a>> {
     })
 }
 
-/// The text of what is said of a database, and of what was seen of the pages of its store.
-fn text_of<S: PageStore>(
+/// What a store says of its database without its rows.
+fn summary_of<'a, S: PageStore + Drop>(alloc: Global, store: S) -> Result<Summary, Fault<'a>> {
+    let Ok(mut cache) = PageCache::new(alloc, store, CACHE_PAGES as usize) else {
+        return Err(Fault::Open(OpenFault::Memory));
+    };
+    match summarize(alloc, &mut cache) {
+        Ok(summary) => Ok(summary),
+        Err(fault) => Err(Fault::Open(fault)),
+    }
+}
+
+/// The text of what a store says of its database, and of what was seen of its pages.
+fn text_of(
     alloc: Global,
-    database: &Db<S>,
+    summary: &Summary,
     seen: &Seen,
     form: InfoForm,
 ) -> Result<Vec<u8>, RunFault> {
     let said = StoreReport {
         version: seen.header.front.version,
         pages: seen.pages,
-        head: database.head(),
-        legs: database.leg_count(),
-        features: database.feature_count(),
-        limits: database.limits(),
+        head: summary.head.as_ref(),
+        legs: summary.legs,
+        features: summary.features,
+        limits: summary.limits,
         extent: seen.extent,
     };
     let mut text = Vec::new(alloc);
@@ -58,22 +70,17 @@ fn text_of<S: PageStore>(
     Ok(text)
 }
 
-/// Opens the store to be read alone, and prints what it holds. Why the database is not opened comes first.
-pub(crate) fn print_info<'a, R: Files<File = File> + AllocGlobal + RandomSource, O: Output>(
+/// Opens the store to be read alone, and prints what it holds. Why it says nothing of a database comes first.
+pub(crate) fn print_info<'a, R: Files<File = File> + AllocGlobal, O: Output>(
     rt: &R,
     task: &Info<'a>,
     out: &mut O,
 ) -> Result<(), Fault<'a>> {
     let mut store = store_to_ask(rt, task.store)?;
     let seen = look(&mut store);
-    let database = database_to_ask(rt, store, CACHE_PAGES)?;
-    let told = match seen {
-        Ok(seen) => match text_of(rt.alloc(), &database, &seen, task.form) {
-            Ok(text) => Ok(text),
-            Err(fault) => Err(Fault::Run(fault)),
-        },
-        Err(fault) => Err(fault),
-    };
-    let _store = database.abandon();
-    send_all(out, &told?)
+    let summary = summary_of(rt.alloc(), store)?;
+    match text_of(rt.alloc(), &summary, &seen?, task.form) {
+        Ok(text) => send_all(out, &text),
+        Err(fault) => Err(Fault::Run(fault)),
+    }
 }

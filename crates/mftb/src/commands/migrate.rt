@@ -5,6 +5,7 @@ use arguments::Migrate;
 use outputs::Output;
 use pages::{FileStore, PageStore};
 use sessions::{Fault, migrate_and_close, send_all};
+use std::alloc::Global;
 use std::fs::File;
 use std::hash::RandomState;
 use std::random::RandomSource;
@@ -17,6 +18,20 @@ fn not_new<'a, R: Files<File = File> + AllocGlobal>(rt: &R, name: &str) -> Fault
         Ok(_) => Fault::NotEmpty,
         Err(_) => Fault::Run(RunFault::Store),
     }
+}
+
+/// Brings a store of version 1 over into a new one.
+fn bring<'a, S: PageStore + Drop, T: PageStore + Drop>(
+    alloc: Global,
+    keys: RandomState,
+    mut old: S,
+    new: T,
+) -> Result<(), Fault<'a>> {
+    if new.len() != 0 {
+        return Err(Fault::NotEmpty);
+    }
+    let (_store, brought) = migrate_and_close(alloc, keys, &mut old, new);
+    brought
 }
 
 /// Brings a store of version 1, which is opened to be read alone, over into a new file. Where the old
@@ -35,14 +50,10 @@ pub(crate) fn migrate<'a, R: Files<File = File> + AllocGlobal + RandomSource, O:
     let Ok(keys) = RandomState::new(rt) else {
         return Err(Fault::Run(RunFault::Memory));
     };
-    let mut old = open_asked(rt, &Names::new(rt, migrate.old)?)?;
+    let old = open_asked(rt, &Names::new(rt, migrate.old)?)?;
     let names = Names::new(rt, migrate.new)?;
     let new = open_in_place(rt, &names)?;
-    if new.len() != 0 {
-        return Err(Fault::NotEmpty);
-    }
-    let (_store, brought) = migrate_and_close(rt.alloc(), keys, &mut old, new);
-    match brought {
+    match bring(rt.alloc(), keys, old, new) {
         Ok(()) => send_all(out, "ok 0\n".as_bytes()),
         Err(fault) => Err(names.caused(fault)),
     }

@@ -8,6 +8,7 @@ use mfcsv::Dimension;
 use moments::{Stay, dwells_of, stays, visits_of};
 use outputs::Output;
 use pages::PageStore;
+use reasons::Area;
 use reports::{
     Frame, push_dwell_fields, push_dwells, push_fields, push_label, push_stays, push_visits,
 };
@@ -39,6 +40,12 @@ pub(crate) fn frame_of<'l, S: PageStore>(database: &Db<S>, label: &'l [u8]) -> F
     }
 }
 
+/// The fields of what begins and what ends a stay or a visit.
+const ENDS: &str = "enters_by,leaves_by,edge_in,edge_out";
+
+/// The same of a visit, with how many legs it has.
+const VISIT_ENDS: &str = "enters_by,leaves_by,edge_in,edge_out,legs";
+
 /// What is asked of each rectangle.
 #[derive(Clone, Copy)]
 struct Asked {
@@ -67,10 +74,8 @@ impl Asked {
             "feature"
         };
         match self.rows {
-            RowKind::Legs => push_fields(&mut text, first, dimension, "enters_by,leaves_by")?,
-            RowKind::Visits => {
-                push_fields(&mut text, first, dimension, "enters_by,leaves_by,legs")?;
-            }
+            RowKind::Legs => push_fields(&mut text, first, dimension, ENDS)?,
+            RowKind::Visits => push_fields(&mut text, first, dimension, VISIT_ENDS)?,
             RowKind::Dwell => push_dwell_fields(&mut text, first)?,
         }
         Ok(text)
@@ -127,6 +132,19 @@ impl Asked {
     }
 }
 
+/// What the database of a store answers.
+fn told_of<'a, R: AllocGlobal + RandomSource, S: PageStore + Drop>(
+    rt: &R,
+    store: S,
+    cache_pages: u32,
+    asked: &Asked,
+    rects: &[NamedRect],
+) -> Result<Told, Fault<'a>> {
+    let mut database = database_to_ask(rt, store, cache_pages)?;
+    let answer = asked.ask(&mut database, rects);
+    close_asked(rt.alloc(), database, answer)
+}
+
 /// Opens the store to be read alone, and prints when legs of its database are inside the rectangles in the period.
 pub(crate) fn print_moments<
     'a,
@@ -142,12 +160,17 @@ pub(crate) fn print_moments<
         is_named: matches!(task.place, Where::Rects(_)),
     };
     let store = store_to_ask(rt, task.store)?;
-    let mut database = database_to_ask(rt, store, task.cache_pages)?;
-    let answer = asked.ask(&mut database, &rects);
-    let told = close_asked(rt.alloc(), database, answer)?;
+    let told = told_of(rt, store, task.cache_pages, &asked, &rects)?;
     send_all(out, &told.text)?;
     if task.telling.is_told(is_terminal) {
-        tell_elsewhere(rt, task.store, &asked.period, &rects, &told.empty);
+        tell_elsewhere(
+            rt,
+            task.store,
+            Area::Rectangle,
+            &asked.period,
+            &rects,
+            &told.empty,
+        );
     }
     Ok(())
 }

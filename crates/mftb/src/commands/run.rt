@@ -2,7 +2,7 @@
 ghost use Rattle.std.specs.Prelude.{◌<◌, ◌≤◌, ◌^◌};
 
 use crate::commands::reading::read_files;
-use crate::explain::notes::{Given, tell, tell_made};
+use crate::explain::notes::{Given, tell, tell_made, tell_sources};
 use crate::explain::reach::{Reach, reach_of};
 use crate::outcome::Outcome;
 use crate::system::folder::SystemFolder;
@@ -285,7 +285,8 @@ pub(crate) fn run<
         Err(fault) => return (out, Err(fault)),
     };
     let how = &work.how;
-    let is_shown = is_terminal && run.telling != Telling::Never;
+    let is_quiet = run.telling == Telling::Never;
+    let is_shown = is_terminal && !is_quiet;
     let progress = Progress::new(rt, Told::new(run.progress, is_shown), &work.script);
     let is_told = run.telling.is_told(is_terminal);
     let is_empty = how.is_new || is_without_legs(rt, work.names.store.as_str(), is_told);
@@ -297,10 +298,12 @@ pub(crate) fn run<
         let _ = eprintln!(rt; "mftb: {fault}");
     }
     let ended = said(ended);
-    let is_made = ended.is_ok() && how.is_new && progress.loads() == 0;
-    if is_made && run.telling != Telling::Never {
+    let (out, notes) = out.into_parts();
+    if !is_quiet && ended.is_ok() && how.is_new && progress.loads() == 0 {
         tell_made(rt, run.store);
     }
-    let (out, notes) = out.into_parts();
+    if !is_quiet && !is_told && notes.refused() > 0 {
+        tell_sources(rt, &run.files, &work.files);
+    }
     (out, told(rt, run, &work, &notes, ended))
 }

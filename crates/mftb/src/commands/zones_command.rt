@@ -12,6 +12,7 @@ use mfcsv::{Dimension, without_marks};
 use outputs::Output;
 use pages::PageStore;
 use predicates::Predicate;
+use reasons::Area;
 use reports::{
     ZoneFrame, push_dwell_fields, push_fields, push_label, push_zone_dwells, push_zone_features,
     push_zone_stays, push_zone_visits,
@@ -196,6 +197,19 @@ fn ask<S: PageStore>(database: &mut Db<S>, asked: Asked, file: ZoneFile) -> Resu
     Ok(told)
 }
 
+/// What the database of a store answers.
+fn told_of<'a, R: AllocGlobal + RandomSource, S: PageStore + Drop>(
+    rt: &R,
+    store: S,
+    cache_pages: u32,
+    asked: Asked,
+    file: ZoneFile,
+) -> Result<Told, Fault<'a>> {
+    let mut database = database_to_ask(rt, store, cache_pages)?;
+    let answer = ask(&mut database, asked, file);
+    close_asked(rt.alloc(), database, answer)
+}
+
 /// Opens the store to be read alone, and prints who is in which of the zones.
 fn print_answer<'a, R: Files<File = File> + Eprint + AllocGlobal + RandomSource, O: Output>(
     rt: &R,
@@ -211,12 +225,17 @@ fn print_answer<'a, R: Files<File = File> + Eprint + AllocGlobal + RandomSource,
         rows: task.rows,
     };
     let store = store_to_ask(rt, task.store)?;
-    let mut database = database_to_ask(rt, store, task.cache_pages)?;
-    let answer = ask(&mut database, asked, file);
-    let told = close_asked(rt.alloc(), database, answer)?;
+    let told = told_of(rt, store, task.cache_pages, asked, file)?;
     send_all(out, &told.text)?;
     if task.telling.is_told(is_terminal) {
-        tell_elsewhere(rt, task.store, &period, &told.boxes, &told.empty);
+        tell_elsewhere(
+            rt,
+            task.store,
+            Area::Zone,
+            &period,
+            &told.boxes,
+            &told.empty,
+        );
     }
     Ok(())
 }

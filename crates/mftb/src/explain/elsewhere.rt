@@ -1,16 +1,23 @@
-//! What is said of rectangles in which no leg is.
+//! What is said of rectangles and zones in which no leg is.
 use crate::commands::rectangles::NamedRect;
 use crate::explain::reach::{Reach, reach_of};
 use legs::Box3;
-use reasons::{Shown, reach_words};
+use reasons::{Area, Shown, reach_words};
 use std::fs::File;
 use std::io::Eprint;
 use std::rt;
 use timebase::Period;
 
-/// Says of a rectangle why no leg is inside it, where the store has none there.
-fn tell_rect<R: Eprint + AllocGlobal>(rt: &R, period: &Period, asked: &NamedRect, reach: &Box3) {
-    if let Ok(Some(words)) = reach_words(rt.alloc(), &Box3::new(&asked.rect, period), reach) {
+/// Says of an area why no leg is inside it, where the store has none there.
+fn tell_area<R: Eprint + AllocGlobal>(
+    rt: &R,
+    area: Area,
+    period: &Period,
+    asked: &NamedRect,
+    reach: &Box3,
+) {
+    let bounds = Box3::new(&asked.rect, period);
+    if let Ok(Some(words)) = reach_words(rt.alloc(), area, &bounds, reach) {
         let (name, words) = (Shown(asked.name.as_str()), words.as_str());
         let _ = if asked.name.is_empty() {
             eprintln!(rt; "mftb: {words}")
@@ -20,10 +27,12 @@ fn tell_rect<R: Eprint + AllocGlobal>(rt: &R, period: &Period, asked: &NamedRect
     }
 }
 
-/// Says why no leg is inside those of the rectangles in a period, where the store has none there.
+/// Says why no leg is inside those of the rectangles, or of the zones with these least boxes, in a period, where the
+/// store has none there.
 pub(crate) fn tell_elsewhere<R: rt::Files<File = File> + Eprint + AllocGlobal>(
     rt: &R,
     store: &str,
+    area: Area,
     period: &Period,
     rects: &[NamedRect],
     empty: &[usize],
@@ -38,7 +47,7 @@ pub(crate) fn tell_elsewhere<R: rt::Files<File = File> + Eprint + AllocGlobal>(
         Reach::Within(reach) => {
             for place in empty {
                 if let Some(asked) = rects.get(*place) {
-                    tell_rect(rt, period, asked, &reach);
+                    tell_area(rt, area, period, asked, &reach);
                 }
             }
         }

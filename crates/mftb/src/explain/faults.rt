@@ -1,5 +1,5 @@
 //! Why the program failed, beyond what the line of the fault says.
-use arguments::{Corners, Moments, Task, Telling, Where};
+use arguments::{Corners, Task, Telling, Where};
 use querylang::LineCode;
 use reasons::{Code, Shown, line_words};
 use sessions::{Cause, Fault};
@@ -69,24 +69,37 @@ fn opening_words(fault: &Fault) -> Option<&'static str> {
     }
 }
 
-/// The line of a script that asks for the `box` of the words of `mftb moments`.
-fn line_of(alloc: Global, task: &Moments<'_>) -> Result<String, AllocError> {
-    let [t1, t2] = task.times;
-    match task.place {
-        Where::Rect(Corners { x1, y1, x2, y2 }) => {
-            format!(in alloc; "box {x1} {y1} {x2} {y2} {t1} {t2}")
-        }
-        Where::Rects(_) => format!(in alloc; "box 0 0 0 0 {t1} {t2}"),
-    }
+/// The corners of a rectangle that is no word of the command line.
+const ORIGIN: Corners<'static> = Corners {
+    x1: "0",
+    y1: "0",
+    x2: "0",
+    y2: "0",
+};
+
+/// The line of a script that asks for the `box` of a rectangle and a period.
+fn line_of(alloc: Global, corners: Corners<'_>, times: [&str; 2]) -> Result<String, AllocError> {
+    let Corners { x1, y1, x2, y2 } = corners;
+    let [t1, t2] = times;
+    format!(in alloc; "box {x1} {y1} {x2} {y2} {t1} {t2}")
 }
 
 /// Which word of a rectangle and a period is refused, and why.
-fn bounds_words(alloc: Global, task: &Moments<'_>, code: LineCode) -> Option<String> {
+fn bounds_words(alloc: Global, task: &Task<'_>, code: LineCode) -> Option<String> {
+    let (corners, times) = match task {
+        Task::Moments(task) => match task.place {
+            Where::Rect(corners) => (corners, task.times),
+            Where::Rects(_) => (ORIGIN, task.times),
+        },
+        Task::Zones(task) => (ORIGIN, task.times),
+        Task::Gaps(task) => (ORIGIN, task.times),
+        _ => return None,
+    };
     if code == LineCode::Q3 {
         // That is said of the line of a script.
         return None;
     }
-    let line = line_of(alloc, task).ok()?;
+    let line = line_of(alloc, corners, times).ok()?;
     let code = Code::read(code.as_str())?;
     line_words(alloc, line.as_bytes(), code).ok()
 }
@@ -104,9 +117,7 @@ fn tell_cause<R: rt::Files<File = File> + Eprint + AllocGlobal>(
             let _ = eprintln!(rt; "mftb: {name}: {cause}");
         }
         Fault::Bounds(code) => {
-            if let Task::Moments(task) = task
-                && let Some(words) = bounds_words(rt.alloc(), task, *code)
-            {
+            if let Some(words) = bounds_words(rt.alloc(), task, *code) {
                 let words = words.as_str();
                 let _ = eprintln!(rt; "mftb: {words}");
             }

@@ -5,7 +5,9 @@ use catalogue::Catalogue;
 use legs::Box3;
 use monitor::{LineSpan, Note, Notes, What};
 use querylang::{Command, parse_line};
-use reasons::{Code, Known, Refusal, Shown, file_words, line_words, reach_words};
+use reasons::{
+    Area, Code, Known, Refusal, Shown, file_words, line_words, reach_words, source_words,
+};
 use std::alloc::{AllocError, Global};
 use std::fs::File;
 use std::io::Eprint;
@@ -151,7 +153,7 @@ impl Given<'_> {
         let Some(asked) = box_in(&command) else {
             return Ok(None);
         };
-        match reach_words(alloc, &asked, reach)? {
+        match reach_words(alloc, Area::Rectangle, &asked, reach)? {
             Some(words) => Ok(Some(self.at_line(alloc, place, words.as_str())?)),
             None => Ok(None),
         }
@@ -203,4 +205,15 @@ pub(crate) fn tell<R: rt::Files<File = File> + Eprint + AllocGlobal + RandomSour
 pub(crate) fn tell_made<R: Eprint>(rt: &R, store: &str) {
     let store = Shown(store);
     let _ = eprintln!(rt; "mftb: there was no store {store}: an empty one was made");
+}
+
+/// Says of each of these files that is of another form what makes a file to load of it.
+pub(crate) fn tell_sources<R: Eprint + AllocGlobal>(rt: &R, names: &[&str], files: &Files) {
+    for name in names {
+        let bytes = files.get(*name).unwrap_or(b"".as_slice());
+        if let Ok(Some(words)) = source_words(rt.alloc(), *name, bytes) {
+            let words = words.as_str();
+            let _ = eprintln!(rt; "mftb: {words}");
+        }
+    }
 }

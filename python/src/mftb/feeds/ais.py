@@ -10,11 +10,13 @@ from collections.abc import Callable, Iterator, Sequence
 from dataclasses import dataclass
 from functools import lru_cache
 from itertools import compress
-from operator import and_, itemgetter
+from operator import and_
+from typing import Any
 
 from mftb import sources, texts
 from mftb.feeds import arguments, conversion
-from mftb.feeds.judging import Batch, Judge, Position
+from mftb.feeds.judging import Batch, Judge
+from mftb.feeds.positions import Position
 
 EXAMPLE = """example:
   tools/from_ais --columns VesselName --skip-bad positions.csv -o ships.csv
@@ -75,7 +77,7 @@ def row_reader(
 ) -> sources.RowReader:
     at, mmsi, x, y = (sources.column(header, *own) for own in names)
     reader = Reports(header, at, mmsi, (x, y), kept.reader(header), texts.Clock(moment), form)
-    return sources.RowReader(reader.one, reader.table)
+    return sources.RowReader(reader.one, reader.table, reader.columns)
 
 
 @dataclass
@@ -92,8 +94,10 @@ class Reports:
 
     def __post_init__(self) -> None:
         self.kind = sources.place_of(self.header, "Type of mobile")
-        self.place_of = itemgetter(*self.axes)
         self.features = Features(self.header[self.mmsi])
+        # Where no column tells ships from others, each is taken for one by its MMSI.
+        kind = self.mmsi if self.kind is None else self.kind
+        self.columns = [self.at, kind, self.mmsi, *self.axes, *self.values.columns]
 
     def one(self, row: list[str]) -> Position:
         """The position of a report."""
@@ -104,46 +108,35 @@ class Reports:
         except ValueError:
             what = f"{self.header[self.at]} {row[self.at]!r}"
             raise texts.BadLine(f"{what} is no instant of the form {self.form}") from None
-        x, y = self.place_of(row)
-        place = texts.degrees(x, y, [self.header[axis] for axis in self.axes])
+        x, y = self.axes
+        place = texts.degrees(row[x], row[y], [self.header[axis] for axis in self.axes])
         return Position(self.features[row[self.mmsi]], when, place, self.values.of(row))
 
-    def table(self, fields: list[str]) -> sources.Table | None:
-        """What is read of the fields of reports; nothing where one of an unusual form has a position."""
-        wide = len(self.header)
-        x, y = self.axes
-        places = list(zip(fields[x::wide], fields[y::wide]))
-        kept = self.are_usual(fields, places)
+    def table(self, columns: list[Sequence[str]], row_at: sources.RowAt) -> sources.Table | None:
+        """What is read of reports; nothing where one of an unusual form has a position."""
+        found: list[Any] = [*columns[:5], *map(texts.numbers, columns[3:5]), *columns[5:]]
+        kept = self.are_usual(columns[1], *found[5:7])
+        faults: list[tuple[int, Any]] = []
+        if not all(kept):
+            items = sources.RowReader(self.one)
+            faults = [(place, items.item(row_at(place), len(self.header))) for place, it in enumerate(kept) if not it]
+            found = [list(compress(column, kept)) for column in found]
+        at, _, mmsi, x, y, xs, ys, *values = found
+        further = self.values.further(values, len(at))
+        if further is None or any(isinstance(why, tuple) for _, why in faults):
+            return None
         try:
-            faults = [] if all(kept) else list(self.faults(fields, kept))
-            moments = self.clock.moments(compress(fields[self.at :: wide], kept))
-            features = list(map(self.features.__getitem__, compress(fields[self.mmsi :: wide], kept)))
+            moments, features = self.clock.moments(at), list(map(self.features.__getitem__, mmsi))
         except (ValueError, texts.BadLine):
             return None
-        values = self.values.of_all(fields, kept)
-        if values is None:
-            return None
-        return sources.Table(features, moments, list(compress(places, kept)), values, faults)
+        rows = list(compress(range(len(kept)), kept))
+        return sources.Table(rows, features, moments, [(x, xs), (y, ys)], further, [0] * len(at), faults)
 
-    def faults(self, fields: list[str], kept: list[bool]) -> Iterator[tuple[int, Exception]]:
-        """The places of the reports that are not kept, and why."""
-        item, wide = sources.RowReader(self.one).item, len(self.header)
-        for place in (place for place, is_kept in enumerate(kept) if not is_kept):
-            why = item(fields[place * wide : (place + 1) * wide], wide)
-            if not isinstance(why, Exception):
-                raise ValueError("a position in another form")
-            yield place, why
-
-    def are_usual(self, fields: list[str], places: list[tuple[str, str]]) -> list[bool]:
+    def are_usual(self, kinds: Sequence[str], xs: list[float], ys: list[float]) -> list[bool]:
         """Of each report whether it is one of a ship, with a position in its usual form."""
-        shown = list(map(" ".join, places))
-        if texts.USUAL_PLACES("\n".join(shown)):
-            found = [True] * len(shown)
-        else:
-            found = list(map(bool, map(texts.USUAL_PLACE, shown)))
+        found = [-180 < x < 180 and -90 < y < 90 and (x != 0 or y != 0) for x, y in zip(xs, ys)]
         if self.kind is None:
             return found
-        kinds = fields[self.kind :: len(self.header)]
         ships = {kind for kind in set(kinds) if not is_no_ship(kind)}
         return list(map(and_, found, map(ships.__contains__, kinds)))
 

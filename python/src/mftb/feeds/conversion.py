@@ -15,26 +15,23 @@ import contextlib
 import copy
 import gc
 import io
-import marshal
 import math
 import os
 import signal
-import sqlite3
 import sys
-import tempfile
 from argparse import Namespace
 from collections import Counter
 from collections.abc import Callable, Iterable, Iterator, Mapping
-from itertools import islice
-from typing import Any, TextIO, TypeAlias
+from typing import TextIO, TypeAlias
 
 from mftb.commands import ended, say
 from mftb.feeds import seams
-from mftb.feeds.fixes import Speed, Unwrapped, meets, over_date_line
-from mftb.feeds.judging import Batch, Bounds, Judge, Plain, Position, Sieve, position_of
+from mftb.feeds.judging import Batch, Judge, Sieve
+from mftb.feeds.legs import Legs
+from mftb.feeds.positions import Bounds, Position, Positions, Sorted, Spool, Unwrapped, axes_of
 from mftb.legfiles import beside
-from mftb.sources import BATCH, Columns
-from mftb.texts import Known, LeftOut, Refused, field, further_fields, instant, several
+from mftb.sources import Columns
+from mftb.texts import LeftOut, Refused, field, instant, several
 
 # Positions between two words of progress, and lines that cannot be read of which each is named.
 STRIDE, NAMED = 50_000, 20
@@ -47,43 +44,6 @@ class IsThere(Refused):
 # What reads a file, and gives what is judged of its lines, some at once.
 FileReader: TypeAlias = Callable[[str, Judge], Iterator[Batch]]
 Reader: TypeAlias = Callable[[Namespace], FileReader]
-
-# Reading
-
-
-class Spool:
-    """Positions in a temporary file, in the order in which they came, and their bounds."""
-
-    def __init__(self) -> None:
-        self.file, self.bounds = tempfile.TemporaryFile(), Bounds()
-        self.sizes: list[int] = []
-
-    def add(self, batch: Batch) -> None:
-        """Keeps the positions of a batch."""
-        if batch.count:
-            self.bounds.join(batch.bounds)
-            self.sizes.append(self.file.write(batch.packed))
-
-    def __iter__(self) -> Iterator[Plain]:
-        self.file.seek(0)
-        for size in self.sizes:
-            yield from zip(*marshal.loads(self.file.read(size)))
-
-
-class Sorted:
-    """Positions by their moments, those of one moment as they came; memory does not grow."""
-
-    def __init__(self, positions: Iterable[Plain]) -> None:
-        # An empty name is a temporary file, which is removed when it is closed.
-        self.store = sqlite3.connect("")
-        self.store.execute("pragma temp_store = file")
-        self.store.execute("create table position (moment integer, number integer primary key, rest blob)")
-        rest = ((it[1], marshal.dumps(it)) for it in positions)
-        self.store.executemany("insert into position (moment, rest) values (?, ?)", rest)
-
-    def __iter__(self) -> Iterator[Plain]:
-        for (rest,) in self.store.execute("select rest from position order by moment, number"):
-            yield marshal.loads(rest)
 
 
 class Feed:
@@ -104,9 +64,9 @@ class Feed:
         self.lines, self.features, self.bad = 0, 0, 0
         # The last moment so far, and the first feature that goes back in time.
         self.latest, self.disorder = -math.inf, ""
-        self.ordered: Iterable[Plain] = self.spool
+        self.ordered: Iterable[Positions] = self.spool
         self.written = 0
-        self.legs = Legs(options, self.counts, begins)
+        self.legs = Legs(options, self.counts)
 
     def survey(self) -> None:
         """Judges every line, and sees what the header needs and whether there is an order."""
@@ -117,7 +77,8 @@ class Feed:
                 self.leave_out(path, line, why)
             for feature, (first, last) in batch.early.items():
                 self.sieve.note(feature, first, last)
-            self.spool.add(batch)
+            if batch.numbers:
+                self.spool.add(batch.packed, batch.bounds)
             self.follow(path, batch, ends)
         self.features = len(ends)
         self.judge(ends)
@@ -125,12 +86,10 @@ class Feed:
 
     def follow(self, path: str, batch: Batch, ends: dict[str, int]) -> None:
         """Notes where each feature is now, and the first that goes back in time."""
-        if not self.disorder and batch.count:
-            back = [] if batch.disorder is None else [batch.disorder]
-            if batch.bounds.first < self.latest:
-                back += [(line, name) for name, (when, line) in batch.firsts.items() if when < ends.get(name, when)]
+        if not self.disorder and batch.numbers:
+            back = batch.back(ends) if batch.bounds.first < self.latest else batch.disorder
             if back:
-                line, feature = min(back)
+                line, feature = back
                 self.disorder = f"{path} line {line}: {feature!r} goes back in time"
             self.latest = max(self.latest, batch.bounds.last)
         ends.update(batch.lasts)
@@ -194,122 +153,17 @@ class Feed:
             self.say(f"{self.disorder}; sorting by time, in a temporary file on disk")
             self.ordered = Sorted(self.spool)
         if self.options.unwrap:
-            self.ordered, self.bounds = Unwrapped(self.ordered, self.begins), Bounds()
-            for position in self.ordered:
-                self.bounds.cover([position])
+            longitudes = {feature: float(begin.place[0]) for feature, begin in self.begins.items()}
+            self.ordered, self.bounds = Unwrapped(self.ordered, longitudes), Bounds()
+            for positions in self.ordered:
+                self.bounds.widen(positions.moments, positions.axes())
         earliest = self.bounds.first - self.options.gap
         for begin in self.begins.values():
             if begin.moment >= earliest:
-                self.bounds.cover([begin])
-
-
-# Legs
-
-# The last position of a feature that was kept, whether that is in a leg, and its x and y.
-Last: TypeAlias = tuple[Plain, bool, float, float]
-
-
-def last_of(begin: Position) -> Last:
-    """Where a feature ended before, in a leg."""
-    return begin, True, float(begin.place[0]), float(begin.place[1])
-
-
-class Legs:
-    """Makes the legs of positions, where each feature's come in time order: pairs of positions.
-
-    Of a repeated instant the first position is kept. No leg spans a gap, joins two segments, or
-    goes over the date line, which in a plane would be a leg around the whole world. What is too
-    fast is left out, or only counted.
-    """
-
-    def __init__(self, options: Namespace, counts: Counter, begins: Mapping[str, Position]) -> None:
-        self.gap, self.counts = options.gap, counts
-        self.leaves_out = options.most is not None
-        self.speed = Speed(options.most or options.usual, options.in_degrees)
-        self.is_over = over_date_line if options.in_degrees else lambda one, two: False
-        # Of each feature the last position that was kept, whether that is in a leg, and its x and y.
-        self.last: dict[str, Last] = {name: last_of(begin) for name, begin in begins.items()}
-        # Of a feature whose first position is in no leg, one that was too fast from there.
-        self.doubts: dict[str, Plain] = {}
-
-    def ends(self) -> dict[str, Position]:
-        """Where each feature ended."""
-        return {name: position_of(end) for name, (end, *_) in self.last.items()}
-
-    def of(self, positions: Iterable[Plain]) -> Iterator[tuple[Plain, Plain]]:
-        last, gap = self.last, self.gap
-        nothing: tuple[Any, bool, float, float] = (None, True, 0.0, 0.0)
-        before: Plain | None
-        is_over, exceeded, glance = self.is_over, self.speed.exceeded, self.speed.glance
-        for here in positions:
-            feature, moment, place, _, segment = here
-            x, y = float(place[0]), float(place[1])
-            before, in_leg, from_x, from_y = last.get(feature, nothing)
-            if before is not None:
-                span = moment - before[1]
-                # Longitudes of one sign are on one side of the date line.
-                is_near = x * from_x > 0 or not is_over(before[2][0], place[0])
-                if 0 < span <= gap and segment == before[4] and is_near:
-                    # What is slow enough at a glance needs no second one.
-                    if abs(x - from_x) + abs(y - from_y) > glance * span and exceeded(before, here):
-                        before = self.too_fast(before, in_leg, here)
-                    if before is not None:
-                        yield before, here
-                        last[feature] = here, True, x, y
-                    continue
-                if self.is_repeated(before, here):
-                    continue
-            if not in_leg:
-                self.counts["alone"] += 1
-            last[feature] = here, False, x, y
-        self.counts["alone"] += sum(not in_leg for _, in_leg, *_ in last.values())
-
-    def is_repeated(self, before: Plain, here: Plain) -> bool:
-        """Counts why there is no leg between two positions; whether it is a repeated instant."""
-        one, two = position_of(before), position_of(here)
-        if one.segment != two.segment:
-            self.counts["between segments"] += 1
-        elif one.moment == two.moment:
-            self.counts["with a repeated instant"] += 1
-            return True
-        elif two.moment - one.moment > self.gap:
-            self.counts["gaps"] += 1
-        else:
-            self.counts["over the date line"] += 1
-        return False
-
-    def too_fast(self, before: Plain, in_leg: bool, here: Plain) -> Plain | None:
-        """The position from which a leg leads here all the same, if there is one.
-
-        Of two positions of which one is wrong, the later one is left out; but where the earlier
-        one is in no leg, and two later ones agree, that is the wrong one.
-        """
-        if not self.leaves_out:
-            self.counts["fast"] += 1
-            return before
-        feature = here[0]
-        other = None if in_leg else self.doubts.get(feature)
-        if other and self.agree(other, here):
-            return self.doubts.pop(feature)
-        self.counts["too fast"] += 1
-        if not in_leg:
-            self.doubts[feature] = here
-        return None
-
-    def agree(self, before: Plain, here: Plain) -> bool:
-        one, two = position_of(before), position_of(here)
-        near = 0 < two.moment - one.moment <= self.gap and one.segment == two.segment
-        apart = self.is_over(one.place[0], two.place[0]) or self.speed.exceeded(one, two)
-        return near and not apart
+                self.bounds.widen([begin.moment], axes_of([begin.place]))
 
 
 # The output
-
-
-def seconds(milliseconds: int) -> str:
-    """A span in seconds, as the shortest decimal."""
-    whole, part = divmod(milliseconds, 1000)
-    return f"{whole}.{part:03}".rstrip("0") if part else str(whole)
 
 
 def write(out: TextIO, feed: Feed) -> None:
@@ -322,31 +176,16 @@ def write(out: TextIO, feed: Feed) -> None:
     names = [text for pair in options.written for text in pair]
     for line in head, ["@columns", "mfidref", "trajectory", *names]:
         out.write(",".join(map(field, line)) + "\n")
-    legs, known, times, more = kept_legs(feed), Known(field), Known(seconds), Known(further_fields)
-    while found := list(islice(legs, BATCH)):
-        feed.written += len(found)
-        # A leg's times count from `start`.
-        lines = [
-            f"{known[name]},{times[begin - start]},{times[two[1] - start]},{' '.join(place + two[2])}{more[values]}\n"
-            for (name, begin, place, values, _), two in found
-        ]
-        out.write("".join(lines))
-
-
-def kept_legs(feed: Feed) -> Iterator[tuple[Plain, Plain]]:
-    """The legs that are written, with a word of progress on a terminal."""
-    box, terminal = feed.options.bbox, sys.stderr.isatty()
-    legs = feed.legs.of(feed.ordered)
-    if box is None and not terminal:
-        yield from legs
-        return
-    for number, (one, two) in enumerate(legs):
-        if number % STRIDE == 0 and terminal:
-            say(feed.tool, f"leg {number}", end="")
-        if box is None or meets(box, one[2], two[2]):
-            yield one, two
-        else:
-            feed.counts["outside"] += 1
+    feed.legs.begin(start, feed.begins)
+    terminal = sys.stderr.isatty()
+    for positions in feed.ordered:
+        records = feed.legs.records(positions)
+        count = len(records) - records.count("")
+        if terminal and feed.written // STRIDE < (feed.written + count) // STRIDE:
+            say(feed.tool, f"leg {feed.written + count}", end="")
+        feed.written += count
+        out.write("".join(records))
+    feed.counts["alone"] += feed.legs.alone()
 
 
 def save(feed: Feed) -> None:
@@ -388,8 +227,8 @@ def ends_of_feed(tool: str, reader: Reader, options: Namespace) -> dict[str, Pos
     earlier.kept = Columns(earlier)
     feed = Feed(tool, reader, earlier, {}, quiet=True)
     feed.survey()
-    for _ in feed.legs.of(feed.ordered):
-        pass
+    for positions in feed.ordered:
+        feed.legs.records(positions)
     # A later file's segments are its own.
     return {name: end._replace(segment=0) for name, end in feed.legs.ends().items()}
 

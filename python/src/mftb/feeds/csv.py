@@ -13,7 +13,7 @@ from zoneinfo import ZoneInfo
 
 from mftb import texts
 from mftb.feeds import arguments, conversion, layouts
-from mftb.feeds.judging import Position
+from mftb.feeds.positions import Position
 from mftb.sources import RowReader
 
 EXAMPLE = """example:

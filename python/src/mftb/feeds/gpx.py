@@ -14,7 +14,8 @@ from xml.parsers import expat
 
 from mftb import sources, texts
 from mftb.feeds import arguments, conversion
-from mftb.feeds.judging import Batch, Item, Judge, Position
+from mftb.feeds.judging import Batch, Item, Judge
+from mftb.feeds.positions import Position
 
 EXAMPLE = """example:
   tools/from_gpx --columns ele=xsd:decimal morning.gpx evening.gpx -o rides.csv
@@ -157,6 +158,9 @@ def read(path: str, tracks: Tracks, judge: Judge) -> Iterator[Batch]:
         piece = skip_blanks(source)
         if not piece:
             return
+        # In any encoding the first sign is <, perhaps behind a mark.
+        if b"<" not in piece.lstrip(BLANKS)[:4]:
+            raise texts.Refused(f"{path} is not GPX: it does not begin with '<' (see tools/from_csv)")
         while piece:
             file.parse(piece)
             for numbers, items in sources.batches(iter(file.found)):

@@ -10,7 +10,7 @@ from collections.abc import Callable, Iterator
 from datetime import datetime, time, timedelta, timezone, tzinfo
 from decimal import ROUND_FLOOR, Decimal
 from functools import lru_cache
-from itertools import chain
+from typing import TextIO
 
 from mftb import sources
 from mftb.feeds.judging import Batch, Judge
@@ -168,6 +168,21 @@ class Table:
         return found
 
 
+class Joined(io.TextIOBase):
+    """A text, and another one behind it."""
+
+    def __init__(self, first: TextIO, then: TextIO) -> None:
+        self.first, self.then = first, then
+
+    def read(self, size: int | None = -1) -> str:
+        most = -1 if size is None else size
+        return self.first.read(most) or self.then.read(most)
+
+    def readline(self, size: int | None = -1) -> str:  # type: ignore[override]
+        most = -1 if size is None else size
+        return self.first.readline(most) or self.then.readline(most)
+
+
 def read(
     path: str, names: list[str], options: Namespace, layout: Callable[[Table], sources.RowReader], judge: Judge
 ) -> Iterator[Batch]:
@@ -178,7 +193,7 @@ def read(
         if not start.strip():
             return
         table = Table(path, start, names, options)
-        lines = chain(io.StringIO(start, ""), text)
+        lines = Joined(io.StringIO(start, ""), text)
         head = csv.reader(lines, delimiter=table.delimiter)
         if table.has_header:
             sources.first_row(head)

@@ -10,7 +10,7 @@ from collections.abc import Callable, Sequence
 
 from mftb import sources, texts
 from mftb.feeds import arguments, conversion
-from mftb.feeds.judging import Position
+from mftb.feeds.positions import Position
 
 EXAMPLE = """example:
   tools/from_movebank --columns individual-taxon-canonical-name --skip-bad storks.csv -o legs.csv

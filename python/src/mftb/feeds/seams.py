@@ -2,6 +2,8 @@
 
 from __future__ import annotations
 
+import csv
+import io
 import json
 import tempfile
 from argparse import Namespace
@@ -14,7 +16,7 @@ from mftb.sources import opened
 from mftb.texts import BadLine, Refused, instant, plain_decimal, read_instant
 
 if TYPE_CHECKING:
-    from mftb.feeds.judging import Position
+    from mftb.feeds.positions import Position
 
 # A feature, and the moment, the place and the values of its last position.
 End: TypeAlias = tuple[str, int, tuple[str, ...], tuple[str, ...]]
@@ -40,7 +42,7 @@ def read_state(path: str, options: Namespace) -> Iterator[End]:
     try:
         with opened(path) as raw:
             state = json.loads(raw.read().decode())
-        agree(path, options, state["crs"], state["dimension"], ((name, kind) for name, kind in state["columns"]))
+        agree(options, state["crs"], state["dimension"], [(name, kind) for name, kind in state["columns"]])
         for name, (moment, place, values) in state["features"].items():
             yield name, read_instant(moment), coordinates(place), tuple(map(str, values))
     except (ValueError, KeyError, TypeError, AttributeError, BadLine):
@@ -60,7 +62,7 @@ def read_legs(path: str, options: Namespace) -> Iterator[End]:
         except (ValueError, BadLine):
             raise file.refused() from None
     columns = zip(file.columns, file.types)
-    agree(path, options, file.head[1], f"{file.dimension}D", columns)
+    agree(options, file.head[1], f"{file.dimension}D", columns)
     for name, end in ends.items():
         yield name, *end
 
@@ -70,7 +72,7 @@ def read_store(path: str, options: Namespace) -> Iterator[tuple]:
     store = Store(getattr(options, "program", None), path)
     ends: dict[str, tuple[int, tuple[str, ...], tuple[str, ...]]] = {}
     store.read_info()
-    agree(path, options, store.crs, f"{store.dimension}D", store.columns)
+    agree(options, store.crs, f"{store.dimension}D", store.columns)
     if not store.extent:
         return
     box = " ".join(map(str, store.extent))
@@ -91,15 +93,27 @@ def coordinates(place: str) -> tuple[str, ...]:
     return tuple(plain_decimal(text, "a coordinate") for text in place.split())
 
 
-def agree(path: str, options: Namespace, crs: str, dimension: str, columns: Iterable[tuple[str, str]]) -> None:
+class OtherWords(Refused):
+    """That what came before was made with other words."""
+
+
+def agree(options: Namespace, crs: str, dimension: str, columns: Iterable[tuple[str, str]]) -> None:
     """Refuses what was made with other words, since one store would not take both."""
     for what, there, here in [
         ("--crs", crs, options.crs),
         ("dimension", dimension, options.dimension),
-        ("--columns", list(columns), options.written),
+        ("--columns", words_of(columns), words_of(options.written)),
     ]:
         if there != here:
-            raise Refused(f"{path} was made with another {what}: {there!r}, here {here!r}")
+            raise OtherWords(f"{options.before} was made with another {what}: {there!r}, here {here!r}")
+
+
+def words_of(columns: Iterable[tuple[str, str]]) -> str:
+    """Columns as --columns takes them."""
+    pairs = (name if kind == "xsd:string" else f"{name}={kind}" for name, kind in columns)
+    out = io.StringIO()
+    csv.writer(out, lineterminator="").writerow(pairs)
+    return out.getvalue()
 
 
 def write_state(out: TextIO, options: Namespace, ends: Mapping[str, Position]) -> None:

@@ -7,11 +7,11 @@ use Rattle.pages.specs.declared.payload.Payload.{Payload}
 use Rattle.tbtree.specs.declared.tree.TbTree.{TbTree}
 use Rattle.legs.specs.declared.head.BookHead.{BookHead}
 use Rattle.pagecache.specs.Cache.{payload_of, Cache, IsSettled}
-use Rattle.boxsearch.specs.Index.{content, IndexView, IsMarked, IsSound}
+use Rattle.boxsearch.specs.Index.{content, IndexView, IsMarked, IsSoundIndex}
 use Rattle.catalogue.specs.Closing.{IsNoStoreFault}
 use Rattle.catalogue.specs.Holding.{HoldsBook, HoldsButFirst, IsOfBook, IsUnfinishedStore}
 use Rattle.register.specs.Saved.{CatalogueView}
-use Rattle.register.specs.Lasting.{IsLawful, IsWithin, Says}
+use Rattle.register.specs.Lasting.{IsLawfulCatalogue, IsWithin, Says}
 use Rattle.register.specs.Text.{IsWhole}
 use Rattle.register.specs.Saving.{contents_of, IsSavingStop}
 use Rattle.catalogue.proofs.AgainLemmas.{MayFinish}
@@ -57,14 +57,14 @@ marked_front g c was =
 
 -- a saved index is that of a book
 record IsSavedOf (catalogue : CatalogueView) (book : Book) (index : IndexView) : Type 0 where
-  sound : IsSound index
+  sound : IsSoundIndex index
   legs : content index ≡ book.legs
-  lawful : IsLawful index.cache.count catalogue index.places
+  lawful : IsLawfulCatalogue index.cache.count catalogue index.places
   within : IsWithin index.cache.count index.tree
   says : Says (payload_of index.cache) index.cache.count catalogue index.tree index.places
   whole : IsWhole (contents_of catalogue index.places)
 
-saved_of : (g : given.Over) (c : goal.After-finish g) → IsSound c.args.index.now → (book : Book) → IsOfBook c.args.catalogue.now.limits book c.args.catalogue.now → content c.args.index.now ≡ book.legs
+saved_of : (g : given.Over) (c : goal.After-finish g) → IsSoundIndex c.args.index.now → (book : Book) → IsOfBook c.args.catalogue.now.limits book c.args.catalogue.now → content c.args.index.now ≡ book.legs
     → IsSavedOf c.args.catalogue.now book c.save.new.index
 saved_of g c was_sound book of was_legs =
     let was = c.args.index.now in
@@ -72,8 +72,8 @@ saved_of g c was_sound book of was_legs =
     let catalogue = c.args.catalogue.now in
     let laws = c.laws.ensures in
     let dated : (head : BookHead) → catalogue.head ≡ Some head → IsMoment head.base = λ head e. c.dated.ensures head (ap (λ (v : CatalogueView). v.head) c.catalogue.view_is ∙ e) in
-    let sound : IsSound c.settled.new.index = subst (λ (i : IndexView). IsSound i) (sym c.settled.ensures.same) (laws.sound was was.cache [] (laws.alike was.cache was.cache refl refl refl (λ _ n. refl)) was_sound) in
-    let saved : IsSound j = c.in_ok-save.ensures.sound sound in
+    let sound : IsSoundIndex c.settled.new.index = subst (λ (i : IndexView). IsSoundIndex i) (sym c.settled.ensures.same) (laws.sound was was.cache [] (laws.alike was.cache was.cache refl refl refl (λ _ n. refl)) was_sound) in
+    let saved : IsSoundIndex j = c.in_ok-save.ensures.sound sound in
     let legs : content j ≡ book.legs = c.in_ok-save.ensures.content ∙ ap (λ (i : IndexView). content i) c.settled.ensures.same ∙ was_legs in
     let places : PlaceLaws j = record { bounds = laws.bounds j saved; counts = laws.counts j saved; total = laws.total j saved } in
     record {
@@ -93,7 +93,7 @@ shape_is g c = ap (λ (t : TbTree). t.shape) (tree_is g c)
 
 -- then the store holds the book
 new_holds : (g : given.Over) (c : goal.After-finish g)
-    → OnOk c.finish.result (IsLawfulStore c.finish.new.index.cache.store → IsSound c.args.index.now → IsFront c.save.new.index.cache → (book : Book) → IsOfBook c.args.catalogue.now.limits book c.args.catalogue.now → content c.args.index.now ≡ book.legs
+    → OnOk c.finish.result (IsLawfulStore c.finish.new.index.cache.store → IsSoundIndex c.args.index.now → IsFront c.save.new.index.cache → (book : Book) → IsOfBook c.args.catalogue.now.limits book c.args.catalogue.now → content c.args.index.now ≡ book.legs
     → HoldsBook c.finish.new.index.cache.store c.args.index.now.tree.shape c.args.catalogue.now.limits book)
 new_holds g c = on_ok c.finish.result (λ finishes lawful sound front book of legs.
     let catalogue = c.args.catalogue.now in
@@ -107,9 +107,9 @@ pub returns-in_err-save-clause-only : goal.returns-in_err-save-clause-only
 returns-in_err-save-clause-only g c =
     let p = err_from_is_err_and c.from_residual.result c.from_residual.ensures.1 in
     let catalogue = c.args.catalogue.now in
-    if_err_of (λ e. IsSound c.args.index.now → (book : Book) → IsOfBook catalogue.limits book catalogue → content c.args.index.now ≡ book.legs → IsSavingStop e) c.from_residual.result p.0 c.in_err-save.field-0.0 p.1 p.2
+    if_err_of (λ e. IsSoundIndex c.args.index.now → (book : Book) → IsOfBook catalogue.limits book catalogue → content c.args.index.now ≡ book.legs → IsSavingStop e) c.from_residual.result p.0 c.in_err-save.field-0.0 p.1 p.2
     (λ sound book of legs.
-    let i : IsSound c.settled.new.index = subst (λ (i : IndexView). IsSound i) (sym c.settled.ensures.same) (c.laws.ensures.sound c.args.index.now c.args.index.now.cache [] (c.laws.ensures.alike c.args.index.now.cache c.args.index.now.cache refl refl refl (λ _ n. refl)) sound) in
+    let i : IsSoundIndex c.settled.new.index = subst (λ (i : IndexView). IsSoundIndex i) (sym c.settled.ensures.same) (c.laws.ensures.sound c.args.index.now c.args.index.now.cache [] (c.laws.ensures.alike c.args.index.now.cache c.args.index.now.cache refl refl refl (λ _ n. refl)) sound) in
     c.in_err-save.ensures.only (of_few catalogue book of) i.faithful (c.laws.ensures.some_page c.settled.new.index i) (c.laws.ensures.page_0 c.settled.new.index i))
 
 pub returns-in_err-save-clause-unfinished : goal.returns-in_err-save-clause-unfinished

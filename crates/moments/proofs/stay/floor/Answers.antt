@@ -1,7 +1,7 @@
 use Rattle.std.proofs.Common.{arith, ◌∙◌, ◌≡◌, ℤ, pos, ◌+ℤ◌, ◌*ℤ◌, ◌≤ℤ◌, ◌<ℤ◌, sym, subst, rules, FitsSigned, to_z, of_z, w64}
 use Rattle.std.specs.Int.{int_div_euclid, w128}
 use Rattle.std.proofs.lemmas.Int.{ints, to_z-of_z}
-use Rattle.moments.proofs.Quotients.{floor_at}
+use Rattle.visiting.proofs.Quotients.{floor_at}
 use Rattle.moments.proofs.stay.floor.Goals as goal
 
 quotient : (c : goal.After-div_euclid) → to_z w128 (of_z w128 c.div_euclid.result) ≡ int_div_euclid c.args.n c.args.d

@@ -3,7 +3,7 @@ use Rattle.std.specs.Prelude.{IfErr}
 use Rattle.register.specs.Saved.{CatalogueView}
 use Rattle.register.specs.Saving.{contents_of, features_of, HasFew, IsSavingStop, IsCatalogue}
 use Rattle.register.specs.ChainWriter.{Holds}
-use Rattle.register.specs.Text.{features_text, rows_text, IsWhole}
+use Rattle.register.specs.Text.{features_bytes, rows_text, IsWhole}
 use Rattle.register.proofs.SavingLemmas.{puts_front, puts_then, whole_contents, with_head}
 use Rattle.register.proofs.saving.write_catalogue.Goals as goal
 
@@ -32,5 +32,5 @@ returns-in_ok-write_head-in-Some-clause-whole g c =
 
 pub returns-in_err-write_head-in-Some-clause-puts : goal.returns-in_err-write_head-in-Some-clause-puts
 returns-in_err-write_head-in-Some-clause-puts g c =
-    let lists = features_text (features_of c.catalogue.inside.tracks c.args.places.now) ++ rows_text c.catalogue.inside.rows in
+    let lists = features_bytes (features_of c.catalogue.inside.tracks c.args.places.now) ++ rows_text c.catalogue.inside.rows in
     with_head c.args.places.now c.catalogue.view_is c.in-Some.is (puts_front lists c.from_residual.ensures.1 c.in_err-write_head-in-Some.ensures.saves.puts)

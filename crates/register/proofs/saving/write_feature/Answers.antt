@@ -1,7 +1,7 @@
 use Rattle.std.proofs.Common.{◌++◌, ◌∙◌, subst, List, ℕ}
 use Rattle.std.proofs.lemmas.List.{append-nil}
 use Rattle.register.specs.Saving.{feature_at}
-use Rattle.register.specs.Text.{kept_text, short_text, IsKept, IsShortText}
+use Rattle.register.specs.Text.{kept_text, short_text, FitsKept, IsShortText}
 use Rattle.register.proofs.EncodingLemmas.{always}
 use Rattle.register.proofs.SavingLemmas.{pushed_only, saves_then, saves_same}
 use Rattle.register.proofs.saving.write_feature.Goals as goal
@@ -19,4 +19,4 @@ unfolding feature_at
 returns-clause-whole g c =
     let whole = c.in_ok-push_feature.ensures.whole in
     let kept = c.kept_at-kept.ensures in
-    always c.write_text.result (record { name = subst IsShortText c.name_at.ensures whole.0; kept = subst IsKept kept whole.1 })
+    always c.write_text.result (record { name = subst IsShortText c.name_at.ensures whole.0; kept = subst FitsKept kept whole.1 })

@@ -1,7 +1,7 @@
 use Rattle.std.proofs.Common.{◌<◌, ℕ, List, All, length, subst, arith}
 use Rattle.std.proofs.lemmas.List.{take_all}
 use Rattle.std.proofs.lemmas.List.Elements.{All-more}
-use Rattle.moments.specs.declared.dwells.Dwell.{Dwell}
+use Rattle.visiting.specs.declared.dwells.Dwell.{Dwell}
 use Rattle.reports.specs.StayTexts.{dwell_text}
 use Rattle.reports.proofs.TextLemmas.{texts_all, texts_more}
 use Rattle.reports.proofs.moments_text.push_dwells.Goals as goal

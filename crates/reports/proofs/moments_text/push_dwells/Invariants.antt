@@ -1,5 +1,5 @@
 use Rattle.std.proofs.Common.{◌≡◌, ◌++◌, ◌<◌, All, flat_map, length, take}
-use Rattle.moments.specs.declared.dwells.Dwell.{Dwell}
+use Rattle.visiting.specs.declared.dwells.Dwell.{Dwell}
 use Rattle.reports.specs.StayTexts.{dwell_text}
 use Rattle.reports.proofs.moments_text.push_dwells.Given as goal
 

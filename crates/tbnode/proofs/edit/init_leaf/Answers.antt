@@ -1,7 +1,7 @@
 use Rattle.std.proofs.Common.{◌≡◌, ◌∙◌, ◌^◌, ◌<◌, ap, refl, rules, arith, List, ℕ}
 use Rattle.byteorder.specs.Endian.{big_bytes}
 use Rattle.pages.specs.Zero.{zero_payload}
-use Rattle.tbnode.specs.Form.{leg_count}
+use Rattle.tbnode.specs.Form.{leaf_leg_count}
 use Rattle.tbnode.specs.Layout.{leg_bytes}
 use Rattle.tbnode.specs.Parts.{put}
 use Rattle.tbnode.specs.Steps.{pushed}
@@ -25,7 +25,7 @@ pub append_leg-requires-clause-room : goal.append_leg-requires-clause-room
 unfolding zero_payload
 append_leg-requires-clause-room c =
     let none = begun_count c.args.leg.now.feature c.args.previous 4056 c.zero.result.bytes (ap (λ p. p.bytes) c.zero.ensures) (omega arith) in
-    let e = ap leg_count (is_begun (goal.at.append_leg-requires-clause-room c).After-put_u32-2) in
+    let e = ap leaf_leg_count (is_begun (goal.at.append_leg-requires-clause-room c).After-put_u32-2) in
     omega (arith, none, e)
 
 pub returns : goal.returns

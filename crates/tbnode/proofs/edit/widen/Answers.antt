@@ -3,7 +3,7 @@ use Rattle.legs.specs.Boxes.{BoxView, cover_of}
 use Rattle.tbnode.specs.Nodes.{EntryView}
 use Rattle.tbnode.specs.Parts.{put}
 use Rattle.tbnode.specs.Form.{entry_count, entry_at, is_entry_at}
-use Rattle.tbnode.specs.Layout.{is_entry, entry_of}
+use Rattle.tbnode.specs.Layout.{is_entry, entry_from_bytes}
 use Rattle.tbnode.proofs.ListLemmas.{all_below-at}
 use Rattle.tbnode.proofs.LegLemmas.{length-entry_bytes}
 use Rattle.tbnode.proofs.FormLemmas.{inner_form}
@@ -44,7 +44,7 @@ returns-clause-node c =
     let box = c.args.bounds.now in
     let t = has_entry p c.args.i c.requires.inner c.requires.within in
     let x : EntryView BoxView = record { child = c.entry.inside.child; bounds = c.cover-entry-inside.result } in
-    let was = c.entry.view_is ∙ c.entry_in-entry.ensures ∙ ap entry_of c.part.ensures.value in
+    let was = c.entry.view_is ∙ c.entry_in-entry.ensures ∙ ap entry_from_bytes c.part.ensures.value in
     let child = ap (λ e. e.child) was in
     let bounds = c.cover-entry-inside.ensures.value ∙ ap (λ e. cover_of e.bounds box) was in
     let is : x ≡ record (entry_at p.bytes c.args.i) { bounds = cover_of (entry_at p.bytes c.args.i).bounds box } =

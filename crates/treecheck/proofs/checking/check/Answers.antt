@@ -12,7 +12,7 @@ use Rattle.tbtree.specs.declared.tree.TbTree.{TbTree}
 use Rattle.boxsearch.specs.Answers.{of_tree}
 use Rattle.boxsearch.specs.Beside.{with_cache}
 use Rattle.tbtree.specs.Faults.{MayRefuseRead}
-use Rattle.boxsearch.specs.Index.{IndexView, words, content, IsSound}
+use Rattle.boxsearch.specs.Index.{IndexView, words, content, IsSoundIndex}
 use Rattle.header.specs.Front.{SaysState}
 use Rattle.boxsearch.proofs.AnswerLemmas.{each_fault, each_value, read_allowed}
 use Rattle.boxsearch.proofs.IndexLemmas.{reads_leave}
@@ -56,7 +56,7 @@ passes g c P follows =
     (λ fa k. follows fa (subst whole (c.as_slice.ensures.value ∙ c.take_places-places.ensures.taken) k))))
 
 -- and the index is sound, with the tracks that were given
-sound_after : (g : given.Over) (c : goal.After-answer g) (P : IndexView → Type 0) → ((v : IndexView) → IsSound v → AreTracksOf c.args.tracks.now c.args.rows (content v) → P v)
+sound_after : (g : given.Over) (c : goal.After-answer g) (P : IndexView → Type 0) → ((v : IndexView) → IsSoundIndex v → AreTracksOf c.args.tracks.now c.args.rows (content v) → P v)
     → OnOk c.answer.result (IsTrue c.args.index.now.cache.store.is_faithful → P c.put_places.new.self)
 sound_after g c P holds = passes g c (P c.put_places.new.self) (λ fa k a n.
     let index : IndexView = c.args.index.now in
@@ -76,7 +76,7 @@ pub returns-clause-same : goal.returns-clause-same
 returns-clause-same g c = subst (λ (v : IndexView). v ≡ with_cache c.args.index.now v.cache v.known) (sym (index_is g c)) refl
 
 pub returns-clause-sound : goal.returns-clause-sound
-returns-clause-sound g c = sound_after g c IsSound (λ v s a. s)
+returns-clause-sound g c = sound_after g c IsSoundIndex (λ v s a. s)
 
 pub returns-clause-tracks : goal.returns-clause-tracks
 returns-clause-tracks g c = sound_after g c (λ v. AreTracksOf c.args.tracks.now c.args.rows (content v)) (λ v s a. a)

@@ -12,7 +12,7 @@ corners-init c =
     let some : 0 < length cs = grind (arith, nat_tests) in
     let h : suc (length cs - 1) ≡ length cs = omega arith in
     let x : Corner = c.index-corners-corners.result in
-    ap (λ (near : List Corner). near ++ near_after c.args.window x cs) c.new-near.ensures.items
-    ∙ ap (λ (from : Corner). near_after c.args.window from cs) c.index-corners-corners.is
-    ∙ near_from_last c.args.window x cs (length cs - 1) h
-    ∙ ap (near_ring c.args.window) c.corners-corners.ensures
+    ap (λ (near : List Corner). near ++ near_after c.args.window c.args.course.now x cs) c.new-near.ensures.items
+    ∙ ap (λ (from : Corner). near_after c.args.window c.args.course.now from cs) c.index-corners-corners.is
+    ∙ near_from_last c.args.window c.args.course.now x cs (length cs - 1) h
+    ∙ ap (near_ring c.args.window c.args.course.now) c.corners-corners.ensures

@@ -1,6 +1,6 @@
 use Rattle.std.proofs.Common.{◌⊎◌, inl, inr, List, ◌*ℤ◌, ◌<ℤ◌, ◌≤ℤ◌, arith, sym, subst}
 use Rattle.std.proofs.lemmas.Int.{ints}
-use Rattle.zones.specs.declared.cuts.Place.{Place}
+use Rattle.zones.specs.declared.cuts.CoursePlace.{CoursePlace}
 use Rattle.zones.specs.declared.cuts.Cut.{Cut}
 use Rattle.zones.specs.Places.{Corner, CourseView}
 use Rattle.zones.specs.Stays.{IsOutAfter}
@@ -12,7 +12,7 @@ use Rattle.zones.proofs.CutLemmas.{IsSoFar, le_less, none_between, so_far_none, 
 use Rattle.zones.proofs.staying.stays.Goals as goal
 
 -- a stay that ends before the last place: the course is outside after it
-out : (rings : List (List Corner)) (course : CourseView) (end next last : Place)
+out : (rings : List (List Corner)) (course : CourseView) (end next last : CoursePlace)
     → ((last.num *ℤ end.den) ≤ℤ (end.num *ℤ last.den)) ⊎ IsOutAfter rings course end next last
     → (end.num *ℤ last.den) <ℤ (last.num *ℤ end.den) → IsOutAfter rings course end next last
 out rings course end next last (inl h) l = absurd (omega (arith, ints, h, l))
@@ -46,9 +46,9 @@ returns-then-not-is_before c =
 pub stays-smaller : goal.stays-smaller
 stays-smaller c =
     let x = c.args in
-    let from : Place = c.stays.from in
+    let from : CoursePlace = c.stays.from in
     let stay = c.stay_from-stay.result in
-    let entry : Place = c.in-At.entry in
+    let entry : CoursePlace = c.in-At.entry in
     let o = out x.rings.now x.course.now stay.end stay.next x.last c.stay_from-stay.ensures.ends (c.is_before-in-At.ensures.0 c.if-not-is_before.false) in
     let up : (from.num *ℤ stay.end.den) ≤ℤ (stay.end.num *ℤ from.den) =
     through from.num from.den entry.num entry.den stay.end.num stay.end.den from.positive entry.positive stay.end.positive c.in-At.ensures.from c.stay_from-stay.ensures.from in

@@ -5,7 +5,7 @@ use Rattle.zoning.proofs.part.up_from.Goals as goal
 pub overflow_add-result : goal.overflow_add-result
 overflow_add-result c =
     let v = c.unsigned_abs.ensures.value in
-    let w = c.share_of.ensures.whole in
+    let w = c.share_at.ensures.whole in
     let a = c.requires.low_in in
     let b = c.requires.high_in in
     let u = c.requires.up in
@@ -14,7 +14,7 @@ overflow_add-result c =
 pub returns : goal.returns
 returns c =
     let v = c.unsigned_abs.ensures.value in
-    let w = c.share_of.ensures.whole in
+    let w = c.share_at.ensures.whole in
     let a = c.requires.low_in in
     let b = c.requires.high_in in
     let u = c.requires.up in

@@ -1,7 +1,7 @@
 use Rattle.std.proofs.Common.{List, subst, sym}
-use Rattle.std.proofs.lemmas.Result.{IfOk-weaker}
 use Rattle.zones.specs.declared.cuts.Cut.{Cut}
 use Rattle.zoning.specs.Stays.{AllInside, AreOver}
+use Rattle.zoning.proofs.ApartLemmas.{both_ok}
 use Rattle.zoning.proofs.HeldLemmas.{are_stays, asked_inside}
 use Rattle.zoning.proofs.stay.stays_of.Goals as goal
 
@@ -17,7 +17,7 @@ returns-in_ok-cuts-in-Some c =
     let leg = c.args.leg.now in
     let cuts = c.in_ok-cuts-in-Some.cuts.items in
     let is = c.in_ok-cuts-in-Some.ensures in
-    IfOk-weaker c.stays_in.result _ _
-    (λ stays h.
+    both_ok c.stays_in.result _ _ _
+    (λ stays h each.
     are_stays leg c.args.period.now asked.course asked.first asked.last c.in-Some.ensures c.args.rings.now cuts stays.items is
-    (subst (λ (l : List Cut). AreOver leg l stays.items) c.deref.ensures.value h)) c.stays_in.ensures
+    (subst (λ (l : List Cut). AreOver leg l stays.items) c.deref.ensures.value h) each) c.stays_in.ensures.over c.stays_in.ensures.each

@@ -5,7 +5,7 @@ use Rattle.legs.specs.Asking.{Ends, LegRefusals}
 use Rattle.legs.specs.Costs.{RisesAtMost, add_bound}
 use Rattle.legs.specs.Index.{CanFollowInTurn}
 use Rattle.legs.specs.Legs.{LegView}
-use Rattle.boxsearch.specs.Index.{IndexView, words, content, with_place, IsSound}
+use Rattle.boxsearch.specs.Index.{IndexView, words, content, with_place, IsSoundIndex}
 use Rattle.boxsearch.specs.Putting.{Puts}
 use Rattle.boxsearch.proofs.AddLemmas.{made, added, asked, marked_after, refusals}
 use Rattle.boxsearch.proofs.OtherLemmas.{later_put}
@@ -23,13 +23,13 @@ has_put g c =
 
 pub returns-clause-added : goal.returns-clause-added
 returns-clause-added g c =
-    subst (λ r. OnOk r (IsSound c.args.self.now → CanFollowInTurn (content c.args.self.now) (c.args.leg ∷ []) → Ends words c.args.self.now c.put.new.self (c.args.leg ∷ []))) (sym c.answer.ensures)
+    subst (λ r. OnOk r (IsSoundIndex c.args.self.now → CanFollowInTurn (content c.args.self.now) (c.args.leg ∷ []) → Ends words c.args.self.now c.put.new.self (c.args.leg ∷ []))) (sym c.answer.ensures)
     (added c.args.self.now c.put.new.self c.args.leg c.put.result (has_put g c))
 
 pub returns-clause-asks : goal.returns-clause-asks
 returns-clause-asks g c =
     let now = c.args.self.now in
-    subst (λ r. OnOk r (IsSound now → CanFollowInTurn (content now) (c.args.leg ∷ []) → RisesAtMost (min now.cache.asked (2 ^ 64 - 1)) (min c.put.new.self.cache.asked (2 ^ 64 - 1)) (add_bound (Some now.tree.shape) (content now ++ c.args.leg ∷ [])))) (sym c.answer.ensures)
+    subst (λ r. OnOk r (IsSoundIndex now → CanFollowInTurn (content now) (c.args.leg ∷ []) → RisesAtMost (min now.cache.asked (2 ^ 64 - 1)) (min c.put.new.self.cache.asked (2 ^ 64 - 1)) (add_bound (Some now.tree.shape) (content now ++ c.args.leg ∷ [])))) (sym c.answer.ensures)
     (asked now c.put.new.self c.args.leg c.put.result (has_put g c))
 
 pub returns-clause-refusals : goal.returns-clause-refusals

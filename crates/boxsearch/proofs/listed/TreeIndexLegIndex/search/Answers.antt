@@ -6,7 +6,7 @@ use Rattle.legs.specs.Costs.{RisesBy, search_cost}
 use Rattle.legs.specs.Index.{legs_in_box}
 use Rattle.boxsearch.specs.Answers.{answered, of_tree}
 use Rattle.chains.proofs.SpanLemmas.{known_lasts}
-use Rattle.boxsearch.specs.Index.{words, content, tells, IsSound}
+use Rattle.boxsearch.specs.Index.{words, content, tells, IsSoundIndex}
 use Rattle.boxsearch.specs.Beside.{with_cache}
 use Rattle.boxsearch.proofs.AskedLemmas.{asked_leaves}
 use Rattle.boxsearch.proofs.TellLemmas.{search_told}
@@ -18,7 +18,7 @@ use Rattle.boxsearch.proofs.listed.TreeIndexLegIndex.search.Goals as goal
 pub returns-clause-found : goal.returns-clause-found
 returns-clause-found g c =
     let q = c.args.query.now in
-    of_same (λ i r. IfOk r (λ legs. IsSound i → legs.items ≡ legs_in_box q (content i))) c.self.view_is c.answer.ensures
+    of_same (λ i r. IfOk r (λ legs. IsSoundIndex i → legs.items ≡ legs_in_box q (content i))) c.self.view_is c.answer.ensures
     (search_found (seen_of c.self.view_is) c.search.new.cache c.search.result (λ legs v. v.items ≡ legs_in_box q legs) c.search.ensures.found)
 
 pub returns-clause-asks : goal.returns-clause-asks
@@ -26,7 +26,7 @@ returns-clause-asks g c =
     let seen = seen_of c.self.view_is in
     let q = c.args.query.now in
     let new = c.search.new.cache.asked in
-    of_same (λ i r. OnOk r (IsSound i → RisesBy (min i.cache.asked (2 ^ 64 - 1)) (min new (2 ^ 64 - 1)) (search_cost q (Some i.tree.shape) (content i)))) c.self.view_is c.answer.ensures
+    of_same (λ i r. OnOk r (IsSoundIndex i → RisesBy (min i.cache.asked (2 ^ 64 - 1)) (min new (2 ^ 64 - 1)) (search_cost q (Some i.tree.shape) (content i)))) c.self.view_is c.answer.ensures
     (on_ok (answered (λ fault. of_tree fault) c.search.result) (λ rises s. rises_capped seen.cache.asked new (search_cost q (Some seen.tree.shape) (content seen)) (rises s))
     (search_asked seen c.search.new.cache c.search.result (λ legs. RisesBy seen.cache.asked new (search_cost q (Some seen.tree.shape) legs)) c.search.ensures.asked))
 

@@ -1,8 +1,9 @@
 use Rattle.std.proofs.Common.{arith, subst, sym, ◌∙◌, ℤ, pos, ◌*ℤ◌, ◌≡◌, to_z, of_z, w64}
 use Rattle.std.specs.Int.{int_div_euclid, w128}
 use Rattle.std.proofs.lemmas.Int.{ints}
-use Rattle.moments.specs.Fractions.{IsFloor}
-use Rattle.moments.proofs.Quotients.{floor_is, micros_in, milli_in}
+use Rattle.visiting.specs.Fractions.{IsFloor}
+use Rattle.visiting.proofs.Quotients.{floor_is}
+use Rattle.moments.proofs.Quotients.{micros_in, milli_in}
 use Rattle.moments.proofs.moment.Moment.micros_down.Goals as goal
 
 floor_of : (c : goal.After-div_euclid) → to_z w64 (of_z w64 (to_z w128 (of_z w128 c.div_euclid.result))) ≡ int_div_euclid (c.args.self.num *ℤ pos 1000) (pos c.args.self.den)

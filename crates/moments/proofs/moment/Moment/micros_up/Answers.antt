@@ -1,8 +1,9 @@
 use Rattle.std.proofs.Common.{arith, subst, sym, ◌∙◌, ℤ, pos, ◌-ℤ◌, ◌*ℤ◌, ◌≡◌, to_z, of_z, w64}
 use Rattle.std.specs.Int.{int_div_euclid, w128}
 use Rattle.std.proofs.lemmas.Int.{ints}
-use Rattle.moments.specs.Fractions.{IsCeiling}
-use Rattle.moments.proofs.Quotients.{ceiling_is, micros_up_in, milli_in}
+use Rattle.visiting.specs.Fractions.{IsCeiling}
+use Rattle.visiting.proofs.Quotients.{ceiling_is}
+use Rattle.moments.proofs.Quotients.{micros_up_in, milli_in}
 use Rattle.moments.proofs.moment.Moment.micros_up.Goals as goal
 
 ceiling_of : (c : goal.After-div_euclid)

@@ -1,7 +1,7 @@
 use Rattle.std.proofs.Common.{arith, subst, sym, ℤ, ◌≡◌, ◌≤ℤ◌, ◌*ℤ◌, pos, to_z, of_z, w64}
 use Rattle.std.specs.Int.{w128}
 use Rattle.std.proofs.lemmas.Int.{ints}
-use Rattle.timebase.specs.Instant.{first_moment, last_moment}
+use Rattle.timebase.specs.Instant.{least_moment, greatest_moment}
 use Rattle.clipping.proofs.Fractions.{scale}
 use Rattle.moments.specs.Fractions.{IsLowest}
 use Rattle.moments.proofs.Lowest.{lowest_less}
@@ -13,8 +13,8 @@ returns-clause-value c =
     let base = c.args.base in
     let d0 : pos 0 ≤ℤ pos m.den = omega (arith, ints) in
     let at = c.millis.ensures.moment in
-    let low = scale first_moment base (pos m.den) d0 at.0 in
-    let high = scale base last_moment (pos m.den) d0 at.1 in
+    let low = scale least_moment base (pos m.den) d0 at.0 in
+    let high = scale base greatest_moment (pos m.den) d0 at.1 in
     let after = m.in_time.0 in
     let before = m.in_time.1 in
     let a0 = at.0 in

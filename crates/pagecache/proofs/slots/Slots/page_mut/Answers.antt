@@ -27,19 +27,19 @@ returns g c =
     let n = c.args.number in
     let ready = c.ready.new.self in
     let e = c.ready.ensures in
-    let below : n < ready.count = subst (λ k. n < k) (sym e.stays.count) c.in_ok-ready.ensures.below in
+    let below : n < ready.count = subst (λ k. n < k) (sym e.rests.stays.count) c.in_ok-ready.ensures.below in
     let here : lookup (nat_eq n) ready.held.entries ≡ Some c.in-Some.held.now = sym {b = lookup (nat_eq n) ready.held.entries} c.in-Some.ensures.value in
     let seen = seen_of g.S.PageStore.seen in (
       (
         refl,
         λ w.
             let l = lent_slot g.S.PageStore.seen ready n c.in-Some.held.now w e.sound below (is_some_of (lookup (nat_eq n) ready.held.entries) c.in-Some.held.now here) in
-            (l.0, λ _. record { writes = stays-writes (seen c.args.self.now) (seen ready) (seen (with_page ready n c.in-Some.held.now w)) n w e.stays l.1; unsynced = record { clean = e.unsynced.clean; but_first = e.unsynced.but_first }; length = e.length; asks = e.asks }),
+            (l.0, λ _. record { writes = stays-writes (seen c.args.self.now) (seen ready) (seen (with_page ready n c.in-Some.held.now w)) n w e.rests.stays l.1; unsynced = record { clean = e.rests.unsynced.clean; but_first = e.rests.unsynced.but_first }; length = e.rests.length; asks = e.rests.asks }),
         (e.sound, tt),
       ),
       record {
         lends = tt;
-        value = λ f. sym {b = payload_of (seen c.args.self.now) n} (e.stays.payloads f n) ∙ payload_of-some (seen ready) n c.in-Some.held.now here ∙ ap Some (sym c.deref_mut.ensures.value);
+        value = λ f. sym {b = payload_of (seen c.args.self.now) n} (e.rests.stays.payloads f n) ∙ payload_of-some (seen ready) n c.in-Some.held.now here ∙ ap Some (sym c.deref_mut.ensures.value);
         below = c.in_ok-ready.ensures.below;
         no_page = λ h. absurd (omega (arith, h, c.in_ok-ready.ensures.below));
       },

@@ -1,10 +1,10 @@
-use Rattle.std.proofs.Common.{refl, arith, ◌∙◌}
+use Rattle.std.proofs.Common.{arith}
 use Rattle.pagecache.proofs.BringLemmas.{all_read_after}
 use Rattle.pagecache.proofs.CacheLemmas.{rests, steps-trans}
 use Rattle.pagecache.proofs.slots.Slots.take_eight.Goals as goal
 
 pub places-init : goal.places-init
-places-init g c = record { steps = rests _ c.requires.sound; length = refl }
+places-init g c = record { steps = rests _ c.requires.sound }
 
 pub take_in-requires-clause-read : goal.take_in-requires-clause-read
 take_in-requires-clause-read g c = (all_read_after _ _ _ _ _ 8 c.places.invariant.steps c.requires.read).each c.places.place (omega arith)
@@ -14,8 +14,7 @@ take_in-requires-clause-digest g c = c.digests_of-all.ensures c.places.place (om
 
 pub places-preserved : goal.places-preserved
 places-preserved g c =
-    let i = c.places.invariant in
-    let e = c.take_in.ensures in record { steps = steps-trans _ _ _ i.steps e.steps; length = e.length ∙ i.length }
+    record { steps = steps-trans _ _ _ c.places.invariant.steps c.take_in.ensures }
 
-pub returns-in-Err-clause-steps : goal.returns-in-Err-clause-steps
-returns-in-Err-clause-steps g c = steps-trans _ _ _ c.places.invariant.steps c.take_in.ensures.steps
+pub returns-in-Err : goal.returns-in-Err
+returns-in-Err g c = steps-trans _ _ _ c.places.invariant.steps c.take_in.ensures

@@ -1,5 +1,5 @@
-use Rattle.pagecache.proofs.CacheLemmas.{rests}
+use Rattle.pagecache.proofs.CacheLemmas.{writes_none}
 use Rattle.pagecache.proofs.slots.Slots.write_cold.Goals as goal
 
-pub returns-then-cold-lt-FEW-clause-steps : goal.returns-then-cold-lt-FEW-clause-steps
-returns-then-cold-lt-FEW-clause-steps g c = rests _ c.requires
+pub returns-then-cold-lt-FEW : goal.returns-then-cold-lt-FEW
+returns-then-cold-lt-FEW g c = writes_none _ c.requires

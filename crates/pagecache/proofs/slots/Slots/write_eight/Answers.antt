@@ -1,10 +1,10 @@
 use Rattle.std.proofs.Common.{◌≡◌, refl, arith, sym, subst, ◌∙◌, Some, IfSome, get_or, []}
 use Rattle.pages.specs.Unsealed.{unsealed}
-use Rattle.pagecache.proofs.CacheLemmas.{rests, steps-trans}
+use Rattle.pagecache.proofs.CacheLemmas.{rests, steps-trans, writes-trans}
 use Rattle.pagecache.proofs.slots.Slots.write_eight.Goals as goal
 
 pub places-init : goal.places-init
-places-init g c = record { steps = rests _ c.requires; length = refl; keys = refl; memory = λ n. refl }
+places-init g c = record { steps = rests _ c.requires; keys = refl; memory = λ n. refl }
 
 pub write_sealed-requires-clause-seals : goal.write_sealed-requires-clause-seals
 write_sealed-requires-clause-seals g c =
@@ -15,11 +15,10 @@ pub places-preserved : goal.places-preserved
 places-preserved g c =
     let i = c.places.invariant in
     let e = c.write_sealed.ensures in record {
-      steps = steps-trans _ _ _ i.steps e.steps;
-      length = e.length ∙ i.length;
-      keys = e.keys ∙ i.keys;
+      steps = steps-trans _ _ _ i.steps e.writes.steps;
+      keys = e.writes.keys ∙ i.keys;
       memory = λ n. e.memory n ∙ i.memory n;
     }
 
-pub returns-in-Err-clause-steps : goal.returns-in-Err-clause-steps
-returns-in-Err-clause-steps g c = steps-trans _ _ _ c.places.invariant.steps c.write_sealed.ensures.steps
+pub returns-in-Err : goal.returns-in-Err
+returns-in-Err g c = writes-trans _ _ _ _ c.places.invariant.steps c.places.invariant.keys c.in-Err.ensures.writes

@@ -1,13 +1,11 @@
 use Rattle.std.proofs.Common.{◌≡◌}
 use Rattle.std.specs.Map.{keys_of}
-use Rattle.pagecache.specs.Cache.{SameLength}
 use Rattle.pagecache.specs.Slots.{SameInMemory, Steps, seen_of}
 use Rattle.pagecache.proofs.slots.Slots.write_eight.Given as goal
 
 abbrev pub invariant-places : goal.invariant-places
 invariant-places g l = record {
   steps : Steps (seen_of g.S.PageStore.seen l.fn.self) (seen_of g.S.PageStore.seen l.self);
-  length : SameLength (seen_of g.S.PageStore.seen l.fn.self) (seen_of g.S.PageStore.seen l.self);
   keys : keys_of l.self.held.entries ≡ keys_of l.fn.self.held.entries;
   memory : SameInMemory (seen_of g.S.PageStore.seen l.fn.self) (seen_of g.S.PageStore.seen l.self);
 }

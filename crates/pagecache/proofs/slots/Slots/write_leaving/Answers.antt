@@ -1,8 +1,8 @@
-use Rattle.pagecache.proofs.CacheLemmas.{steps-trans}
+use Rattle.pagecache.proofs.CacheLemmas.{writes-trans}
 use Rattle.pagecache.proofs.slots.Slots.write_leaving.Goals as goal
 
-pub returns-in-Ok-write_back-clause-steps : goal.returns-in-Ok-write_back-clause-steps
-returns-in-Ok-write_back-clause-steps g c = steps-trans _ _ _ c.write_cold.ensures.steps c.write_back.ensures.steps
+pub returns-in-Ok-write_back-clause-writes : goal.returns-in-Ok-write_back-clause-writes
+returns-in-Ok-write_back-clause-writes g c = writes-trans _ _ _ _ c.write_cold.ensures.steps c.write_cold.ensures.keys c.in-Ok-write_back.ensures.writes
 
-pub returns-in-Err-write_back-clause-steps : goal.returns-in-Err-write_back-clause-steps
-returns-in-Err-write_back-clause-steps g c = steps-trans _ _ _ c.write_cold.ensures.steps c.write_back.ensures.steps
+pub returns-in-Err-write_back-clause-writes : goal.returns-in-Err-write_back-clause-writes
+returns-in-Err-write_back-clause-writes g c = writes-trans _ _ _ _ c.write_cold.ensures.steps c.write_cold.ensures.keys c.in-Err-write_back.ensures.writes

@@ -1,6 +1,6 @@
 use Rattle.std.proofs.Common.{ap, ◌∙◌, arith}
 use Rattle.tbnode.specs.Form.{entry_count, is_entry_at}
-use Rattle.tbnode.specs.Layout.{entry_of, is_entry}
+use Rattle.tbnode.specs.Layout.{entry_from_bytes, is_entry}
 use Rattle.tbnode.proofs.FormLemmas.{inner_form, entry_within, entry_shown}
 use Rattle.tbnode.proofs.ListLemmas.{all_below-at}
 use Rattle.tbnode.proofs.views.Inner.entry.Goals as goal
@@ -24,4 +24,4 @@ entry_in-requires-clause-lawful c =
 pub returns : goal.returns
 returns c =
     let bytes = c.self.inside.payload.now.bytes in
-    entry_shown bytes _ c.args.i _ c.self.view_is c.requires (c.entry_in.ensures ∙ ap entry_of c.part.ensures.value)
+    entry_shown bytes _ c.args.i _ c.self.view_is c.requires (c.entry_in.ensures ∙ ap entry_from_bytes c.part.ensures.value)

@@ -1,6 +1,6 @@
 use Rattle.std.proofs.Common.{ap, ◌∙◌, arith}
-use Rattle.tbnode.specs.Form.{leg_count, is_leg_at, leaf_of}
-use Rattle.tbnode.specs.Layout.{leg_of, is_leg}
+use Rattle.tbnode.specs.Form.{leaf_leg_count, is_leg_at, leaf_from_bytes}
+use Rattle.tbnode.specs.Layout.{leg_from_bytes, is_leg}
 use Rattle.tbnode.specs.Parts.{slot}
 use Rattle.tbnode.proofs.FormLemmas.{leaf_form, leg_within, leg_shown, leg_lawful}
 use Rattle.tbnode.proofs.ListLemmas.{all_below-at}
@@ -20,15 +20,15 @@ leg_in-requires-clause-lawful c =
     let bytes = c.self.inside.payload.now.bytes in
     let f = leaf_form bytes c.self.invariant in
     let h = (leg_within bytes _ c.args.i c.self.invariant c.self.view_is c.requires).0 in
-    ap is_leg c.part.ensures.value ∙ leg_lawful bytes c.args.i (all_below-at (is_leg_at bytes) (leg_count bytes) c.args.i f.legs h)
+    ap is_leg c.part.ensures.value ∙ leg_lawful bytes c.args.i (all_below-at (is_leg_at bytes) (leaf_leg_count bytes) c.args.i f.legs h)
 
 pub returns-clause-value : goal.returns-clause-value
 returns-clause-value c =
     let bytes = c.self.inside.payload.now.bytes in
     leg_shown bytes _ c.args.i _ c.self.view_is c.requires
-    (c.leg_in.ensures ∙ ap (λ xs. leg_of c.u32_at.result xs) c.part.ensures.value ∙ ap (λ n. leg_of n (slot 80 c.args.i bytes)) c.u32_at.ensures)
+    (c.leg_in.ensures ∙ ap (λ xs. leg_from_bytes c.u32_at.result xs) c.part.ensures.value ∙ ap (λ n. leg_from_bytes n (slot 80 c.args.i bytes)) c.u32_at.ensures)
 
 pub returns-clause-feature : goal.returns-clause-feature
-unfolding leg_of leaf_of
+unfolding leg_from_bytes leaf_from_bytes
 returns-clause-feature c =
     ap (λ l. l.feature) c.leg_in.ensures ∙ c.u32_at.ensures ∙ ap (λ v. v.feature) c.self.view_is

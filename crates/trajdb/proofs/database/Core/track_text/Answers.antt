@@ -1,7 +1,7 @@
 use Rattle.std.proofs.Common.{◌∙◌, All, None}
 use Rattle.std.proofs.lemmas.Result.{IfErr-weaker, IfOk-weaker}
 use Rattle.trajdb.proofs.TellingLemmas.{shown_before, track_names}
-use Rattle.legs.specs.Book.{feature_of}
+use Rattle.legs.specs.Book.{feature_named}
 use Rattle.legs.specs.Law.{IsThere}
 use Rattle.trajdb.proofs.FaultLemmas.{text_refused, there_track}
 use Rattle.trajdb.proofs.database.Core.track_text.Goals as goal
@@ -10,7 +10,7 @@ pub returns-clause-refused : goal.returns-clause-refused
 returns-clause-refused g c =
     IfErr-weaker c.legs_text.result _ _ (λ fault text.
     text_refused g.I.Listed c.args.self.now c.legs_of.new.self (All (IsThere c.legs_of.new.self.book) c.as_slice.result.now) fault text (λ sound.
-    there_track c.args.self.now.book c.legs_of.new.self.book (feature_of c.args.self.now.book.names c.args.name.now) c.as_slice.result.now
+    there_track c.args.self.now.book c.legs_of.new.self.book (feature_named c.args.self.now.book.names c.args.name.now) c.as_slice.result.now
     sound.law.ordered.there c.in_ok-legs.ensures.leaves.book (c.as_slice.ensures.value ∙ c.in_ok-legs.ensures.found sound))) c.legs_text.ensures.fault
 
 pub returns-clause-says : goal.returns-clause-says

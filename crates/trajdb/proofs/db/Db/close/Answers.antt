@@ -4,7 +4,7 @@ use Rattle.legs.specs.Book.{Book}
 use Rattle.std.proofs.lemmas.Bool.{false≢true}
 use Rattle.pages.specs.Store.{Keeps, Store, IsLawful, IsSynced, IsSyncedButFirst}
 use Rattle.pagecache.specs.Cache.{IsSettled}
-use Rattle.boxsearch.specs.Index.{content, IndexView, IsMarked, IsSound as IsSoundIndex}
+use Rattle.boxsearch.specs.Index.{content, IndexView, IsMarked, IsSoundIndex}
 use Rattle.catalogue.specs.Closing.{IsNoStoreFault}
 use Rattle.catalogue.specs.Closing as closing
 use Rattle.catalogue.specs.Holding.{HoldsBook, HoldsButFirst, IsOfBook, IsUnfinishedStore}

@@ -1,5 +1,5 @@
 use Rattle.std.proofs.Common.{ap, ◌∙◌, arith, ◌<◌}
-use Rattle.tbnode.specs.Form.{leg_count}
+use Rattle.tbnode.specs.Form.{leaf_leg_count}
 use Rattle.version1.specs.OldForm.{old_leg_of, is_old_leg, old_leaf_of}
 use Rattle.tbnode.specs.Parts.{slot}
 use Rattle.version1.proofs.OldFormLemmas.{old_leaf_form, old_legs_counted, old_leg_shown, old_leg_lawful}
@@ -26,7 +26,7 @@ part-requires c =
 pub old_leg_in-requires-clause-lawful : goal.old_leg_in-requires-clause-lawful
 old_leg_in-requires-clause-lawful c =
     let bytes = c.self.inside.payload.now.bytes in
-    let h : c.args.i < leg_count bytes = omega (arith, c.requires, old_legs_counted bytes _ c.self.view_is) in
+    let h : c.args.i < leaf_leg_count bytes = omega (arith, c.requires, old_legs_counted bytes _ c.self.view_is) in
     ap is_old_leg c.part.ensures.value ∙ old_leg_lawful bytes c.args.i c.self.invariant h
 
 pub returns-clause-value : goal.returns-clause-value
