@@ -213,14 +213,11 @@ class Rows:
         """What is read of lines that all have as many fields as the header line, and are of the usual form."""
         if self.reader.table is None:
             return None
-        # Of a longer line the last field has what is too much, with a delimiter.
-        cut_line = methodcaller("split", self.delimiter, self.wide - 1)
-        try:
-            *columns, last = zip(*map(itemgetter(*self.reader.columns, self.wide - 1), map(cut_line, lines)))
-        except IndexError:
+        if set(map(methodcaller("count", self.delimiter), lines)) != {self.wide - 1}:
             return None
-        if self.delimiter in "".join(last):
-            return None
+        # What stands behind the last column that is wanted stays in one piece.
+        cut_line = methodcaller("split", self.delimiter, max(self.reader.columns) + 1)
+        columns: list[Any] = list(zip(*map(itemgetter(*self.reader.columns), map(cut_line, lines))))
         return self.reader.table(columns, lambda place: lines[place].split(self.delimiter))
 
     def table_of_rows(self, rows: list[Any]) -> Table | None:
