@@ -27,6 +27,7 @@ HEADLINES = (
     ("command: asks", "trajdb", "Db::command", "asks"),
     ("zones: a course", "zones", "stays", ""),
     ("zones: a leg", "zoning", "Site::stays_of", ""),
+    ("zones: features", "zoning", "features_of", "exact"),
 )
 
 

@@ -158,7 +158,8 @@ class Answers(Case):
         from shapely.geometry import shape
 
         frame = geopandas.GeoDataFrame({"name": ["north"]}, geometry=[shape(POLYGON)])
-        wanted = list(self.store.visits({"north": NORTH}, DAY))
+        # A polygon's record names no edge.
+        wanted = [replace(visit, edge_in="", edge_out="") for visit in self.store.visits({"north": NORTH}, DAY)]
         self.assertEqual(list(self.store.visits(frame, DAY)), wanted)
         self.assertEqual(list(self.store.visits({"north": shape(POLYGON)}, DAY)), wanted)
         found = self.store.visits(frame, DAY).to_geopandas()

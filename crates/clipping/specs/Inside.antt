@@ -19,15 +19,28 @@ pub record IsInside (leg : LegView) (rect : RectView) (n : ℤ) (d : ℕ) : Type
   pub below : (rect.y_min *ℤ (pos d *ℤ duration leg)) ≤ℤ scaled_at leg leg.y0 leg.y1 n d
   pub above : scaled_at leg leg.y0 leg.y1 n d ≤ℤ (rect.y_max *ℤ (pos d *ℤ duration leg))
 
+-- What a leg can be inside of is told by `Inside leg n d`: at the moment n / d the leg is inside.
 -- n / d is a moment of the leg in the period, and the leg is inside at it
-pub record IsMomentInside (leg : LegView) (rect : RectView) (period : PeriodView) (n : ℤ)
-    (d : ℕ) : Type 0 where
+pub record IsMomentIn (Inside : LegView → ℤ → ℕ → Type 0) (leg : LegView) (period : PeriodView)
+    (n : ℤ) (d : ℕ) : Type 0 where
   pub moment : IsMomentOf leg period n d
-  pub inside : IsInside leg rect n d
+  pub inside : Inside leg n d
 
 -- the leg has a moment in the period at which it is inside
+abbrev pub HasMomentIn : (LegView → ℤ → ℕ → Type 0) → LegView → PeriodView → Type 0
+HasMomentIn Inside leg period = (n : ℤ) × (d : ℕ) × IsMomentIn Inside leg period n d
+
+-- inside the rectangle
+abbrev pub InRect : RectView → LegView → ℤ → ℕ → Type 0
+InRect rect leg n d = IsInside leg rect n d
+
+-- n / d is a moment of the leg in the period, and the leg is inside the rectangle at it
+abbrev pub IsMomentInside : LegView → RectView → PeriodView → ℤ → ℕ → Type 0
+IsMomentInside leg rect period n d = IsMomentIn (InRect rect) leg period n d
+
+-- the leg has a moment in the period at which it is inside the rectangle
 abbrev pub HasMomentInside : LegView → RectView → PeriodView → Type 0
-HasMomentInside leg rect period = (n : ℤ) × (d : ℕ) × IsMomentInside leg rect period n d
+HasMomentInside leg rect period = HasMomentIn (InRect rect) leg period
 
 -- the least and the greatest moment of a leg in a period, where it has one
 abbrev pub live_ends : LegView → PeriodView → Option (ℤ × ℤ)

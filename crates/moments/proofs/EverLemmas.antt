@@ -4,7 +4,7 @@ use Rattle.timebase.specs.Period.{PeriodView}
 use Rattle.legs.specs.Legs.{LegView}
 use Rattle.legs.specs.Boxes.{RectView}
 use Rattle.clipping.specs.Inside.{HasMomentInside}
-use Rattle.predicates.specs.Predicates.{Holds, IsEver}
+use Rattle.predicates.specs.Predicates.{HoldsIn, IsEverIn}
 use Rattle.predicates.specs.declared.Predicate.TheVariants.{Ever}
 use Rattle.trajdb.specs.Answers.{HoldsOfLeg}
 use Rattle.trajdb.specs.Picks.{Picks}
@@ -12,11 +12,11 @@ use Rattle.moments.specs.Stays.{AreStays}
 use Rattle.moments.specs.declared.stay.Stay.{Stay}
 
 pub inside_ever : (leg : LegView) (rect : RectView) (period : PeriodView) → HasMomentInside leg rect period → HoldsOfLeg Ever rect period leg
-unfolding Holds IsEver
+unfolding HoldsIn IsEverIn
 inside_ever leg rect period h = (0, leg, omega arith, refl, h)
 
 pub ever_inside : (leg : LegView) (rect : RectView) (period : PeriodView) → HoldsOfLeg Ever rect period leg → HasMomentInside leg rect period
-unfolding Holds IsEver
+unfolding HoldsIn IsEverIn
 ever_inside leg rect period (zero, x, less, is, h) = subst (λ (l : LegView). HasMomentInside l rect period) (sym is) h
 ever_inside leg rect period (suc k, x, less, is, h) = absurd (omega (arith, less))
 

@@ -1,16 +1,14 @@
 -- Where legs enter and leave, the first and the last of them that have a moment say it alone.
-use Rattle.std.proofs.Common.{◌≡◌, ◌∙◌, ap, sym, refl, subst, Bool, true, false, cond, List, [], ◌∷◌, Option, Some, None, ◌↔◌, ◌⊎◌, ⊎_elim}
+use Rattle.std.proofs.Common.{ℕ, ℤ, ◌≡◌, ◌∙◌, ap, sym, refl, subst, Bool, true, false, cond, List, [], ◌∷◌, Option, Some, None, ◌↔◌, ◌⊎◌, ⊎_elim}
 use Rattle.std.proofs.lemmas.Bool.{false≢true}
 use Rattle.std.specs.Prelude.{is_some, reverse}
 use Rattle.std.specs.List.{find, list_any}
 use Rattle.std.specs.Option.{IsSomeAnd}
 use Rattle.timebase.specs.Period.{PeriodView}
 use Rattle.legs.specs.Legs.{LegView, is_live, first_moment, last_moment}
-use Rattle.legs.specs.Boxes.{RectView}
 use Rattle.legs.specs.Sieves.{first_live, last_live}
-use Rattle.clipping.specs.Inside.{IsInside}
 use Rattle.predicates.specs.Courses.{both_of, ends_of}
-use Rattle.predicates.specs.Predicates.{Holds, HasAMoment, IsInsideAtFirst, IsInsideAtLast}
+use Rattle.predicates.specs.Predicates.{HoldsIn, HasAMoment, IsFirstIn, IsLastIn}
 use Rattle.predicates.specs.declared.Predicate.{Predicate}
 use Rattle.predicates.specs.declared.Predicate.TheVariants.{Enters, Leaves}
 use Rattle.predicates.proofs.CourseLemmas.{live_is}
@@ -39,43 +37,43 @@ module _ (period : PeriodView) (all some : List LegView) (first : first_live per
     λ h. (live_is some period).0 (live_same ∙ (live_is all period).1 h),
   )
 
-  module _ (rect : RectView) where
-    pub first_same : IsInsideAtFirst some rect period ≡ IsInsideAtFirst all rect period
-    unfolding IsInsideAtFirst
-    first_same = ap (λ o. IsSomeAnd o (λ leg. IsInside leg rect (first_moment leg period) 1)) first
+  module _ (Inside : LegView → ℤ → ℕ → Type 0) where
+    pub first_same : IsFirstIn Inside some period ≡ IsFirstIn Inside all period
+    unfolding IsFirstIn
+    first_same = ap (λ o. IsSomeAnd o (λ leg. Inside leg (first_moment leg period) 1)) first
 
-pub last_same : (period : PeriodView) (all some : List LegView) (rect : RectView) → last_live period some ≡ last_live period all
-    → IsInsideAtLast some rect period ≡ IsInsideAtLast all rect period
-unfolding IsInsideAtLast
-last_same period all some rect last = ap (λ o. IsSomeAnd o (λ leg. IsInside leg rect (last_moment leg period) 1)) last
+pub last_same : (period : PeriodView) (all some : List LegView) (Inside : LegView → ℤ → ℕ → Type 0) → last_live period some ≡ last_live period all
+    → IsLastIn Inside some period ≡ IsLastIn Inside all period
+unfolding IsLastIn
+last_same period all some Inside last = ap (λ o. IsSomeAnd o (λ leg. Inside leg (last_moment leg period) 1)) last
 
 module _ (period : PeriodView) (all some : List LegView) (first : first_live period some ≡ first_live period all)
-    (last : last_live period some ≡ last_live period all) (rect : RectView) where
-  pub enters_same : Holds Enters some rect period ↔ Holds Enters all rect period
-  unfolding Holds
+    (last : last_live period some ≡ last_live period all) (Inside : LegView → ℤ → ℕ → Type 0) where
+  pub enters_same : HoldsIn Inside Enters some period ↔ HoldsIn Inside Enters all period
+  unfolding HoldsIn
   enters_same =
       let moment = moment_same period all some first in
-      let at_first = first_same period all some first rect in
-      let at_last = last_same period all some rect last in (
+      let at_first = first_same period all some first Inside in
+      let at_last = last_same period all some Inside last in (
         λ h. (moment.0 h.0, subst (λ P. P → ⊥) at_first h.1, subst (λ P. P) at_last h.2),
         λ h. (moment.1 h.0, subst (λ P. P → ⊥) (sym at_first) h.1, subst (λ P. P) (sym at_last) h.2),
       )
 
-  pub leaves_same : Holds Leaves some rect period ↔ Holds Leaves all rect period
-  unfolding Holds
+  pub leaves_same : HoldsIn Inside Leaves some period ↔ HoldsIn Inside Leaves all period
+  unfolding HoldsIn
   leaves_same =
       let moment = moment_same period all some first in
-      let at_first = first_same period all some first rect in
-      let at_last = last_same period all some rect last in (
+      let at_first = first_same period all some first Inside in
+      let at_last = last_same period all some Inside last in (
         λ h. (moment.0 h.0, subst (λ P. P) at_first h.1, subst (λ P. P → ⊥) at_last h.2),
         λ h. (moment.1 h.0, subst (λ P. P) (sym at_first) h.1, subst (λ P. P → ⊥) (sym at_last) h.2),
       )
 
-  pub ends_same : (predicate : Predicate) → (predicate ≡ Enters) ⊎ (predicate ≡ Leaves) → Holds predicate some rect period ↔ Holds predicate all rect period
+  pub ends_same : (predicate : Predicate) → (predicate ≡ Enters) ⊎ (predicate ≡ Leaves) → HoldsIn Inside predicate some period ↔ HoldsIn Inside predicate all period
   ends_same predicate which =
       ⊎_elim
-      (λ (e : predicate ≡ Enters). subst (λ p. Holds p some rect period ↔ Holds p all rect period) (sym e) enters_same)
-      (λ (e : predicate ≡ Leaves). subst (λ p. Holds p some rect period ↔ Holds p all rect period) (sym e) leaves_same)
+      (λ (e : predicate ≡ Enters). subst (λ p. HoldsIn Inside p some period ↔ HoldsIn Inside p all period) (sym e) enters_same)
+      (λ (e : predicate ≡ Leaves). subst (λ p. HoldsIn Inside p some period ↔ HoldsIn Inside p all period) (sym e) leaves_same)
       which
 
 module _ (period : PeriodView) (legs : List LegView) where
@@ -94,7 +92,7 @@ module _ (period : PeriodView) (legs : List LegView) where
   ends_found None (Some l) e h =
       absurd (false≢true (ap is_some (sym e) ∙ is_some-find p legs ∙ sym (is_some-find-reverse p legs) ∙ ap is_some h))
 
-  pub by_ends : (rect : RectView) (predicate : Predicate) → (predicate ≡ Enters) ⊎ (predicate ≡ Leaves) → Holds predicate (ends_of period legs) rect period ↔ Holds predicate legs rect period
-  by_ends rect predicate which =
+  pub by_ends : (Inside : LegView → ℤ → ℕ → Type 0) (predicate : Predicate) → (predicate ≡ Enters) ⊎ (predicate ≡ Leaves) → HoldsIn Inside predicate (ends_of period legs) period ↔ HoldsIn Inside predicate legs period
+  by_ends Inside predicate which =
       let found = ends_found (first_live period legs) (last_live period legs) refl refl in
-      ends_same period legs (ends_of period legs) found.0 found.1 rect predicate which
+      ends_same period legs (ends_of period legs) found.0 found.1 Inside predicate which

@@ -7,6 +7,7 @@ use Rattle.fixedpoint.specs.Number.{IsInRange}
 use Rattle.timebase.specs.Period.{PeriodView}
 use Rattle.legs.specs.Legs.{LegView, IsLeg, is_live}
 use Rattle.legs.specs.Boxes.{RectView, box_of, box_over, boxes_meet, intervals_meet}
+use Rattle.clipping.specs.Inside.{InRect}
 use Rattle.predicates.specs.Predicates.{Holds}
 use Rattle.predicates.specs.Near.{box_near, plane_over, greatest_coordinate}
 use Rattle.predicates.specs.declared.Predicate.{Predicate}
@@ -33,7 +34,7 @@ meets_near Always leg rect period lawful h = holds_meets Always leg rect period 
 meets_near Enters leg rect period lawful h = holds_meets Enters leg rect period lawful (λ e. cc) h
 meets_near Leaves leg rect period lawful h = holds_meets Leaves leg rect period lawful (λ e. cc) h
 meets_near Crosses leg rect period lawful h = holds_meets Crosses leg rect period lawful (λ e. cc) h
-meets_near Bypasses leg rect period lawful h = plane_meets leg period lawful (holds_live Bypasses leg rect period h)
+meets_near Bypasses leg rect period lawful h = plane_meets leg period lawful (holds_live Bypasses leg (InRect rect) period h)
 
 -- but for `bypasses`, near is over the rectangle
 pub near_is : (predicate : Predicate) (rect : RectView) (period : PeriodView) → predicate ≢ Bypasses → box_near predicate rect period ≡ box_over rect period

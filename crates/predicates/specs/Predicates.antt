@@ -1,10 +1,11 @@
--- What holds for the legs of a feature, a rectangle and a period. All moments are fractions n / d of a millisecond.
+-- What holds for the legs of a feature and a period, of anything that legs can be inside of, as a rectangle.
+-- All moments are fractions n / d of a millisecond.
 use Rattle.std.specs.Prelude.{ℕ, List, All, Any, IsSomeAnd, ℤ}
 use Rattle.timebase.specs.Period.{PeriodView}
 use Rattle.legs.specs.Legs.{LegView, IsMomentOf, HasMoment, first_moment, last_moment}
 use Rattle.legs.specs.Boxes.{RectView}
 use Rattle.legs.specs.Sieves.{first_live, last_live}
-use Rattle.clipping.specs.Inside.{IsInside, HasMomentInside}
+use Rattle.clipping.specs.Inside.{HasMomentIn, InRect}
 use Rattle.predicates.specs.declared.Predicate.{Predicate}
 use Rattle.predicates.specs.declared.Predicate.TheVariants.{Ever, Always, Enters, Leaves, Crosses, Bypasses}
 
@@ -12,39 +13,41 @@ use Rattle.predicates.specs.declared.Predicate.TheVariants.{Ever, Always, Enters
 unfoldable pub HasAMoment : List LegView → PeriodView → Type 0
 HasAMoment legs period = Any (λ leg. HasMoment leg period) legs
 
--- at some moment of some leg that leg is inside
-unfoldable pub IsEver : List LegView → RectView → PeriodView → Type 0
-IsEver legs rect period = Any (λ leg. HasMomentInside leg rect period) legs
+-- `Inside leg n d`: at the moment n / d the leg is inside
+module _ (Inside : LegView → ℤ → ℕ → Type 0) where
+  -- at some moment of some leg that leg is inside
+  unfoldable pub IsEverIn : List LegView → PeriodView → Type 0
+  IsEverIn legs period = Any (λ leg. HasMomentIn Inside leg period) legs
 
--- at all of its moments the leg is inside
-abbrev pub IsThroughout : LegView → RectView → PeriodView → Type 0
-IsThroughout leg rect period = (n : ℤ) (d : ℕ) → IsMomentOf leg period n d → IsInside leg rect n d
+  -- at all of its moments the leg is inside
+  abbrev pub IsThroughoutIn : LegView → PeriodView → Type 0
+  IsThroughoutIn leg period = (n : ℤ) (d : ℕ) → IsMomentOf leg period n d → Inside leg n d
 
--- at all moments of all legs that leg is inside
-unfoldable pub IsAllInside : List LegView → RectView → PeriodView → Type 0
-IsAllInside legs rect period = All (λ leg. IsThroughout leg rect period) legs
+  -- at all moments of all legs that leg is inside
+  unfoldable pub IsAllIn : List LegView → PeriodView → Type 0
+  IsAllIn legs period = All (λ leg. IsThroughoutIn leg period) legs
 
--- inside at the first moment: the first live leg is, at its least moment
-unfoldable pub IsInsideAtFirst : List LegView → RectView → PeriodView → Type 0
-IsInsideAtFirst legs rect period =
-    IsSomeAnd (first_live period legs) (λ leg. IsInside leg rect (first_moment leg period) 1)
+  -- inside at the first moment: the first live leg is, at its least moment
+  unfoldable pub IsFirstIn : List LegView → PeriodView → Type 0
+  IsFirstIn legs period = IsSomeAnd (first_live period legs) (λ leg. Inside leg (first_moment leg period) 1)
 
--- inside at the last moment: the last live leg is, at its greatest moment
-unfoldable pub IsInsideAtLast : List LegView → RectView → PeriodView → Type 0
-IsInsideAtLast legs rect period =
-    IsSomeAnd (last_live period legs) (λ leg. IsInside leg rect (last_moment leg period) 1)
+  -- inside at the last moment: the last live leg is, at its greatest moment
+  unfoldable pub IsLastIn : List LegView → PeriodView → Type 0
+  IsLastIn legs period = IsSomeAnd (last_live period legs) (λ leg. Inside leg (last_moment leg period) 1)
 
--- the predicate holds
-unfoldable pub Holds : Predicate → List LegView → RectView → PeriodView → Type 0
-Holds Ever legs rect period = IsEver legs rect period
-Holds Always legs rect period = HasAMoment legs period × IsAllInside legs rect period
-Holds Enters legs rect period =
-    HasAMoment legs period × (IsInsideAtFirst legs rect period → ⊥)
-    × IsInsideAtLast legs rect period
-Holds Leaves legs rect period =
-    HasAMoment legs period × IsInsideAtFirst legs rect period
-    × (IsInsideAtLast legs rect period → ⊥)
-Holds Crosses legs rect period =
-    HasAMoment legs period × (IsInsideAtFirst legs rect period → ⊥)
-    × (IsInsideAtLast legs rect period → ⊥) × IsEver legs rect period
-Holds Bypasses legs rect period = HasAMoment legs period × (IsEver legs rect period → ⊥)
+  -- the predicate holds
+  unfoldable pub HoldsIn : Predicate → List LegView → PeriodView → Type 0
+  HoldsIn Ever legs period = IsEverIn legs period
+  HoldsIn Always legs period = HasAMoment legs period × IsAllIn legs period
+  HoldsIn Enters legs period =
+      HasAMoment legs period × (IsFirstIn legs period → ⊥) × IsLastIn legs period
+  HoldsIn Leaves legs period =
+      HasAMoment legs period × IsFirstIn legs period × (IsLastIn legs period → ⊥)
+  HoldsIn Crosses legs period =
+      HasAMoment legs period × (IsFirstIn legs period → ⊥) × (IsLastIn legs period → ⊥)
+      × IsEverIn legs period
+  HoldsIn Bypasses legs period = HasAMoment legs period × (IsEverIn legs period → ⊥)
+
+-- the predicate holds with a rectangle
+abbrev pub Holds : Predicate → List LegView → RectView → PeriodView → Type 0
+Holds predicate legs rect period = HoldsIn (InRect rect) predicate legs period

@@ -1,31 +1,27 @@
 //! What one pass over legs has to keep of them.
-ghost use Rattle.std.specs.Prelude.{List, [], ◌∷◌, ◌++◌, ◌≡◌, ◌↔◌, IsTrue, Some};
-ghost use Rattle.legs.specs.Legs.{LegView, HasMoment};
-ghost use Rattle.legs.specs.Boxes.{RectView};
-ghost use Rattle.timebase.specs.Period.{PeriodView};
-ghost use Rattle.clipping.specs.Inside.{HasMomentInside, live_ends};
-ghost use Rattle.predicates.specs.Predicates.{Holds};
+ghost use Rattle.std.specs.Prelude.{[], ◌∷◌, ◌≡◌, ◌↔◌, IsTrue, Some};
+ghost use Rattle.clipping.specs.Inside.{HasMomentInside, InRect, live_ends};
 ghost use Rattle.legs.specs.Sieves.{first_live, last_live};
-ghost use Rattle.predicates.specs.Courses.{IsCourse, ends_of};
+ghost use Rattle.predicates.specs.Courses.{IsCourse, ends_of, no_course, outside_course, tells, then_of};
 
 use crate::Predicate;
 use clipping::{clip, inside_at, live};
 use legs::{Box3, Leg, Rect};
 use timebase::{Ms, Period};
 
-/// What legs have to do with a rectangle over a period.
-#[derive(Clone, Copy)]
-pub(crate) struct Course {
+/// What legs have to do with a rectangle over a period, or with anything else that they can be inside of.
+#[derive(Clone, Copy, PartialEq, Eq, Debug)]
+pub struct Course {
     /// There is a moment.
-    live: bool,
+    pub live: bool,
     /// They are inside at the first moment.
-    first: bool,
+    pub first: bool,
     /// They are inside at the last moment.
-    last: bool,
+    pub last: bool,
     /// They are inside at all moments.
-    always: bool,
+    pub always: bool,
     /// They are inside at some moment.
-    ever: bool,
+    pub ever: bool,
 }
 
 /// Whether the box of a leg meets the box over a rectangle and a period; else the leg is inside the
@@ -50,8 +46,9 @@ fn is_ever_inside(leg: &Leg, rect: &Rect, period: &Period, is_known: bool) -> bo
 
 impl Course {
     /// The course of no legs.
-    fn empty() -> Course
-        ensures { (rect : RectView) (period : PeriodView) → IsCourse result [] rect period }
+    pub fn empty() -> Course
+        // No moment, so no moment inside, and none outside.
+        ensures { result ≡ no_course }
     {
         Course {
             live: false,
@@ -63,10 +60,9 @@ impl Course {
     }
 
     /// The course of one leg that has a moment and is inside at none.
-    fn outside() -> Course
-        ensures { (leg : LegView) (rect : RectView) (period : PeriodView)
-            → HasMoment leg period → (HasMomentInside leg rect period → ⊥)
-            → IsCourse result (leg ∷ []) rect period }
+    pub fn outside() -> Course
+        // Only `live` is true.
+        ensures { result ≡ outside_course }
     {
         Course {
             live: true,
@@ -81,7 +77,7 @@ impl Course {
     /// linearly: between two moments inside it is inside.
     fn between(leg: &Leg, rect: &Rect, period: &Period, ends: (Ms, Ms)) -> Course
         requires { live_ends leg.now period.now ≡ Some ends }
-        ensures { IsCourse result (leg.now ∷ []) rect.now period.now }
+        ensures { IsCourse (InRect rect.now) result (leg.now ∷ []) period.now }
     {
         let first = inside_at(leg, rect, ends.0);
         let last = inside_at(leg, rect, ends.1);
@@ -94,9 +90,10 @@ impl Course {
         }
     }
 
-    /// The course of one leg. One whose box is off the rectangle is inside at no moment.
-    fn of(leg: &Leg, rect: &Rect, period: &Period) -> Course
-        ensures { IsCourse result (leg.now ∷ []) rect.now period.now }
+    /// The course of one leg with a rectangle. One whose box is off the rectangle is inside at no moment.
+    pub fn of(leg: &Leg, rect: &Rect, period: &Period) -> Course
+        // It is the course of that leg alone.
+        ensures { IsCourse (InRect rect.now) result (leg.now ∷ []) period.now }
     {
         match live(leg, period) {
             Some(ends) => {
@@ -111,10 +108,9 @@ impl Course {
     }
 
     /// The course of these legs and then of others.
-    fn then(self, next: Course) -> Course
-        ensures { (xs ys : List LegView) (rect : RectView) (period : PeriodView)
-            → IsCourse self xs rect period → IsCourse next ys rect period
-            → IsCourse result (xs ++ ys) rect period }
+    pub fn then(self, next: Course) -> Course
+        // The first moment is of these legs, if they have one, and the last of the others, if they have.
+        ensures { result ≡ then_of self next }
     {
         if !self.live {
             return next;
@@ -132,10 +128,9 @@ impl Course {
     }
 
     /// Whether a predicate holds for the legs.
-    #[tactic(auto, unfolding(crate::specs::Predicates::Holds))]
-    pub(crate) fn answer(self, predicate: Predicate) -> bool
-        ensures { (legs : List LegView) (rect : RectView) (period : PeriodView)
-            → IsCourse self legs rect period → IsTrue result ↔ Holds predicate legs rect period }
+    pub fn answer(self, predicate: Predicate) -> bool
+        // It is what these five facts tell of the predicate.
+        ensures { result ≡ tells predicate self }
     {
         match predicate {
             Predicate::Ever => self.ever,
@@ -150,7 +145,7 @@ impl Course {
 
 /// The course of legs, in their order.
 pub(crate) fn course_of(legs: &[Leg], rect: &Rect, period: &Period) -> Course
-    ensures { IsCourse result legs.now rect.now period.now }
+    ensures { IsCourse (InRect rect.now) result legs.now period.now }
 {
     let mut course = Course::empty();
     for leg in legs {
@@ -188,7 +183,7 @@ fn last_live(legs: &[Leg], period: &Period) -> Option<Leg>
 /// The course of the first and of the last leg that have a moment, which alone count for where legs
 /// enter and leave.
 pub(crate) fn course_of_ends(legs: &[Leg], rect: &Rect, period: &Period) -> Course
-    ensures { IsCourse result (ends_of period.now legs.now) rect.now period.now }
+    ensures { IsCourse (InRect rect.now) result (ends_of period.now legs.now) period.now }
 {
     match first_live(legs, period) {
         Some(first) => match last_live(legs, period) {

@@ -14,6 +14,7 @@ mod courses;
 mod near;
 mod sieves;
 
+pub use courses::Course;
 use courses::{course_of, course_of_ends};
 use legs::{Leg, Rect};
 pub use near::search_box;

@@ -6,11 +6,11 @@ use Rattle.std.proofs.lemmas.List.{get_or-map, get_or_default, length-map, map-a
 use Rattle.timebase.specs.Period.{PeriodView}
 use Rattle.legs.specs.Legs.{LegView, IsMomentOf, HasMoment, first_moment, is_live, last_moment}
 use Rattle.legs.specs.Boxes.{RectView}
-use Rattle.clipping.specs.Inside.{IsInside, HasMomentInside}
+use Rattle.clipping.specs.Inside.{HasMomentInside, InRect, IsInside}
 use Rattle.predicates.specs.declared.Predicate.{Predicate}
 use Rattle.predicates.specs.declared.Predicate.TheVariants.{Ever, Always, Enters, Leaves, Crosses, Bypasses}
 use Rattle.legs.specs.Sieves.{first_live, last_live}
-use Rattle.predicates.specs.Predicates.{Holds, HasAMoment, IsEver, IsAllInside, IsInsideAtFirst, IsInsideAtLast, IsThroughout}
+use Rattle.predicates.specs.Predicates.{Holds, HoldsIn, HasAMoment, IsEverIn, IsAllIn, IsFirstIn, IsLastIn, IsThroughoutIn}
 use Rattle.together.specs.Told.{bare}
 
 -- what holds of a leg holds of it without its numbers, and the other way round
@@ -38,10 +38,10 @@ in_to leg rect period (n, d, h) = (n, d, record { moment = moment_to leg period 
 in_from : (leg : LegView) (rect : RectView) (period : PeriodView) → HasMomentInside (bare leg) rect period → HasMomentInside leg rect period
 in_from leg rect period (n, d, h) = (n, d, record { moment = moment_from leg period n d h.moment; inside = inside_from leg rect n d h.inside })
 
-through_to : (leg : LegView) (rect : RectView) (period : PeriodView) → IsThroughout leg rect period → IsThroughout (bare leg) rect period
+through_to : (leg : LegView) (rect : RectView) (period : PeriodView) → IsThroughoutIn (InRect rect) leg period → IsThroughoutIn (InRect rect) (bare leg) period
 through_to leg rect period h = λ n d m. inside_to leg rect n d (h n d (moment_from leg period n d m))
 
-through_from : (leg : LegView) (rect : RectView) (period : PeriodView) → IsThroughout (bare leg) rect period → IsThroughout leg rect period
+through_from : (leg : LegView) (rect : RectView) (period : PeriodView) → IsThroughoutIn (InRect rect) (bare leg) period → IsThroughoutIn (InRect rect) leg period
 through_from leg rect period h = λ n d m. inside_from leg rect n d (h n d (moment_to leg period n d m))
 
 -- of some leg, and of all
@@ -100,48 +100,48 @@ has_from : (legs : List LegView) (period : PeriodView) → HasAMoment (map bare 
 unfolding HasAMoment
 has_from legs period h = any_from (λ leg. HasMoment leg period) (λ leg. some_from leg period) legs h
 
-ever_to : (legs : List LegView) (rect : RectView) (period : PeriodView) → IsEver legs rect period → IsEver (map bare legs) rect period
-unfolding IsEver
+ever_to : (legs : List LegView) (rect : RectView) (period : PeriodView) → IsEverIn (InRect rect) legs period → IsEverIn (InRect rect) (map bare legs) period
+unfolding IsEverIn
 ever_to legs rect period h = any_to (λ leg. HasMomentInside leg rect period) (λ leg. in_to leg rect period) legs h
 
-ever_from : (legs : List LegView) (rect : RectView) (period : PeriodView) → IsEver (map bare legs) rect period → IsEver legs rect period
-unfolding IsEver
+ever_from : (legs : List LegView) (rect : RectView) (period : PeriodView) → IsEverIn (InRect rect) (map bare legs) period → IsEverIn (InRect rect) legs period
+unfolding IsEverIn
 ever_from legs rect period h = any_from (λ leg. HasMomentInside leg rect period) (λ leg. in_from leg rect period) legs h
 
-inside_all_to : (legs : List LegView) (rect : RectView) (period : PeriodView) → IsAllInside legs rect period → IsAllInside (map bare legs) rect period
-unfolding IsAllInside
-inside_all_to legs rect period h = all_to (λ leg. IsThroughout leg rect period) (λ leg. through_to leg rect period) legs h
+inside_all_to : (legs : List LegView) (rect : RectView) (period : PeriodView) → IsAllIn (InRect rect) legs period → IsAllIn (InRect rect) (map bare legs) period
+unfolding IsAllIn
+inside_all_to legs rect period h = all_to (λ leg. IsThroughoutIn (InRect rect) leg period) (λ leg. through_to leg rect period) legs h
 
-inside_all_from : (legs : List LegView) (rect : RectView) (period : PeriodView) → IsAllInside (map bare legs) rect period → IsAllInside legs rect period
-unfolding IsAllInside
-inside_all_from legs rect period h = all_from (λ leg. IsThroughout leg rect period) (λ leg. through_from leg rect period) legs h
+inside_all_from : (legs : List LegView) (rect : RectView) (period : PeriodView) → IsAllIn (InRect rect) (map bare legs) period → IsAllIn (InRect rect) legs period
+unfolding IsAllIn
+inside_all_from legs rect period h = all_from (λ leg. IsThroughoutIn (InRect rect) leg period) (λ leg. through_from leg rect period) legs h
 
-first_to : (legs : List LegView) (rect : RectView) (period : PeriodView) → IsInsideAtFirst legs rect period → IsInsideAtFirst (map bare legs) rect period
-unfolding IsInsideAtFirst
+first_to : (legs : List LegView) (rect : RectView) (period : PeriodView) → IsFirstIn (InRect rect) legs period → IsFirstIn (InRect rect) (map bare legs) period
+unfolding IsFirstIn
 first_to legs rect period h =
     let P : LegView → Type 0 = λ leg. IsInside leg rect (first_moment leg period) 1 in
     subst (λ o. IsSomeAnd o P) (sym (find_bare period legs)) (one_to P (λ leg. inside_to leg rect (first_moment leg period) 1) (first_live period legs) h)
 
-first_from : (legs : List LegView) (rect : RectView) (period : PeriodView) → IsInsideAtFirst (map bare legs) rect period → IsInsideAtFirst legs rect period
-unfolding IsInsideAtFirst
+first_from : (legs : List LegView) (rect : RectView) (period : PeriodView) → IsFirstIn (InRect rect) (map bare legs) period → IsFirstIn (InRect rect) legs period
+unfolding IsFirstIn
 first_from legs rect period h =
     let P : LegView → Type 0 = λ leg. IsInside leg rect (first_moment leg period) 1 in
     one_from P (λ leg. inside_from leg rect (first_moment leg period) 1) (first_live period legs) (subst (λ o. IsSomeAnd o P) (find_bare period legs) h)
 
-last_to : (legs : List LegView) (rect : RectView) (period : PeriodView) → IsInsideAtLast legs rect period → IsInsideAtLast (map bare legs) rect period
-unfolding IsInsideAtLast
+last_to : (legs : List LegView) (rect : RectView) (period : PeriodView) → IsLastIn (InRect rect) legs period → IsLastIn (InRect rect) (map bare legs) period
+unfolding IsLastIn
 last_to legs rect period h =
     let P : LegView → Type 0 = λ leg. IsInside leg rect (last_moment leg period) 1 in
     subst (λ o. IsSomeAnd o P) (sym (last_bare period legs)) (one_to P (λ leg. inside_to leg rect (last_moment leg period) 1) (last_live period legs) h)
 
-last_from : (legs : List LegView) (rect : RectView) (period : PeriodView) → IsInsideAtLast (map bare legs) rect period → IsInsideAtLast legs rect period
-unfolding IsInsideAtLast
+last_from : (legs : List LegView) (rect : RectView) (period : PeriodView) → IsLastIn (InRect rect) (map bare legs) period → IsLastIn (InRect rect) legs period
+unfolding IsLastIn
 last_from legs rect period h =
     let P : LegView → Type 0 = λ leg. IsInside leg rect (last_moment leg period) 1 in
     one_from P (λ leg. inside_from leg rect (last_moment leg period) 1) (last_live period legs) (subst (λ o. IsSomeAnd o P) (last_bare period legs) h)
 
 pub holds_bare : (predicate : Predicate) (legs : List LegView) (rect : RectView) (period : PeriodView) → Holds predicate legs rect period → Holds predicate (map bare legs) rect period
-unfolding Holds
+unfolding HoldsIn
 holds_bare Ever legs rect period h = ever_to legs rect period h
 holds_bare Always legs rect period h = (has_to legs period h.0, inside_all_to legs rect period h.1)
 holds_bare Enters legs rect period h = (has_to legs period h.0, (λ x. h.1 (first_from legs rect period x)), last_to legs rect period h.2)
@@ -150,7 +150,7 @@ holds_bare Crosses legs rect period h = (has_to legs period h.0, (λ x. h.1 (fir
 holds_bare Bypasses legs rect period h = (has_to legs period h.0, λ x. h.1 (ever_from legs rect period x))
 
 pub bare_holds : (predicate : Predicate) (legs : List LegView) (rect : RectView) (period : PeriodView) → Holds predicate (map bare legs) rect period → Holds predicate legs rect period
-unfolding Holds
+unfolding HoldsIn
 bare_holds Ever legs rect period h = ever_from legs rect period h
 bare_holds Always legs rect period h = (has_from legs period h.0, inside_all_from legs rect period h.1)
 bare_holds Enters legs rect period h = (has_from legs period h.0, (λ x. h.1 (first_to legs rect period x)), last_from legs rect period h.2)

@@ -1,13 +1,12 @@
 -- Stays over cuts that are apart are apart, and none ends before it begins.
 use Rattle.std.specs.Prelude.{IfOk, Result, Ok, Err}
-use Rattle.std.proofs.Common.{ℕ, ◌<◌, All, List, [], ◌∷◌, ℤ, pos, ◌-ℤ◌, ◌*ℤ◌, ◌≤ℤ◌, ◌<ℤ◌, ◌≡◌, arith}
+use Rattle.std.proofs.Common.{ℕ, ◌<◌, All, List, [], ◌∷◌, ℤ, pos, ◌-ℤ◌, ◌*ℤ◌, ◌≤ℤ◌, ◌<ℤ◌, arith}
 use Rattle.std.proofs.lemmas.Int.{by_lt_z, ints}
 use Rattle.std.proofs.lemmas.List.Elements.{All-cons, All-nil}
 use Rattle.legs.specs.Legs.{LegView}
 use Rattle.clipping.specs.Inside.{duration}
 use Rattle.clipping.proofs.Fractions.{scale_strictly, through, through_less}
 use Rattle.zones.specs.Cuts as cuts
-use Rattle.zones.specs.declared.cuts.CoursePlace.{CoursePlace}
 use Rattle.zones.specs.declared.cuts.Cut.{Cut}
 use Rattle.zoning.specs.Lengths.{IsNotAfter}
 use Rattle.zoning.specs.Parts.{IsAt, numerator_of}

@@ -18,10 +18,11 @@ use Rattle.zones.specs.declared.cuts.Cut.{Cut}
 use Rattle.zoning.specs.Parts.{numerator_of}
 use Rattle.zoning.specs.Asking.{IsAsked}
 use Rattle.zoning.specs.Lengths.{IsNotAfter}
-use Rattle.zoning.specs.Stays.{AllInside, AreOver, AreStays, IsDuring, IsInAStay, IsInZone, IsOf, IsOver}
+use Rattle.zoning.specs.Stays.{AllInside, AreOver, AreStays, IsDuring, IsInAStay, IsInZone, IsOf, IsOver, IsInPeriod}
 use Rattle.zoning.specs.declared.stay.Stay.{Stay}
 use Rattle.zoning.proofs.ApartLemmas.{all_apart, all_forward}
 use Rattle.zoning.proofs.PartLemmas.{all_inside}
+use Rattle.zoning.proofs.WithinLemmas.{all_within}
 use Rattle.zoning.proofs.Orders.{after_from, after_to, before_from, before_to}
 
 grouped : (a b z : ℤ) → (a *ℤ b) *ℤ z ≡ a *ℤ (b *ℤ z)
@@ -94,7 +95,7 @@ positive_product a b h g = let s = scale_strictly (pos 0) a b g h in omega (arit
 -- a leg without a moment in the period has no stay there
 pub none_stays : (rings : List (List Corner)) (leg : LegView) (period : PeriodView) → (HasMoment leg period → ⊥) → AreStays rings leg period []
 none_stays rings leg period none =
-    record { exact = λ n d m. absurd (none (n, d, m)); apart = tt; ordered = All-nil (λ stay. IsNotAfter stay.enters stay.leaves); each = All-nil (IsOf leg period) }
+    record { exact = λ n d m. absurd (none (n, d, m)); apart = tt; within = All-nil (IsInPeriod leg period); ordered = All-nil (λ stay. IsNotAfter stay.enters stay.leaves); each = All-nil (IsOf leg period) }
 
 module _ (leg : LegView) (period : PeriodView) (course : CourseView) (first last : CoursePlace) (asked : IsAsked leg period course first last) where
   w0 : pos 0 <ℤ duration leg
@@ -109,7 +110,7 @@ module _ (leg : LegView) (period : PeriodView) (course : CourseView) (first last
       between
 
   pub are_stays : (rings : List (List Corner)) (cs : List Cut) (stays : List Stay) → IsStays rings course first last cs → AreOver leg cs stays → All (IsOf leg period) stays → AreStays rings leg period stays
-  are_stays rings cs stays is over each = record { exact = exact; apart = all_apart leg w0 cs stays over is.apart; ordered = all_forward leg w0 cs stays over; each = each }
+  are_stays rings cs stays is over each = record { exact = exact; apart = all_apart leg w0 cs stays over is.apart; within = all_within leg period first last asked.first_num asked.first_den asked.last_num asked.last_den cs stays over is.between; ordered = all_forward leg w0 cs stays over; each = each }
     where
       exact : (n : ℤ) (d : ℕ) → IsMomentOf leg period n d → IsInZone rings leg n d ↔ IsInAStay stays n d
       exact n d m =

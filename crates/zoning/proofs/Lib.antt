@@ -2,7 +2,16 @@ pub mod Orders
 pub mod Terms
 pub mod PartLemmas
 pub mod ApartLemmas
+pub mod WithinLemmas
 pub mod HeldLemmas
+pub mod MomentsHeld
+pub mod GapLemmas
+pub mod StayCourse
+pub mod TallyLemmas
+pub mod SameLegs
+pub mod NearLemmas
+pub mod PartsOfLegs
+pub mod FeatureLemmas
 pub mod LiveLemmas
 pub mod WindowLemmas
 pub mod MomentLemmas

@@ -9,7 +9,7 @@ use Rattle.legs.specs.Boxes.{IsRect, RectView}
 use Rattle.legs.specs.Legs.{IsMomentOf, LegView}
 use Rattle.clipping.specs.Inside.{IsInside, duration}
 use Rattle.zones.specs.Boxes.{BoxView, IsInBox, IsOff}
-use Rattle.zones.specs.Edges.{across, along, either, is_between, is_between_by, is_crossed, is_on_edge}
+use Rattle.zones.specs.Edges.{across, along, either, is_between_by, is_crossed, is_on_edge}
 use Rattle.zones.specs.Places.{Corner, Edge, Point}
 use Rattle.zones.specs.Zones.{in_zone, is_odd, is_on_some, zone_edges}
 use Rattle.zones.proofs.EdgeLemmas.{between_by, crossed_from, gt_by, int_cmp_equal, int_cmp_less, le_by, on_edge_from}

@@ -1,6 +1,5 @@
 -- On which side of a gate's line a leg is before it meets the line, and after.
-use Rattle.std.proofs.Common.{ℕ, ◌≤◌, ℤ, pos, ◌-ℤ◌, ◌*ℤ◌, ◌+ℤ◌, ◌<ℤ◌, ◌≡◌, ◌∙◌, Some, None, Less, Equal, Greater, Ordering, arith, ap, sym, refl}
-use Rattle.std.specs.Ordering.{int_cmp, ordering_reverse}
+use Rattle.std.proofs.Common.{ℕ, ◌≤◌, ℤ, pos, ◌-ℤ◌, ◌*ℤ◌, ◌<ℤ◌, ◌≡◌, ◌∙◌, None, Less, Equal, Greater, Ordering, arith, ap, sym, refl}
 use Rattle.std.proofs.lemmas.Cmp.{int_ranked, by_ranked}
 use Rattle.std.proofs.lemmas.Int.{ints}
 use Rattle.legs.specs.Legs.{LegView}

@@ -34,7 +34,7 @@ module _ (leg : LegView) (period : PeriodView) (rises : leg.t0 <ℤ leg.t1) (n :
 -- the stays in rings that are the zone on the leg's course are those in the zone
 pub stays_in_whole : (leg : LegView) (period : PeriodView) → leg.t0 <ℤ leg.t1 → (near rings : List (List Corner)) → AgreeOn (course_of leg) near rings
     → (stays : List Stay) → AreStays near leg period stays → AreStays rings leg period stays
-stays_in_whole leg period rises near rings agree stays are = record { exact = exact; apart = are.apart; ordered = are.ordered; each = are.each }
+stays_in_whole leg period rises near rings agree stays are = record { exact = exact; apart = are.apart; within = are.within; ordered = are.ordered; each = are.each }
   where
     exact : (n : ℤ) (d : ℕ) → IsMomentOf leg period n d → IsInZone rings leg n d ↔ IsInAStay stays n d
     exact n d m =

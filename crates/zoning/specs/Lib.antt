@@ -4,5 +4,7 @@ pub mod Asking
 pub mod Ends
 pub mod Lengths
 pub mod Visits
+pub mod Courses
+pub mod Holding
 pub mod Sides
 pub mod Rectangles

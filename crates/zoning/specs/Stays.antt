@@ -1,7 +1,7 @@
 -- The stays of a leg in a zone. All moments are fractions n / d of milliseconds since 1970-01-01T00:00:00Z.
 use Rattle.std.specs.Prelude.{ℕ, true, ◌≡◌, ◌⊎◌, ◌↔◌, All, List, [], ◌∷◌, ℤ, pos, ◌-ℤ◌, ◌*ℤ◌, ◌<ℤ◌, ◌≤ℤ◌}
 use Rattle.timebase.specs.Period.{PeriodView}
-use Rattle.legs.specs.Legs.{LegView, IsMomentOf}
+use Rattle.legs.specs.Legs.{LegView, IsMomentOf, first_moment, last_moment}
 use Rattle.clipping.specs.Inside.{duration}
 use Rattle.zones.specs.Places.{Corner, CourseView, Point, point_at}
 use Rattle.zones.specs.Zones.{in_zone}
@@ -54,11 +54,17 @@ pub record IsOf (leg : LegView) (period : PeriodView) (stay : Stay) : Type 0 whe
   pub begun : IsEndBy stay.enters leg.t0 period.start stay.enters_by
   pub ended : IsEndBy stay.leaves leg.t1 period.end stay.leaves_by
 
+-- the stay is from the first moment of the leg in the period on, and to the last
+pub record IsInPeriod (leg : LegView) (period : PeriodView) (stay : Stay) : Type 0 where
+  pub from : (first_moment leg period *ℤ pos stay.enters.den) ≤ℤ numerator_of stay.enters
+  pub to : numerator_of stay.leaves ≤ℤ (last_moment leg period *ℤ pos stay.leaves.den)
+
 -- At a moment of the leg in the period, the leg is in the zone exactly if one of the stays holds the moment. They are in
--- the order of time and apart; none ends before it begins.
+-- the order of time and apart, at moments of the leg in the period; none ends before it begins.
 pub record AreStays (rings : List (List Corner)) (leg : LegView) (period : PeriodView) (stays : List Stay) : Type 0 where
   pub exact : (n : ℤ) (d : ℕ) → IsMomentOf leg period n d → IsInZone rings leg n d ↔ IsInAStay stays n d
   pub apart : AreApart stays
+  pub within : All (IsInPeriod leg period) stays
   pub ordered : All (λ stay. IsNotAfter stay.enters stay.leaves) stays
   pub each : All (IsOf leg period) stays
 

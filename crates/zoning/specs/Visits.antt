@@ -1,5 +1,5 @@
 -- Visits: stays of a feature that go on over several legs. Dwells are made of them.
-use Rattle.std.specs.Prelude.{ℕ, ◌+◌, ◌-◌, ◌^◌, ◌==◌, min, Bool, ◌&&◌, List}
+use Rattle.std.specs.Prelude.{◌+◌, ◌-◌, ◌^◌, ◌==◌, min, Bool, ◌&&◌, List}
 use Rattle.std.specs.Ordering.{int_eq}
 use Rattle.visiting.specs.Joining.{joined}
 use Rattle.visiting.specs.Dwells as dwells

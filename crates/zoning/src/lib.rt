@@ -2,6 +2,7 @@
 #![tactic(auto)]
 
 mod asked;
+mod courses;
 mod dwells;
 mod ends;
 mod holding;
@@ -12,8 +13,9 @@ mod site;
 mod stay;
 mod visits;
 
+pub use courses::course_of_stays;
 pub use dwells::dwells_of;
-pub use holding::{Tallies, Tally, features_ever, features_of};
+pub use holding::{Courses, Tallies, features_of};
 pub use moment::Moment;
 pub use sides::Side;
 pub use site::Site;

@@ -2,6 +2,7 @@
 ghost use Rattle.std.specs.Prelude.{◌≡◌, ◌<ℤ◌};
 ghost use Rattle.zoning.specs.Stays.{course_of};
 
+use crate::courses::course_of_stays;
 use crate::stay::{Stay, stays_of};
 use fixedpoint::Coord;
 use legs::{Leg, Rect};
@@ -88,7 +89,8 @@ fn way_of(leg: &Leg) -> Course
 
 impl Site {
     ghost use Rattle.std.specs.Prelude.{◌≡◌, IfOk, [], ◌∷◌};
-    ghost use Rattle.zoning.specs.Stays.{AreStays};
+    ghost use Rattle.predicates.specs.Courses.{IsCourse};
+    ghost use Rattle.zoning.specs.Stays.{AreStays, IsInZone};
 
     /// The site of a polygon's rings.
     pub fn of_rings(alloc: Global, rings: Vec<Ring>) -> Result<Site, AllocError>
@@ -133,6 +135,21 @@ impl Site {
     {
         let rings = self.windows.near(alloc, &way_of(leg))?;
         stays_of(alloc, &rings, self.gate.as_ref(), leg, period)
+    }
+
+    /// What a leg has to do with the zone over a period.
+    pub fn course_of(
+        &self,
+        alloc: Global,
+        leg: &Leg,
+        period: &Period,
+    ) -> Result<predicates::Course, AllocError>
+        // It is the course of that leg alone with the site's zone.
+        ensures { IfOk result (λ course.
+            IsCourse (IsInZone self.now) course (leg.now ∷ []) period.now) }
+    {
+        let stays = self.stays_of(alloc, leg, period)?;
+        Ok(course_of_stays(leg, period, &stays))
     }
 
     /// Whether the zone is a gate.

@@ -1,5 +1,6 @@
 //! The stays of legs in a zone.
 ghost use Rattle.std.specs.Prelude.{◌≡◌, All, IfOk, MatchOption, None};
+ghost use Rattle.zoning.specs.Courses.{is_own};
 ghost use Rattle.zoning.specs.Ends.{IsEndBy};
 ghost use Rattle.zoning.specs.Stays.{AllInside, AreOver, AreStays, IsInside, IsOf, IsOver};
 
@@ -40,15 +41,42 @@ pub struct Stay {
     pub to: Option<Side>,
 }
 
+/// Whether an end is the leg's or the period's, and no edge of the zone.
+fn is_own(end: End) -> bool
+    ensures { result ≡ is_own end }
+{
+    match end {
+        End::Leg | End::Period => true,
+        End::Edge => false,
+    }
+}
+
 impl Stay {
+    ghost use Rattle.std.specs.Prelude.{◌≡◌};
+    ghost use Rattle.zoning.specs.Courses.{holds_first, holds_last, is_whole};
+
     /// Whether the leg is in the zone at its first moment in the period.
-    pub fn holds_first(&self) -> bool {
-        self.enters_by != End::Edge
+    pub fn holds_first(&self) -> bool
+        // It begins by the leg or the period, and not at an edge.
+        ensures { result ≡ holds_first self.now }
+    {
+        is_own(self.enters_by)
     }
 
     /// Whether it is at its last.
-    pub fn holds_last(&self) -> bool {
-        self.leaves_by != End::Edge
+    pub fn holds_last(&self) -> bool
+        // It ends by the leg or the period, and not at an edge.
+        ensures { result ≡ holds_last self.now }
+    {
+        is_own(self.leaves_by)
+    }
+
+    /// Whether it is at all of its moments in the period.
+    pub fn is_whole(&self) -> bool
+        // It holds the first moment and the last.
+        ensures { result ≡ is_whole self.now }
+    {
+        self.holds_first() && self.holds_last()
     }
 }
 

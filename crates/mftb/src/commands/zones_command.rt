@@ -26,7 +26,7 @@ use std::rt::Files;
 use timebase::Period;
 use trajdb::{Db, RunFault};
 use zone_files::{Shape, Zone, ZoneFault, ZoneFile, read_zones};
-use zoning::{Site, Stay, Tallies, dwells_of, features_ever, features_of, visits_of};
+use zoning::{Courses, Site, Stay, Tallies, dwells_of, features_of, visits_of};
 
 /// The first fields of each record.
 const FIRST: &str = "zone,feature";
@@ -85,34 +85,23 @@ impl Asked {
         }
     }
 
-    /// The stays of a database's legs in a zone. The index is asked for the zone's least box.
-    fn stays<S: PageStore>(
-        &self,
-        database: &mut Db<S>,
-        site: &Site,
-    ) -> Result<Vec<Stay>, RunFault> {
+    /// The legs of a database that may be in a zone. The index is asked for the zone's least box.
+    fn near<S: PageStore>(&self, database: &mut Db<S>, site: &Site) -> Result<Vec<Leg>, RunFault> {
+        match site.bounds() {
+            Some(bounds) => database.legs(self.alloc, Predicate::Ever, &bounds, &self.period),
+            None => Ok(Vec::new(self.alloc)),
+        }
+    }
+
+    /// The stays of legs in a zone.
+    fn stays(&self, site: &Site, legs: &[Leg]) -> Result<Vec<Stay>, AllocError> {
         let mut stays = Vec::new(self.alloc);
-        if let Some(bounds) = site.bounds() {
-            for leg in &database.legs(self.alloc, Predicate::Ever, &bounds, &self.period)? {
-                for stay in &site.stays_of(self.alloc, leg, &self.period)? {
-                    stays.push(*stay)?;
-                }
+        for leg in legs {
+            for stay in &site.stays_of(self.alloc, leg, &self.period)? {
+                stays.push(*stay)?;
             }
         }
         Ok(stays)
-    }
-}
-
-/// The features of which a predicate holds.
-fn holding(
-    alloc: Global,
-    predicate: Predicate,
-    tallies: &Tallies,
-    stays: &[Stay],
-) -> Result<Vec<u32>, AllocError> {
-    match predicate {
-        Predicate::Ever => features_ever(alloc, stays),
-        _ => features_of(alloc, predicate, tallies, stays),
     }
 }
 
@@ -152,16 +141,55 @@ impl Told {
         let text = &mut self.text;
         match self.asked.rows {
             ZoneRowKind::Legs => push_zone_stays(alloc, text, database, zone, stays),
-            ZoneRowKind::Visits => {
-                push_zone_visits(alloc, text, database, zone, &visits_of(alloc, stays)?)
-            }
             ZoneRowKind::Dwell => {
                 let visits = visits_of(alloc, stays)?;
                 push_zone_dwells(alloc, text, database, label, &dwells_of(alloc, &visits)?)
             }
+            _ => push_zone_visits(alloc, text, database, zone, &visits_of(alloc, stays)?),
+        }
+    }
+
+    /// The features of which a predicate holds with a zone. Legs that are not near it say nothing of `Ever`.
+    fn holding(
+        &self,
+        predicate: Predicate,
+        near: &[Leg],
+        courses: &Courses,
+    ) -> Result<Vec<u32>, AllocError> {
+        let alloc = self.asked.alloc;
+        match predicate {
+            Predicate::Ever => {
+                features_of(alloc, predicate, &Tallies::of(alloc, near)?, courses)
+            }
+            _ => features_of(alloc, predicate, &self.tallies, courses),
+        }
+    }
+
+    /// Appends the records of a zone, and says whether a leg is in it.
+    fn push_all<S: PageStore>(
+        &mut self,
+        database: &Db<S>,
+        zone: &ZoneFrame<'_>,
+        site: &Site,
+        near: &[Leg],
+    ) -> Result<bool, RunFault> {
+        let Asked {
+            alloc,
+            period,
+            rows,
+        } = self.asked;
+        match rows {
             ZoneRowKind::Features(predicate) => {
-                let features = holding(alloc, predicate, &self.tallies, stays)?;
-                push_zone_features(alloc, text, database, label, &features)
+                let courses = Courses::of(alloc, site, near, &period)?;
+                let features = self.holding(predicate, near, &courses)?;
+                let label = zone.frame.label;
+                push_zone_features(alloc, &mut self.text, database, label, &features)?;
+                Ok(courses.is_ever())
+            }
+            _ => {
+                let stays = self.asked.stays(site, near)?;
+                self.push(database, zone, &stays)?;
+                Ok(!stays.is_empty())
             }
         }
     }
@@ -170,16 +198,16 @@ impl Told {
     fn add<S: PageStore>(&mut self, database: &mut Db<S>, zone: Zone) -> Result<(), RunFault> {
         let Zone { name, shape } = zone;
         let site = site_of(self.asked.alloc, shape)?;
-        let stays = self.asked.stays(database, &site)?;
+        let near = self.asked.near(database, &site)?;
         let mut label = Vec::new(self.asked.alloc);
         push_label(self.asked.alloc, &mut label, name.as_str())?;
         let frame = ZoneFrame {
             frame: frame_of(database, &label),
             is_gate: site.is_gate(),
         };
-        self.push(database, &frame, &stays)?;
+        let is_entered = self.push_all(database, &frame, &site, &near)?;
         if let Some(rect) = site.bounds() {
-            if stays.is_empty() {
+            if !is_entered {
                 self.empty.push(self.boxes.len())?;
             }
             self.boxes.push(NamedRect { name, rect })?;
