@@ -112,8 +112,7 @@ def stays_there(lines):
 
 def moment_of(text):
     """A moment of an answer, in seconds."""
-    whole, _, rest = text.partition("+")
-    return (Fraction(whole) + Fraction(rest or 0)) / 1000
+    return Fraction(text) / 1000
 
 
 def stays_here(answer):

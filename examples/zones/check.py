@@ -18,11 +18,11 @@ from check import Book, instant
 
 def zone_of(wkt):
     """The rings of a zone and the line of a gate, in units of 10^-7."""
-    rings = [
-        [tuple(int(Fraction(it) * 10**7) for it in corner.split()) for corner in ring.split(",")]
+    rings = tuple(
+        tuple(tuple(int(Fraction(it) * 10**7) for it in corner.split()) for corner in ring.split(","))
         for ring in re.findall(r"\(([^()]+)\)", wkt)
-    ]
-    gate = tuple(rings[0]) if wkt.startswith("LINESTRING") else None
+    )
+    gate = rings[0] if wkt.startswith("LINESTRING") else None
     return rings, gate, None
 
 

@@ -13,7 +13,6 @@ import subprocess
 import sys
 import tempfile
 from datetime import datetime, timedelta, timezone
-from fractions import Fraction
 from pathlib import Path
 
 import zone_cases
@@ -34,6 +33,11 @@ def instant_text(micros):
     """Microseconds since 1970 as an instant."""
     at = datetime(1970, 1, 1, tzinfo=timezone.utc) + timedelta(microseconds=micros)
     return at.strftime("%Y-%m-%dT%H:%M:%S.%fZ")
+
+
+def fraction_text(moment):
+    """A moment as a fraction in lowest terms."""
+    return f"{moment.numerator}/{moment.denominator}"
 
 
 def random_book(source, most):
@@ -122,7 +126,7 @@ class Stay:
         self.legs += 1
 
     def times(self):
-        texts = [zone_cases.moment_text(moment - BASE_MS) for moment in (self.enters, self.leaves)]
+        texts = [fraction_text(moment - BASE_MS) for moment in (self.enters, self.leaves)]
         texts += [instant_text(math.floor(self.enters * 1000)), instant_text(math.ceil(self.leaves * 1000))]
         return texts + [number_text(v) for position in (self.entry, self.exit) for v in position]
 
@@ -233,15 +237,7 @@ def first_difference(answer, expected):
 
 
 def law_of_rectangles(program, folder, zones, times, flag, answer):
-    """The records of rectangles as `mftb moments` prints them, with moments as one number."""
-
-    def shown(rows, places):
-        return [[*row[:1], *(number(row[p]) for p in (1, 2)), *(row[p] for p in places)] for row in rows]
-
-    def number(text):
-        whole, _, rest = text.partition("+")
-        return Fraction(whole) + Fraction(rest or 0)
-
+    """The records of rectangles are those that `mftb moments` prints, but for its edges."""
     rows = list(csv.reader(io.StringIO(answer)))[1:]
     wrong = 0
     for name, (_, _, rectangle) in zones:
@@ -250,7 +246,7 @@ def law_of_rectangles(program, folder, zones, times, flag, answer):
             words += [*map(number_text, rectangle), *times]
             there = list(csv.reader(io.StringIO(asked(words, folder))))[1:]
             here = [row[1:] for row in rows if row[0] == name]
-            wrong += shown(here, range(3, 9)) != shown(there, range(3, 9))
+            wrong += [row[:9] for row in here] != [row[:9] for row in there]
     return wrong
 
 

@@ -26,6 +26,8 @@ FAR = 10**15
 BATCH = 100_000
 # The status of the program where its words are wrong.
 WRONG_WORDS = 2
+# How the line begins by which it refuses a zone file.
+ZONES = "mftb: the zone file is refused"
 RARE, PAIR = re.compile(rb"[\x00-\x0a]"), re.compile(rb"\x02(.)")
 QUOTED = re.compile(rb'"((?:[^"]|"")*)",?')
 WORD = re.compile(rb"[^ \t]*")
@@ -170,10 +172,16 @@ def inside(part: Part, command: str, before: Sequence[str], behind: Sequence[str
         words = [part.program, command, "--explain", *before, part.store, *behind]
         ended = subprocess.run(words, stdin=subprocess.DEVNULL, stdout=out, stderr=subprocess.PIPE)
     if ended.returncode == WRONG_WORDS:
-        return Inside(ended.stderr.decode(errors="replace").strip().splitlines()[-1:], "")
+        return Inside(wrong_words(ended.stderr.decode(errors="replace").strip().splitlines()), "")
     if ended.returncode:
         raise fault_of(ended.returncode, ended.stderr)
     return Inside([], str(path))
+
+
+def wrong_words(said: Sequence[str]) -> list[str]:
+    """Of what the program says of wrong words the last line; of a zone file all from the line that refuses it."""
+    refused = [place for place, line in enumerate(said) if ZONES in line]
+    return list(said[refused[0] if refused else -1 :])
 
 
 def ask(part: Part, lines: Sequence[bytes]) -> tuple[list[Said], str]:

@@ -522,6 +522,18 @@ class Explained(Case):
             _, said = self.run_mftb("moments", "store", "0", "0", word, "1", *PERIOD.split(), status=2)
             self.assertEqual(said, "mftb: X1 Y1 X2 Y2 T1 T2 are one word each\n")
 
+    def test_a_line_of_a_script_is_no_subcommand(self):
+        """Who types a line of a script is told how one is run; who mistypes a subcommand is not."""
+        for word in "load", "count", "box", "legs", "features", "trajectory", "write":
+            out, said = self.run_mftb(word, "day.csv", status=2)
+            self.assertEqual(out, "")
+            self.assertIn(f"unrecognized subcommand '{word}'", said)
+            hint = f"\n'{word}' begins a line of a script. Write the lines into a file SCRIPT, and run:\n"
+            self.assertTrue(said.endswith(f"{hint}\n  mftb run STORE SCRIPT [FILES]...\n"), said)
+        self.assertNotIn("SCRIPT", self.run_mftb("zone", "day.csv", status=2)[1])
+        # A word behind a subcommand is none of these.
+        self.assertNotIn("line of a script", self.run_mftb("info", "load", "count", status=2)[1])
+
     def as_nobody(self, *words):
         """What `mftb` says to a user without rights."""
         self.folder.chmod(0o755)

@@ -11,11 +11,6 @@ TIMES = ["2025-05-10T10:00:00Z", "2025-05-10T10:10:00Z"]
 YARD = ["-40", "-30", "40", "30"]
 
 
-def exact(text):
-    whole, _, rest = text.rpartition("+")
-    return Fraction(whole or 0) + Fraction(rest)
-
-
 @unittest.skipUnless(has_info(), "tools/unproved has made no build yet")
 class Inside(Asked):
     def setUp(self):
@@ -37,7 +32,7 @@ class Inside(Asked):
         zone = names.index("feature")
         if "enters" in names:
             ends = [names.index(it) for it in ("enters", "leaves")]
-            wanted.sort(key=lambda row: (exact(row[ends[0]]), row[zone], exact(row[ends[1]])))
+            wanted.sort(key=lambda row: (Fraction(row[ends[0]]), row[zone], Fraction(row[ends[1]])))
         else:
             wanted.sort()
         places = {name: place for place, name in enumerate(["yard", "east, far", "all"])}
@@ -46,7 +41,7 @@ class Inside(Asked):
         return found
 
     def test_a_rectangle(self):
-        for flags in [], ["--visits"], ["--dwell"]:
+        for flags in [], ["--columns"], ["--visits"], ["--dwell"]:
             self.assertGreater(len(self.check("moments", *flags, *YARD, *TIMES)), 3)
 
     def test_rectangles_of_a_file(self):
@@ -61,7 +56,7 @@ class Inside(Asked):
         self.write(
             "zones.csv", 'name,wkt\nyard,"POLYGON((-40 -30,40 -30,0 30,-40 -30))"\nall,"LINESTRING(-99 -1,99 1)"\n'
         )
-        for flags in [], ["--visits"], ["--legs"], ["--dwell"], ["--features", "crosses"]:
+        for flags in [], ["--visits"], ["--legs"], ["--legs", "--columns"], ["--dwell"], ["--features", "crosses"]:
             self.check("zones", *flags, "zones.csv", *TIMES)
 
     def test_wrong_words_are_said_once(self):
@@ -70,6 +65,14 @@ class Inside(Asked):
         self.assertRegex(ended.stderr.splitlines()[-1], "^fleet: mftb: T1 .*is after T2")
         self.assertEqual(ended.stderr.count("is after"), 1)
         self.fleet("moments", "fleet", *YARD, status=2)
+
+    @unittest.skipUnless(has_zones(), "this program has no zones")
+    def test_a_zone_file_of_another_form(self):
+        self.write("zones.geojson", '{"type": "FeatureCollection"}\n')
+        ended = self.fleet("zones", "fleet", "zones.geojson", *TIMES, status=2)
+        refused, hint = ended.stderr.splitlines()[-2:]
+        self.assertRegex(refused, "^fleet: mftb: the zone file is refused: Z2 at record 1: ")
+        self.assertRegex(hint, "zones.geojson: it looks like GeoJSON, of which tools/zones_from makes a zone file$")
 
     def test_a_part_without_its_store(self):
         next(self.folder.glob("fleet/part-1-*")).unlink()

@@ -23,7 +23,7 @@ if not HAS_PANDAS:
     print("test_frames: pandas (python3-pandas) is not there: no frame is made", file=sys.stderr)
 elif not HAS_GEOPANDAS:
     print("test_frames: geopandas (python3-geopandas) is not there: no geometry is made", file=sys.stderr)
-STAND_IN = '#!/bin/sh\ncase "$2" in --visits | --dwell) cat {0}/"$1$2" ;; *) cat {0}/"$1" ;; esac\n'
+STAND_IN = '#!/bin/sh\ncase "$2" in --visits | --dwell | --columns) cat {0}/"$1$2" ;; *) cat {0}/"$1" ;; esac\n'
 COLUMNS = [("kind", "xsd:token"), ("draught", "xsd:decimal"), ("in port", "xsd:boolean"), ("feature", "xsd:integer")]
 INFO = common.INFO | {"columns": [{"name": name, "type": kind} for name, kind in COLUMNS]}
 LEGS = """Castor,-0.5,30,-4.6 -183.4 -4.4 28.3,tug,3.1,true,7
@@ -132,6 +132,21 @@ class Moments(Frames):
         self.assertEqual((found["x_in"][0], found["enters_by"][0]), (1.5, "edge"))
         found = self.store.moments(BOX, PERIOD).to_pandas(exact=True)
         self.assertEqual(found["enters"][0], Fraction(1717404600) + Fraction(1, 3))
+
+    def test_attributes_of_stays(self):
+        """They have the types of the store; a column of a name that is there gets another one."""
+        names, record = MOMENTS.splitlines()
+        text = f'{names},kind,draught,in port,feature\n{record},"tug, old",3.5,true,7\n{record},,,true,8\n'
+        self.write("moments--columns", text)
+        found = self.store.moments(BOX, PERIOD, attributes=True).to_pandas()
+        self.assertEqual(list(found)[-4:], ["kind", "draught", "in port", "feature_"])
+        self.assertEqual(found["kind"].tolist(), ["tug, old", ""])
+        self.assertEqual((found["draught"][0], found["draught"].isna().tolist()), (3.5, [False, True]))
+        self.assertEqual((found["in port"].tolist(), found["feature_"].tolist()), ([True, True], [7, 8]))
+        self.assertEqual(found["feature"].tolist(), ["Castor", "Castor"])
+        self.write("moments--columns", text.replace("3.5", "deep"))
+        found = self.store.moments(BOX, PERIOD, attributes=True).to_pandas()
+        self.assertEqual(found["draught"].tolist(), ["deep", ""])
 
     def test_visits_and_dwells(self):
         self.write("moments--visits", VISITS)

@@ -267,6 +267,63 @@ class Moments(Asked):
         # A rectangle beside the file is one word too many.
         self.asked("moments", "--rects", "rects.csv", "store", *MOUTH, status=2)
 
+    def test_attributes_of_legs(self):
+        """The walks of the standard example: the values of each one's record."""
+        self.load((ROOT / "examples" / "standard" / "S1.csv").read_text())
+        words = ["11.5", "2.5", "13", "4", "2012-01-17T12:33:41Z", "2012-01-17T12:37:00Z"]
+        names, *rows = self.records("--columns", *words)
+        plain, *others = self.records(*words)
+        self.assertEqual(names, [*plain, "state", "type code"])
+        self.assertEqual([row[:-2] for row in rows], others)
+        self.assertEqual([row[-2:] for row in rows], [["walking", "1"], ["walking", "2"]])
+        self.write("rects.csv", "name,x1,y1,x2,y2\nin,11.5,2.5,13,4\n")
+        names, *rows = self.records("--columns", "--rects", "rects.csv", *words[4:])
+        self.assertEqual((names[0], names[-1]), ("rectangle", "type code"))
+        self.assertEqual([(row[0], *row[-2:]) for row in rows], [("in", "walking", "1"), ("in", "walking", "2")])
+
+    def test_attributes_are_quoted_as_box_quotes_them(self):
+        self.load(
+            "@stboundedby,m,2D,,,2024-01-01T00:00:00Z,,sec\n"
+            '@columns,mfidref,trajectory,"what, who",xsd:string,"a ""word""",xsd:string,last,xsd:string\n'
+            'a,0,10,0 0 10 0,"so, so",,"""yes"""\nb,0,10,0 0 10 0,,"two\nlines",\nc,0,10,0 0 10 0\n'
+        )
+        words = ["0", "0", "5", "5", "2024-01-01T00:00:00Z", "2024-01-01T00:00:10Z"]
+        printed = self.asked("moments", "--columns", "store", *words)[0]
+        start, end = "2024-01-01T00:00:00.000000Z", "2024-01-01T00:00:05.000000Z"
+        stay = f",0/1,5000/1,{start},{end},0,0,5,0,leg,edge,,right,"
+        head = "feature,enters,leaves,enters_at,leaves_at,x_in,y_in,x_out,y_out,enters_by,leaves_by,edge_in,edge_out,"
+        self.assertEqual(
+            printed,
+            f'{head}"what, who","a ""word""",last\n'
+            f'a{stay}"so, so",,"""yes"""\n'
+            f'b{stay},"two\nlines",\n'
+            f"c{stay},,\n",
+        )
+        self.write("box", f"box {' '.join(words)}\n")
+        boxed = self.asked("run", "store", "box")[0].split("\n", 1)[1]
+        ends = [row[4:] for row in csv.reader(io.StringIO(boxed))]
+        self.assertEqual(ends, [row[13:] for row in csv.reader(io.StringIO(printed))][1:])
+
+    def test_attributes_are_those_of_a_leg(self):
+        self.load(HARBOUR.read_text())
+        for flag in "--visits", "--dwell":
+            out, error = self.asked("moments", "--columns", flag, "store", *MOUTH, status=2)
+            self.assertEqual(out, "")
+            self.assertIn("'--columns' cannot be used with '--visits' or '--dwell'", error)
+        # Without attribute columns there is nothing to print.
+        self.write(
+            "plain.csv", "@stboundedby,m,2D,,,2024-06-03T08:50:00Z,,sec\n@columns,mfidref,trajectory\na,0,900,0 0\n"
+        )
+        self.write("load", "load plain.csv\n")
+        self.asked("run", "plain", "load", "plain.csv")
+        plain = self.asked("moments", "plain", *MOUTH)[0]
+        self.assertEqual(plain.count("\n"), 2)
+        self.assertEqual(self.asked("moments", "--columns", "plain", *MOUTH)[0], plain)
+        self.write("none", "")
+        self.asked("run", "new", "none")
+        plain = self.asked("moments", "new", *MOUTH)[0]
+        self.assertEqual(self.asked("moments", "--columns", "new", *MOUTH)[0], plain)
+
     def test_nothing_is_written(self):
         self.load(HARBOUR.read_text())
         before = (self.folder / "store").read_bytes()
@@ -279,9 +336,13 @@ class Moments(Asked):
         self.load(HARBOUR.read_text())
         words = ["1", "2", "3", "4", "2024-06-03T09:00:00Z", "2024-06-03T09:05:00Z"]
         wrong = {
-            0: [("x", "a coordinate is no number, or out of range"), ("4", "X1 is above X2, or Y1 above Y2")],
+            0: [
+                ("x", "a coordinate is no number, or out of range"),
+                ("1 2", "X1 Y1 X2 Y2 T1 T2 are one word each"),
+                ("4", "X1 is above X2, or Y1 above Y2"),
+            ],
             4: [
-                ("9 o'clock", "X1 Y1 X2 Y2 T1 T2 are one word each"),
+                ("9 o'clock", "T1 or T2 is no instant, or out of range"),
                 ("9:00", "T1 or T2 is no instant, or out of range"),
             ],
             5: [("2024-06-03T08:59:59Z", "T1 is after T2")],

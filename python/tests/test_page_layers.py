@@ -1,7 +1,6 @@
 """What lies over the tracks of a page: zones, answers, moments."""
 
 import io
-from fractions import Fraction
 
 from common import ROOT, Case
 
@@ -111,11 +110,6 @@ class Moments(Case):
         self.assertEqual({ring.zone for ring in self.layer(text).rings}, {"port"})
         path = str(self.folder / self.write("visits.csv", text))
         self.assertEqual(layers.read(path, store(), Wanted())[0].kind, "moments")
-
-    def test_both_forms_of_a_moment(self) -> None:
-        self.assertEqual(layers.exact("5130000/7"), Fraction(5_130_000, 7))
-        self.assertEqual(layers.exact("732857+1/7"), Fraction(5_130_000, 7))
-        self.assertEqual(layers.exact("80000"), 80_000)
 
     def test_what_is_no_moment_is_named(self) -> None:
         with self.assertRaisesRegex(Refused, "moments.csv line 2: not what mftb moments prints"):

@@ -2,6 +2,7 @@
 import importlib.util
 import unittest
 import warnings
+from dataclasses import replace
 from datetime import datetime, timedelta, timezone
 from decimal import Decimal
 from fractions import Fraction
@@ -150,6 +151,16 @@ class Standard(Case):
         self.assertEqual((visit.enters, visit.leaves, visit.legs), (since_1970(80000), since_1970(160000), 2))
         self.assertEqual(list(self.store.dwell(BOX, PERIOD)), [records.Dwell("a", 1, Fraction(80), Fraction(80))])
 
+    def test_attributes_of_stays(self):
+        plain = list(self.store.moments(BOX, PERIOD))
+        self.assertEqual([stay.attributes for stay in plain], [{}, {}])
+        polygon = "POLYGON ((11.5 2.5, 13 2.5, 13 4, 11.5 4, 11.5 2.5))"
+        for zones in BOX, {"one": BOX}, polygon, {"one": polygon}:
+            stays = self.store.moments(zones, PERIOD, attributes=True)
+            self.assertEqual([stay.attributes for stay in stays], [WALKING, WALKING | {"type code": "2"}])
+            wanted = [replace(stay, attributes={}) for stay in stays]
+            self.assertEqual(list(self.store.moments(zones, PERIOD)), wanted)
+
     def test_zones_with_names(self):
         visits = self.store.visits({"one": BOX, "all": (10, 1, 12, 3)}, PERIOD)
         self.assertEqual([(it.zone, it.feature) for it in visits], [("one", "a"), *(("all", name) for name in "abc")])
@@ -280,6 +291,8 @@ class Fleet(Case):
         self.assertEqual((visit.enters, visit.leaves, visit.legs), (since_1970(80000), since_1970(160000), 2))
         stays = self.fleet.moments((10, 1, 12, 3), PERIOD)
         self.assertEqual([(it.feature, it.enters_at) for it in stays], self.all_stays())
+        stays = self.fleet.moments(BOX, PERIOD, attributes=True)
+        self.assertEqual([it.attributes["type code"] for it in stays], ["1", "2"])
         self.assertEqual(list(self.fleet.gaps(PERIOD)), [])
 
     def test_a_page_has_all_parts(self):

@@ -39,11 +39,11 @@ ROWS = {
     # x = -5 + 10 s and y = 5 - 10 s are both 0 at s = 1/2.
     "a corner touched": row(SQUARE, "0 10 -5 5 5 -5", visits=["5000 5000 edge edge 1"]),
     # x = -1 + 3 s is 0 at s = 1/3, and y = 1 - 3 s too.
-    "a corner touched after a third": row(SQUARE, "0 10 -1 1 2 -2", visits=["3333+1/3 3333+1/3 edge edge 1"]),
+    "a corner touched after a third": row(SQUARE, "0 10 -1 1 2 -2", visits=["10000/3 10000/3 edge edge 1"]),
     # The legs meet in (0, 0), so one visit has both.
     "a corner that two legs meet in": row(SQUARE, "0 5 -5 5 0 0", "5 10 0 0 5 -5", visits=["5000 5000 edge edge 2"]),
     # x = -1 + 3 s is 0 at s = 1/3, and the leg ends at x = 2.
-    "an edge crossed": row(SQUARE, "0 1 -1 5 2 5", visits=["333+1/3 1000 edge leg 1"]),
+    "an edge crossed": row(SQUARE, "0 1 -1 5 2 5", visits=["1000/3 1000 edge leg 1"]),
     # x = -10 + 30 s is 0 at s = 1/3 and 10 at s = 2/3.
     "a level edge run along": row(SQUARE, "0 30 -10 0 20 0", visits=["10000 20000 edge edge 1"]),
     # x = 5 + 10 s is 10 at s = 1/2.
@@ -55,7 +55,7 @@ ROWS = {
     # All of it has 3 x + 7 y = 21. x = 14 - 21 s is 7 at s = 1/3 and 0 at s = 2/3.
     "a slanted edge run along": row(TRIANGLE, "0 9 14 -3 -7 6", visits=["3000 6000 edge edge 1"]),
     # At y = 1 the slanted edge has x = 14/3; x = 7 s is there at s = 2/3.
-    "a slanted edge crossed": row(TRIANGLE, "0 7 0 1 7 1", visits=["0 4666+2/3 leg edge 1"]),
+    "a slanted edge crossed": row(TRIANGLE, "0 7 0 1 7 1", visits=["0 14000/3 leg edge 1"]),
     # x = 10 s is 3 at s = 3/10 and 7 at s = 7/10.
     "a hole crossed": row(HOLED, "0 10 0 5 10 5", visits=["0 3000 leg edge 1", "7000 10000 edge leg 1"]),
     # From x = 3 to 7 it is on the hole's edge.
@@ -115,7 +115,7 @@ ROWS = {
     "a jump off a gate": row(MOUTH, "0 5 -5 5 0 5", "5 9 5 5 9 5", visits=["5000 5000 edge leg 1 left none"]),
     "a track that begins on a gate": row(MOUTH, "0 5 0 5 5 5", visits=["0 0 leg edge 1 none right"]),
     # The gate has 3 x = 2 y, so x = 2/3 at y = 1; x = -1 + 7 s is there at s = 5/21.
-    "a slanted gate crossed": row(SLANT, "0 7 -1 1 6 1", visits=["1666+2/3 1666+2/3 edge edge 1 left right"]),
+    "a slanted gate crossed": row(SLANT, "0 7 -1 1 6 1", visits=["5000/3 5000/3 edge edge 1 left right"]),
     # 3 x = 2 y, where x = 2 s and y = 3 - 3 s, at s = 1/2; it begins at (0, 3) on the left.
     "a slanted gate crossed aslant": row(SLANT, "0 4 0 3 2 0", visits=["2000 2000 edge edge 1 left right"]),
 }
@@ -146,7 +146,8 @@ def visits_of(answer, gates):
     found = {name: [] for name in ROWS}
     for record in csv.DictReader(io.StringIO(answer)):
         if record["zone"] == record["feature"]:
-            words = [record[name] for name in ("enters", "leaves", "enters_by", "leaves_by", "legs")]
+            # A whole number n is printed as n/1.
+            words = [record[name].removesuffix("/1") for name in ("enters", "leaves", "enters_by", "leaves_by", "legs")]
             if record["zone"] in gates:
                 words += [record["from"], record["to"]]
             found[record["zone"]].append(" ".join(words))

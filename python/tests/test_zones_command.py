@@ -1,6 +1,9 @@
 """mftb zones, on a build without proofs: rows worked out by hand, refusals, and random feeds beside a plain program."""
+import csv
+import io
 import random
 import unittest
+from fractions import Fraction
 
 import zone_answers
 from common import BUILT, Asked
@@ -30,7 +33,7 @@ def at(second):
 
 def visit(names, enters, leaves, *rest):
     """A record whose moments are whole milliseconds."""
-    moments = [f"{enters}", f"{leaves}", at(enters / 1000), at(leaves / 1000)]
+    moments = [f"{enters}/1", f"{leaves}/1", at(enters / 1000), at(leaves / 1000)]
     return ",".join([names, *moments, *map(str, rest)])
 
 
@@ -71,7 +74,7 @@ class Zones(Asked):
             [
                 visit("triangle,a", 3000, 7000, 3, 0, 7, 0, "edge,edge,1,,"),
                 visit("triangle,b", 0, 8000, 4, 0, 4, 0, "leg,leg,2,,"),
-                f"slant,a,1333+1/3,9000,{at(1.333333)},{at(9)},1.3333333,0,9,0,edge,edge,1,,",
+                f"slant,a,4000/3,9000/1,{at(1.333333)},{at(9)},1.3333333,0,9,0,edge,edge,1,,",
                 visit("slant,b", 0, 8000, 4, 0, 4, 0, "leg,leg,2,,"),
                 visit("ring,a", 1000, 4000, 1, 0, 4, 0, "edge,edge,1,,"),
                 visit("ring,a", 6000, 9000, 6, 0, 9, 0, "edge,edge,1,,"),
@@ -98,6 +101,62 @@ class Zones(Asked):
                 visit(f"{quoted(name)},b", 4000, 4000, 5, 0, 5, 0, "leg,edge,none,left"),
             ],
         )
+
+    def test_attributes_of_legs(self):
+        """Behind the last field of a stay, under the names of their columns; a visit has none."""
+        typed = FEED.replace("trajectory", 'trajectory,"kind, or none",xsd:string,berth,xsd:integer')
+        typed = typed.replace("10 0\n", '10 0,"tug, old",7\n').replace("5 0\n", "5 0,,8\n")
+        self.kept("typed", typed)
+        self.write("one.csv", zones_file({"slant": ZONES["slant"]}))
+        words = "typed", "one.csv", at(0), at(10)
+        printed, said = self.asked("zones", "--legs", "--columns", *words)
+        self.assertEqual(said, "")
+        self.assertEqual(
+            printed.splitlines(),
+            [
+                f'zone,feature,enters,leaves,{PLACES},from,to,"kind, or none",berth',
+                f'slant,a,4000/3,9000/1,{at(1.333333)},{at(9)},1.3333333,0,9,0,edge,edge,,,"tug, old",7',
+                visit("slant,b", 0, 4000, 4, 0, 5, 0, "leg,leg,,,,8"),
+                visit("slant,b", 4000, 8000, 5, 0, 4, 0, "leg,leg,,,,"),
+            ],
+        )
+        for flags in [], ["--visits"], ["--dwell"], ["--features", "ever"]:
+            printed, said = self.asked("zones", "--columns", *flags, *words, status=2)
+            self.assertEqual(printed, "")
+            self.assertIn("the argument '--columns' ", said)
+
+    def kept(self, store, feed):
+        """A store of its own for a feed."""
+        self.write(f"{store}.csv", feed)
+        self.write("load", f"load {store}.csv\n")
+        self.asked("run", store, "load", f"{store}.csv")
+
+    def test_moments_before_the_start(self):
+        """The same way as before, from 10 s before the start instant on: 4/3 s later it is in the zone."""
+        self.kept("early", FEED.splitlines(True)[0] + "@columns,mfidref,trajectory\na,-10,0,0 0 10 0\n")
+        self.write("one.csv", zones_file({"slant": ZONES["slant"]}))
+        printed, _ = self.asked("zones", "early", "one.csv", "2023-12-31T23:59:00Z", at(0))
+        self.assertIn("slant,a,-26000/3,-1000/1,2023-12-31T23:59:51.333333Z,2023-12-31T23:59:59.000000Z,", printed)
+
+    def test_moments_of_more_than_128_bits(self):
+        """A leg of all the plane and of 8,000 years over a slanted edge."""
+        x0, y0, x1, y1 = ends = 1 - 10**15, 7 - 10**15, 10**15 - 3, 10**15 - 11
+        milliseconds = 252_000_000_001_001
+        way = " ".join(map(zone_answers.number_text, ends))
+        head = FEED.splitlines(True)[0].replace("2024", "1000")
+        self.kept("long", f"{head}@columns,mfidref,trajectory\na,0,252000000001.001,{way}\n")
+        corners = (-999, -7), (10**15, 13), (10**15, 10**15), (1 - 10**15, 10**15), (-999, -7)
+        ring = ", ".join(" ".join(map(zone_answers.number_text, corner)) for corner in corners)
+        self.write("long-zone.csv", zones_file({"far": f"POLYGON (({ring}))"}))
+        words = "long", "long-zone.csv", "1000-01-01T00:00:00Z", "9998-01-01T00:00:00Z"
+        printed, _ = self.asked("zones", "--legs", *words)
+        (row,) = csv.DictReader(io.StringIO(printed))
+        # Where the way is on the line from the first corner to the second.
+        (ax, ay), (bx, by) = corners[:2]
+        turn = (bx - ax) * (y1 - y0) - (by - ay) * (x1 - x0)
+        enters = milliseconds * Fraction((by - ay) * (x0 - ax) - (bx - ax) * (y0 - ay), turn)
+        self.assertGreater(enters.numerator, 2**128)
+        self.assertEqual(row["enters"], f"{enters.numerator}/{enters.denominator}")
 
     def test_a_period_cuts_a_visit(self):
         self.write("one.csv", zones_file({"slant": ZONES["slant"]}))
@@ -179,6 +238,66 @@ class Zones(Asked):
         for store, zones, name in (("store", "absent.csv", "absent.csv"), ("absent", "zones.csv", "absent")):
             said = self.asked("zones", "-q", store, zones, at(0), at(1), status=1)
             self.assertEqual(said, ("", f"mftb: cannot read {name}\n"))
+
+    def test_words_in_the_place_of_others(self):
+        """It is said which word is not what; with -q it is not."""
+        order = "the words are STORE ZONES T1 T2\n"
+        first, last = at(0), at(10)
+        exchanged = "zones.csv", "store", first, last
+        printed, said = self.asked("zones", *exchanged, status=2)
+        self.assertEqual(printed, "")
+        self.assertEqual(said.split("\n", 1)[1], f"mftb: store is a store, and zones.csv is none; {order}")
+        self.assertNotIn("words are", self.asked("zones", "-q", *exchanged, status=2)[1])
+        printed, said = self.asked("zones", "store", "store", first, last, status=2)
+        self.assertTrue(said.endswith(f"mftb: store is a store and no zone file; {order}"), said)
+        printed, said = self.asked("zones", "--explain", "store", first, last, "zones.csv", status=2)
+        self.assertEqual(
+            said,
+            "mftb: T1 or T2 is no instant, or out of range\n"
+            "mftb: T2 'zones.csv' is no instant, as 2024-01-31T12:00:00Z is\n"
+            f"mftb: ZONES '{first}' is an instant; {order}",
+        )
+        printed, said = self.asked("zones", "--explain", first, last, "store", "zones.csv", status=2)
+        self.assertTrue(
+            said.endswith(f"mftb: STORE '{first}' is an instant; {order}mftb: ZONES '{last}' is an instant; {order}"),
+            said,
+        )
+
+    def test_other_forms_name_their_tool(self):
+        forms = {
+            "GeoJSON": b'{"type": "FeatureCollection", "features": []}',
+            "KML or GML": b'<?xml version="1.0"?>\n<kml/>',
+            "a shapefile": b"\0\0\x27\x0a" + bytes(96),
+            "a GeoPackage": b"SQLite format 3\0" + bytes(84),
+        }
+        for form, data in forms.items():
+            for start in (b"", b"\n \t") if form == "GeoJSON" else (b"",):
+                (self.folder / "other").write_bytes(start + data)
+                printed, said = self.asked("zones", "store", "other", at(0), at(10), status=2)
+                self.assertEqual(printed, "")
+                line, hint = said.splitlines()
+                self.assertTrue(line.startswith("mftb: the zone file is refused: Z"), line)
+                self.assertEqual(
+                    hint, f"mftb: other: it looks like {form}, of which tools/zones_from makes a zone file"
+                )
+                said = self.asked("zones", "-q", "store", "other", at(0), at(10), status=2)[1]
+                self.assertEqual(said, line + "\n")
+
+    def test_times_are_refused_as_those_of_moments(self):
+        for word in "noon", "", "9 o'clock", "-5", "2024-01-01", "2024-01-01T00:00:00", "0":
+            for times in (word, at(1)), (at(1), word):
+                said = [
+                    self.asked(*asked, "--explain", "store", *place, *times, status=2)
+                    for asked, place in (
+                        (["zones"], ["zones.csv"]),
+                        (["moments"], ["0", "0", "1", "1"]),
+                        (["gaps"], []),
+                    )
+                ]
+                self.assertEqual(said, said[:1] * 3)
+                first, why = said[0][1].splitlines()
+                self.assertEqual(first, "mftb: T1 or T2 is no instant, or out of range")
+                self.assertTrue(why.startswith(f"mftb: T{1 + times.index(word)} '{word}' "), why)
 
     def test_it_is_explained_where_no_leg_is(self):
         self.write("far.csv", zones_file({"far": "POLYGON ((50 50, 51 50, 50 51, 50 50))"}))

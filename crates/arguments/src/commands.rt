@@ -2,7 +2,7 @@
 use crate::forms::{Form, Word, command, with_words};
 use crate::task::{
     Check, Corners, Gaps, Info, InfoForm, Migrate, Moments, Part, Parts, RowKind, Run, StoreMode,
-    Task, Telling, Where, WriteMode, ZoneRowKind, Zones,
+    Task, Telling, ValueMode, Where, WriteMode, ZoneRowKind, Zones,
 };
 use clap::error::ErrorKind;
 use clap::{ArgMatches, Command, Error};
@@ -54,6 +54,15 @@ fn quiet<'a>() -> Word<'a> {
         Form::FlagOrLetter('q'),
         "quiet",
         "Say on standard error only why the run could not go on",
+    )
+}
+
+/// The word `--columns`.
+fn columns<'a>() -> Word<'a> {
+    Word::new(
+        Form::Flag,
+        "columns",
+        "Print behind the record of a leg's stay the values of its attribute columns",
     )
 }
 
@@ -189,7 +198,7 @@ fn parts_command<'a>(alloc: Global) -> Result<Command<'a>, AllocError> {
     )
 }
 
-/// How the words of `mftb moments` are read.
+/// How the words of `mftb moments`, `zones` and `gaps` are read.
 #[derive(Clone, Copy)]
 struct Reading {
     /// Whether a bound may be a number below 0.
@@ -233,10 +242,11 @@ fn corners<'a>(bound: Form<'a>) -> [Word<'a>; 4] {
 }
 
 /// The words of `mftb moments` behind those of a rectangle.
-fn moments_words<'a>(bound: Form<'a>) -> [Word<'a>; 8] {
+fn moments_words<'a>(bound: Form<'a>) -> [Word<'a>; 9] {
+    let [first, last] = times(bound);
     [
-        Word::new(bound, "T1", "The first moment, as 2012-01-17T12:33:41Z"),
-        Word::new(bound, "T2", "The last moment"),
+        first,
+        last,
         Word::new(
             Form::Value("FILE"),
             "rects",
@@ -252,6 +262,7 @@ fn moments_words<'a>(bound: Form<'a>) -> [Word<'a>; 8] {
             "dwell",
             "Print a record a feature: how long it stays in all",
         ),
+        columns(),
         cache_pages(),
         explain(),
         quiet(),
@@ -270,8 +281,17 @@ fn moments_command<'a>(alloc: Global, reading: Reading) -> Result<Command<'a>, A
     with_words(alloc, command, &moments_words(bound))
 }
 
+/// The words of a period.
+fn times<'a>(bound: Form<'a>) -> [Word<'a>; 2] {
+    [
+        Word::new(bound, "T1", "The first moment, as 2012-01-17T12:33:41Z"),
+        Word::new(bound, "T2", "The last moment"),
+    ]
+}
+
 /// The words of `mftb zones`.
-fn zones_command<'a>(alloc: Global) -> Result<Command<'a>, AllocError> {
+fn zones_command<'a>(alloc: Global, bound: Form<'a>) -> Result<Command<'a>, AllocError> {
+    let [first, last] = times(bound);
     let words = [
         Word::new(Form::Required, "STORE", "The file that keeps the database"),
         Word::new(
@@ -279,12 +299,8 @@ fn zones_command<'a>(alloc: Global) -> Result<Command<'a>, AllocError> {
             "ZONES",
             "The file of zones (CSV: name,wkt): polygons, and lines of two positions",
         ),
-        Word::new(
-            Form::Required,
-            "T1",
-            "The first moment, as 2012-01-17T12:33:41Z",
-        ),
-        Word::new(Form::Required, "T2", "The last moment"),
+        first,
+        last,
         Word::new(
             Form::Flag,
             "visits",
@@ -299,8 +315,9 @@ fn zones_command<'a>(alloc: Global) -> Result<Command<'a>, AllocError> {
         Word::new(
             Form::Predicate,
             "features",
-            "Print the features of which a predicate holds, with the zone as its rectangle",
+            "Print the features of which a predicate holds, asked of the zone",
         ),
+        columns(),
         cache_pages(),
         explain(),
         quiet(),
@@ -310,15 +327,12 @@ fn zones_command<'a>(alloc: Global) -> Result<Command<'a>, AllocError> {
 }
 
 /// The words of `mftb gaps`.
-fn gaps_command<'a>(alloc: Global) -> Result<Command<'a>, AllocError> {
+fn gaps_command<'a>(alloc: Global, bound: Form<'a>) -> Result<Command<'a>, AllocError> {
+    let [first, last] = times(bound);
     let words = [
         Word::new(Form::Required, "STORE", "The file that keeps the database"),
-        Word::new(
-            Form::Required,
-            "T1",
-            "The first moment, as 2012-01-17T12:33:41Z",
-        ),
-        Word::new(Form::Required, "T2", "The last moment"),
+        first,
+        last,
         cache_pages(),
         explain(),
         quiet(),
@@ -358,8 +372,8 @@ fn mftb<'a>(alloc: Global, reading: Reading) -> Result<Command<'a>, AllocError> 
         .subcommand(part_command(alloc)?)?
         .subcommand(parts_command(alloc)?)?
         .subcommand(moments_command(alloc, reading)?)?
-        .subcommand(zones_command(alloc)?)?
-        .subcommand(gaps_command(alloc)?)?
+        .subcommand(zones_command(alloc, reading.bound())?)?
+        .subcommand(gaps_command(alloc, reading.bound())?)?
         .subcommand(info_command(alloc)?)
 }
 
@@ -441,6 +455,15 @@ fn run_of<'a>(alloc: Global, matches: &ArgMatches<'a>) -> Result<Run<'a>, Error>
     })
 }
 
+/// Whether the values of attributes are printed.
+fn values_of(matches: &ArgMatches) -> ValueMode {
+    if flag_of(matches, "columns") {
+        ValueMode::With
+    } else {
+        ValueMode::Without
+    }
+}
+
 /// What is printed of stays.
 fn rows_of(matches: &ArgMatches) -> RowKind {
     if flag_of(matches, "visits") {
@@ -448,7 +471,7 @@ fn rows_of(matches: &ArgMatches) -> RowKind {
     } else if flag_of(matches, "dwell") {
         RowKind::Dwell
     } else {
-        RowKind::Legs
+        RowKind::Legs(values_of(matches))
     }
 }
 
@@ -494,7 +517,7 @@ fn zone_rows_of(matches: &ArgMatches) -> ZoneRowKind {
     if let Some(word) = matches.get_str("features") {
         ZoneRowKind::Features(predicate_of(word))
     } else if flag_of(matches, "legs") {
-        ZoneRowKind::Legs
+        ZoneRowKind::Legs(values_of(matches))
     } else if flag_of(matches, "dwell") {
         ZoneRowKind::Dwell
     } else {
@@ -590,7 +613,25 @@ fn clash_of(matches: &ArgMatches) -> Option<&'static str> {
     if is_said(matches, "dwell") && is_said(matches, "visits") {
         return Some("the argument '--dwell' cannot be used with '--visits'");
     }
-    zone_clash_of(matches)
+    match zone_clash_of(matches) {
+        Some(clash) => Some(clash),
+        None => column_clash_of(matches),
+    }
+}
+
+/// Whether `--columns` is there, and what is printed are no stays of legs.
+fn column_clash_of(matches: &ArgMatches) -> Option<&'static str> {
+    if !is_said(matches, "columns") {
+        return None;
+    }
+    if is_said(matches, "visits") || is_said(matches, "dwell") {
+        return Some("the argument '--columns' cannot be used with '--visits' or '--dwell'");
+    }
+    let is_of_zones = matches.get_str("ZONES").is_some();
+    if is_of_zones && !is_said(matches, "legs") {
+        return Some("the argument '--columns' needs '--legs'");
+    }
+    None
 }
 
 /// The same of the flags that `mftb zones` has alone.

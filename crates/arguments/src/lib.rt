@@ -8,5 +8,5 @@ mod task;
 pub use commands::read_words;
 pub use task::{
     Check, Corners, Gaps, Info, InfoForm, Migrate, Moments, Part, Parts, RowKind, Run, StoreMode,
-    Task, Telling, Where, WriteMode, ZoneRowKind, Zones,
+    Task, Telling, ValueMode, Where, WriteMode, ZoneRowKind, Zones,
 };

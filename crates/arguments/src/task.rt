@@ -123,11 +123,20 @@ pub struct Parts<'a> {
     pub folder: &'a str,
 }
 
+/// Whether the values of the leg's attributes stand in the record of its stay.
+#[derive(Clone, Copy, PartialEq, Eq, Debug)]
+pub enum ValueMode {
+    /// They are left out.
+    Without,
+    /// They stand behind the other fields.
+    With,
+}
+
 /// What is printed of stays.
 #[derive(Clone, Copy)]
 pub enum RowKind {
     /// A record a leg.
-    Legs,
+    Legs(ValueMode),
     /// A record a visit.
     Visits,
     /// A record a feature.
@@ -175,7 +184,7 @@ pub enum ZoneRowKind {
     /// A record a visit.
     Visits,
     /// A record a stay of a leg.
-    Legs,
+    Legs(ValueMode),
     /// A record a feature: how long it stays.
     Dwell,
     /// A record a feature of which the predicate holds.

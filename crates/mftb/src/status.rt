@@ -14,6 +14,7 @@ use arguments::{Task, read_words};
 use clap::Error;
 use clap::error::ErrorKind;
 use outputs::{CountedOutput, Output};
+use reasons::is_command;
 use sessions::Fault;
 use std::fs::File;
 use std::io::{Eprint, Write};
@@ -56,13 +57,34 @@ fn has_strict(words: &[String]) -> bool {
     words.iter().any(|word| word.as_str() == "--strict")
 }
 
+/// Says of the first word, where it is that of a line of a script, how a script is run.
+fn tell_script<V: Write>(words: &[String], faults: &mut V) {
+    let Some(word) = words.get(1) else {
+        return;
+    };
+    let word = word.as_str();
+    if is_command(word) {
+        let how = "Write the lines into a file SCRIPT, and run:";
+        let _ = writeln!(faults, "\n'{word}' begins a line of a script. {how}\n");
+        let _ = writeln!(faults, "  mftb run STORE SCRIPT [FILES]...");
+    }
+}
+
 /// Says why the words are not read, or gives the help that they ask for: the exit status.
-fn answer_words<W: Write, V: Write>(error: &Error, out: &mut W, faults: &mut V) -> u8 {
+fn answer_words<W: Write, V: Write>(
+    error: &Error,
+    words: &[String],
+    out: &mut W,
+    faults: &mut V,
+) -> u8 {
     if error.kind() == ErrorKind::OutOfMemory {
         let _ = writeln!(faults, "mftb: memory");
         1
     } else if error.use_stderr() {
         let _ = write!(faults, "{error}");
+        if error.kind() == ErrorKind::InvalidSubcommand {
+            tell_script(words, faults);
+        }
         2
     } else {
         let _ = write!(out, "{error}");
@@ -112,6 +134,6 @@ pub fn start<
 >(rt: &R, words: &[String], out: &mut W, faults: &mut V, is_terminal: bool) -> u8 {
     match read_words(rt.alloc(), words) {
         Ok(task) => answer_task(rt, &task, words, out, faults, is_terminal),
-        Err(error) => answer_words(&error, out, faults),
+        Err(error) => answer_words(&error, words, out, faults),
     }
 }

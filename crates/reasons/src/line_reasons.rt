@@ -9,6 +9,14 @@ use std::alloc::{AllocError, Global};
 use timebase::{TimeFault, read_instant};
 use words::{Separator, cut};
 
+/// Whether a word is that of a command of a script.
+pub fn is_command(word: &str) -> bool {
+    matches!(
+        word,
+        "load" | "count" | "box" | "legs" | "features" | "trajectory" | "write"
+    )
+}
+
 /// The first word of a line, which names its command.
 fn command_of(line: &str) -> &str {
     word_at(line, 0)

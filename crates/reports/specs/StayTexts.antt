@@ -1,5 +1,5 @@
 -- The texts of stays, visits and dwells: records of CSV, and the line that names their fields.
-use Rattle.std.specs.Prelude.{ℕ, ◌+◌, ◌-◌, ◌/◌, ◌%◌, List, [], ◌∷◌, ◌++◌, length, take, ℤ, pos, ◌-ℤ◌, ◌*ℤ◌, unsigned_abs, codes, decimal, flat_map}
+use Rattle.std.specs.Prelude.{ℕ, ◌+◌, ◌-◌, ◌/◌, ◌%◌, ◌==◌, if◌then◌else◌, List, [], ◌∷◌, ◌++◌, length, take, ℤ, pos, ◌-ℤ◌, ◌*ℤ◌, unsigned_abs, codes, decimal, flat_map}
 use Rattle.std.specs.Fmt.{signed_decimal}
 use Rattle.std.specs.Int.{int_div_euclid, int_rem_euclid}
 use Rattle.fixedpoint.specs.NumberText.{coord_text}
@@ -123,3 +123,11 @@ dwell_text book label dwell =
 -- the records of dwells
 abbrev pub dwells_text : Book → (label : List ℕ) → List Dwell → List ℕ
 dwells_text book label dwells = flat_map (dwell_text book label) dwells
+
+-- a value as it stands behind other fields: nothing where it is blank, else as CSV has it
+unfoldable pub shown_value : List ℕ → List ℕ
+shown_value value = if length value == 0 then [] else quoted_text value
+
+-- the values of a record, each behind a comma
+abbrev pub values_text : List (List ℕ) → List ℕ
+values_text values = flat_map (λ value. next_field (shown_value value)) values

@@ -6,6 +6,8 @@ mod info_json;
 mod info_text;
 mod moments_text;
 mod pushed;
+mod values_text;
+mod wide_number;
 mod zones_text;
 
 pub use gaps_text::{push_gap, push_gap_fields};
@@ -14,6 +16,8 @@ pub use info_text::{StoreReport, push_lines};
 pub use moments_text::{
     Frame, push_dwell_fields, push_dwells, push_fields, push_label, push_stays, push_visits,
 };
+pub use values_text::{push_columns, push_valued_stays};
 pub use zones_text::{
-    ZoneFrame, push_zone_dwells, push_zone_features, push_zone_stays, push_zone_visits,
+    ZoneFrame, push_valued_zone_stays, push_zone_dwells, push_zone_features, push_zone_stays,
+    push_zone_visits,
 };

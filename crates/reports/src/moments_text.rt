@@ -58,7 +58,7 @@ pub(crate) fn push_count(text: &mut Vec<u8>, number: u64) -> Result<(), AllocErr
 
 /// Takes the last byte away.
 #[tactic(auto, unfolding(crate::specs::StayTexts::without_last))]
-fn drop_last(text: &mut Vec<u8>)
+pub(crate) fn drop_last(text: &mut Vec<u8>)
     ensures { text.new.items ≡ without_last text.old.items }
 {
     text.pop();
@@ -66,7 +66,7 @@ fn drop_last(text: &mut Vec<u8>)
 
 /// Appends a name, quoted where it needs it.
 #[tactic(auto, using(crate::proofs::TextLemmas::last_of_features))]
-fn push_quoted(alloc: Global, text: &mut Vec<u8>, name: &str) -> Result<(), RunFault>
+pub(crate) fn push_quoted(alloc: Global, text: &mut Vec<u8>, name: &str) -> Result<(), RunFault>
     ensures fault { IfErr result (λ fault. fault ≡ RunFault.Memory) }
     ensures text { OnOk result (text.new.items ≡ text.old.items ++ quoted_text name.now) }
 {
@@ -246,7 +246,7 @@ fn push_ends(text: &mut Vec<u8>, enters_by: End, leaves_by: End) -> Result<(), A
 
 /// Appends the record of a stay.
 #[tactic(auto, unfolding(crate::specs::StayTexts::stay_text))]
-fn push_stay<S: PageStore>(
+pub(crate) fn push_stay<S: PageStore>(
     alloc: Global,
     text: &mut Vec<u8>,
     database: &Db<S>,

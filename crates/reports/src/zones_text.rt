@@ -1,8 +1,12 @@
 //! The texts of stays, visits and dwells in zones: records of CSV.
+ghost use Rattle.std.specs.Prelude.{◌<◌, ◌^◌, unsigned_abs};
+
 use crate::moments_text::{
     Frame, push_count, push_labelled, push_micros, push_position, push_seconds, push_word,
 };
 use crate::pushed::push_signed;
+use crate::values_text::push_values;
+use crate::wide_number::push_wide;
 use mfcsv::Position;
 use pages::PageStore;
 use std::alloc::{AllocError, Global};
@@ -18,17 +22,25 @@ pub struct ZoneFrame<'a> {
     pub is_gate: bool,
 }
 
-/// Appends a comma and a moment: the whole milliseconds since a base, and the part of one more.
-fn push_moment(text: &mut Vec<u8>, base: Ms, moment: &Moment) -> Result<(), AllocError> {
-    text.push(b',')?;
-    push_signed(text, (moment.whole.millis() - base.millis()) as i128)?;
-    if moment.rest > 0 {
-        text.push(b'+')?;
-        push_signed(text, moment.rest as i128)?;
-        text.push(b'/')?;
-        push_signed(text, moment.den as i128)?;
+/// Appends the numerator of `whole` milliseconds and the part of one more that a moment has.
+fn push_numerator(text: &mut Vec<u8>, whole: i64, moment: &Moment) -> Result<(), AllocError>
+    requires near { unsigned_abs whole < 2 ^ 50 }
+{
+    if whole >= 0 {
+        return push_wide(text, whole.unsigned_abs(), moment.den, moment.rest);
     }
-    Ok(())
+    // Of what lies below 0 the size is one millisecond less, and what the part lacks to it.
+    text.push(b'-')?;
+    let lacks = moment.den - moment.rest;
+    push_wide(text, whole.unsigned_abs() - 1, moment.den, lacks)
+}
+
+/// Appends a comma and a moment as a fraction of milliseconds since a base, in lowest terms.
+fn push_fraction(text: &mut Vec<u8>, base: Ms, moment: &Moment) -> Result<(), AllocError> {
+    text.push(b',')?;
+    push_numerator(text, moment.whole.millis() - base.millis(), moment)?;
+    text.push(b'/')?;
+    push_signed(text, moment.den as i128)
 }
 
 /// Appends a first and a last moment: exactly, and as instants, the first rounded down and the last up.
@@ -38,8 +50,8 @@ fn push_times(
     enters: &Moment,
     leaves: &Moment,
 ) -> Result<(), RunFault> {
-    push_moment(text, base, enters)?;
-    push_moment(text, base, leaves)?;
+    push_fraction(text, base, enters)?;
+    push_fraction(text, base, leaves)?;
     push_micros(text, enters.micros_down())?;
     push_micros(text, leaves.micros_up())
 }
@@ -65,7 +77,7 @@ impl ZoneFrame<'_> {
         }
     }
 
-    /// Appends both sides, each behind a comma, and ends the record.
+    /// Appends both sides, each behind a comma.
     fn push_sides(
         &self,
         text: &mut Vec<u8>,
@@ -73,12 +85,11 @@ impl ZoneFrame<'_> {
         to: Option<Side>,
     ) -> Result<(), AllocError> {
         push_word(text, self.side_text(from))?;
-        push_word(text, self.side_text(to))?;
-        Ok(text.push(b'\n')?)
+        push_word(text, self.side_text(to))
     }
 }
 
-/// Appends the record of a stay.
+/// Appends the record of a stay, without the line's end.
 fn push_stay<S: PageStore>(
     alloc: Global,
     text: &mut Vec<u8>,
@@ -106,11 +117,29 @@ pub fn push_zone_stays<S: PageStore>(
 ) -> Result<(), RunFault> {
     for stay in stays {
         push_stay(alloc, text, database, zone, stay)?;
+        text.push(b'\n')?;
     }
     Ok(())
 }
 
-/// Appends the record of a visit.
+/// Appends a record for each stay in a zone, with the values of its leg's attributes behind the other fields. Refused
+/// as `push_zone_stays` is, and with page 0 where a leg's record is not in the book.
+pub fn push_valued_zone_stays<S: PageStore>(
+    alloc: Global,
+    text: &mut Vec<u8>,
+    database: &Db<S>,
+    zone: &ZoneFrame<'_>,
+    stays: &[Stay],
+) -> Result<(), RunFault> {
+    for stay in stays {
+        push_stay(alloc, text, database, zone, stay)?;
+        push_values(alloc, text, database, stay.leg.row)?;
+        text.push(b'\n')?;
+    }
+    Ok(())
+}
+
+/// Appends the record of a visit, without the line's end.
 fn push_visit<S: PageStore>(
     alloc: Global,
     text: &mut Vec<u8>,
@@ -138,6 +167,7 @@ pub fn push_zone_visits<S: PageStore>(
 ) -> Result<(), RunFault> {
     for visit in visits {
         push_visit(alloc, text, database, zone, visit)?;
+        text.push(b'\n')?;
     }
     Ok(())
 }

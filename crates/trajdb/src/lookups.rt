@@ -7,6 +7,7 @@ use crate::db::Db;
 use legs::{BookHead, Leg, LegIndex, Limits, Rect};
 use pages::PageStore;
 use predicates::Predicate;
+use rows::Row;
 use std::alloc::Global;
 use timebase::Period;
 
@@ -69,6 +70,13 @@ impl<S: PageStore> Db<S> {
         ensures { option_copied result ≡ slice_get self.now.book.names feature }
     {
         self.core.tracks.name(feature)
+    }
+
+    /// The attribute values of a record, by the number that its legs have; `None` if there is none.
+    pub fn row(&self, number: u32) -> Option<Row<'_>>
+        ensures { result ≡ slice_get self.now.book.rows number }
+    {
+        self.core.rows.row(number as usize)
     }
 
     /// What the first file said of all files; `None` if no file was accepted.

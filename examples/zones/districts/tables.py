@@ -15,11 +15,6 @@ WAYS = {("left", "right"): "east", ("right", "left"): "west"}
 LEAST = 600_000
 
 
-def moment(text):
-    """The exact moment of a text as 80000+1/3, in milliseconds."""
-    return sum(map(Fraction, text.split("+")))
-
-
 def quarter(instant):
     """The quarter of an hour of an instant, of which the microseconds are rounded down."""
     at = datetime.fromisoformat(instant)
@@ -28,8 +23,8 @@ def quarter(instant):
 
 visits = list(csv.DictReader(open(sys.argv[1], newline="")))
 stops = defaultdict(list)
-for it in sorted(visits, key=lambda it: moment(it["enters"])):
-    if it["zone"] != "cordon" and moment(it["leaves"]) - moment(it["enters"]) >= LEAST:
+for it in sorted(visits, key=lambda it: Fraction(it["enters"])):
+    if it["zone"] != "cordon" and Fraction(it["leaves"]) - Fraction(it["enters"]) >= LEAST:
         stops[it["feature"]].append(it["zone"])
 trips = Counter(trip for zones in stops.values() for trip in pairwise(zones))
 crossings = [it for it in visits if it["zone"] == "cordon" and (it["from"], it["to"]) in WAYS]

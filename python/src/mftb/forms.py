@@ -31,9 +31,8 @@ def milliseconds(text: str) -> int:
 
 
 def exact(text: str, start: Fraction) -> Fraction:
-    """An exact moment, which is printed in milliseconds as `n/d` or `w+n/d`, in seconds since 1970."""
-    whole, _, rest = text.rpartition("+")
-    return start + (Fraction(whole or 0) + Fraction(rest)) / 1000
+    """An exact moment, which is printed as a fraction of milliseconds, in seconds since 1970."""
+    return start + Fraction(text) / 1000
 
 
 @dataclass(frozen=True)
@@ -110,9 +109,15 @@ class MomentForm(Form[Record]):
         return {"feature": said["feature"], **ends, **by, **where}
 
 
+@dataclass(frozen=True)
 class StayForm(MomentForm[Stay]):
+    # The attribute columns whose values stand behind the other fields.
+    columns: Sequence[tuple[str, str]] = ()
+
     def record(self, fields: Sequence[str]) -> Stay:
-        return Stay(**self.stay(self.named(fields)))
+        own = len(fields) - len(self.columns)
+        attributes = {name: text for (name, _), text in zip(self.columns, fields[own:])}
+        return Stay(**self.stay(self.named(fields[:own])), attributes=attributes)
 
 
 class VisitForm(MomentForm[Visit]):

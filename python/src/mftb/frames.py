@@ -13,7 +13,7 @@ from typing import TYPE_CHECKING, Any
 import numpy
 import pandas
 
-from mftb.forms import EPOCH, MILLISECOND, Form, LegForm, MomentForm, exact
+from mftb.forms import EPOCH, MILLISECOND, Form, LegForm, MomentForm, StayForm, VisitForm, exact
 from mftb.runs import Printed
 
 if TYPE_CHECKING:
@@ -164,9 +164,13 @@ def moments(data: bytes, form: MomentForm, with_exact: bool) -> pandas.DataFrame
 
     The exact moments are left out unless they are asked for, since no column of pandas keeps them.
     """
-    names = list(form.names or ())
-    found = texts(data, names)
-    for name in names:
+    columns = form.columns if isinstance(form, StayForm) else ()
+    own = list(form.names or ())[: -len(columns) or None]
+    values = unlike([name for name, _ in columns], [*own, *ENDS])
+    found = texts(data, own + values)
+    for name, (_, kind) in zip(values, columns):
+        found[name] = typed(numbered(found[name], kind.rpartition(":")[2]), kind.rpartition(":")[2])
+    for name in own:
         if name in ("enters", "leaves"):
             column = found.pop(name)
             if with_exact:
@@ -178,6 +182,16 @@ def moments(data: bytes, form: MomentForm, with_exact: bool) -> pandas.DataFrame
         elif name in ("legs", "visits"):
             found[name] = found[name].astype("int64")
     return found
+
+
+def numbered(column: pandas.Series, kind: str) -> pandas.Series:
+    """Texts of attributes as numbers, if their type says so and all are; blank ones are none."""
+    if kind not in NUMBERS:
+        return column
+    try:
+        return column.mask(column == "").astype(float)
+    except ValueError:
+        return column
 
 
 # Geometries
@@ -192,7 +206,7 @@ def geoframe(printed: Printed, form: Form, crs: str | None) -> geopandas.GeoData
     axes = [axis for axis in AXES if f"{axis}{ends[0]}" in found]
     if not axes:
         raise TypeError("these records have no places: ask .legs or .trajectory")
-    if "legs" in found:
+    if isinstance(form, VisitForm):
         geometry = geopandas.points_from_xy(*(found[f"{axis}_in"] for axis in axes))
     else:
         both = [found[[f"{axis}{end}" for axis in axes]].to_numpy() for end in ends]

@@ -36,9 +36,15 @@ def printed(rows: Iterable[list[str]]) -> runs.Printed:
     return runs.Printed(spool, 0, count)
 
 
-def named(names: list[str], found: runs.Printed, has_zones: bool) -> tuple[list[str], runs.Printed]:
-    """The names of the fields as the library has them, and the records, with a zone's name if it has one."""
-    own = [NAMES.get(name, name) for name in names]
+def named(
+    names: list[str], found: runs.Printed, has_zones: bool, attributes: int = 0
+) -> tuple[list[str], runs.Printed]:
+    """The names of the fields as the library has them, and the records, with a zone's name if it has one.
+
+    The last names are those of so many attributes, which stay as they are.
+    """
+    count = len(names) - attributes
+    own = [NAMES.get(name, name) for name in names[:count]] + names[count:]
     if has_zones or own[0] != "zone":
         return own, found
     return own[1:], printed(row[1:] for row in rows_of(found))

@@ -3,7 +3,7 @@
 from __future__ import annotations
 
 from collections.abc import Hashable, Mapping
-from dataclasses import dataclass
+from dataclasses import dataclass, field
 from datetime import datetime
 from fractions import Fraction
 
@@ -59,6 +59,7 @@ class Stay(Inside):
     feature is just before and just after: `left`, `right` or `none`; for other zones they are empty.
     `edge_in` and `edge_out` are the edges of a rectangle that the leg meets: `left`, `right`, `bottom`, `top`, or
     two as `left+top`; empty where the time does not begin or end by an edge.
+    `attributes` are those of the leg if they were asked for: texts, as they stood in the file.
     """
 
     zone: str = ""
@@ -66,6 +67,7 @@ class Stay(Inside):
     to_side: str = ""
     edge_in: str = ""
     edge_out: str = ""
+    attributes: Mapping[str, str] = field(default_factory=dict)
 
 
 @dataclass(frozen=True, slots=True)

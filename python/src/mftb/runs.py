@@ -2,6 +2,7 @@
 
 from __future__ import annotations
 
+import csv
 import io
 import os
 import subprocess
@@ -112,14 +113,15 @@ def skip_record(file: BinaryIO) -> None:
 
 
 def table(spool: Spool) -> tuple[list[str], Printed]:
-    """The names in the header line of a spool, and the records below it."""
+    """The names in the header of a spool, and the records below it."""
     with spool.open() as file:
-        names = file.readline().decode().rstrip("\n").split(",")
+        skip_record(file)
         place, count = file.tell(), 0
         while file.peek(1):
             skip_record(file)
             count += 1
-    return names, Printed(spool, place, count)
+    header = Printed(spool, 0, 1, place).read().decode()
+    return next(csv.reader(io.StringIO(header, newline="")), []), Printed(spool, place, count)
 
 
 def answers(spool: Spool, count: int) -> Iterator[Printed | str]:

@@ -160,12 +160,16 @@ class Book(Questions):
         answer: Answer[Feature] = Answer(given.question(flags, period), self.info().crs)
         return answer.fill(printed, forms.FeatureForm(names=names))
 
-    def moments(self, zones: Zones, period: Period) -> Answer[Stay]:
-        """When each leg is inside a zone; a leg may be inside a polygon several times."""
-        given, flags, info = asked(zones), ["--legs"], self.info()
+    def moments(self, zones: Zones, period: Period, *, attributes: bool = False) -> Answer[Stay]:
+        """When each leg is inside a zone; a leg may be inside a polygon several times.
+
+        If `attributes` are wanted, each record has those of its leg.
+        """
+        given, info = asked(zones), self.info()
+        flags, columns = (["--legs", "--columns"], info.columns) if attributes else (["--legs"], ())
         answer: Answer[Stay] = Answer(given.question(flags, period), info.crs)
-        names, printed = self._inside(given, flags, period)
-        return answer.fill(printed, forms.StayForm(names=names, start=forms.start_of(info)))
+        names, printed = self._inside(given, flags, period, len(columns))
+        return answer.fill(printed, forms.StayForm(names=names, start=forms.start_of(info), columns=columns))
 
     def visits(self, zones: Zones, period: Period) -> Visits:
         """When each feature is inside a zone, or inside each of some that have names.
@@ -187,10 +191,12 @@ class Book(Questions):
         answer.fill(printed, forms.DwellForm(names=names, start=forms.start_of(info)))
         return answer
 
-    def _inside(self, given: Asked, flags: list[str], period: Period) -> tuple[list[str], runs.Printed]:
-        """The names of the fields, and the records, of what the program says of zones."""
+    def _inside(
+        self, given: Asked, flags: list[str], period: Period, attributes: int = 0
+    ) -> tuple[list[str], runs.Printed]:
+        """The names of the fields, and the records, of what the program says of zones; so many are attributes."""
         with given.words(flags, period) as words:
-            return moments.named(*self._told(words, given), given.has_names)
+            return moments.named(*self._told(words, given), given.has_names, attributes)
 
     def _told(self, words: Words, given: Asked) -> tuple[list[str], runs.Printed]:
         """The names of the fields of `mftb moments` or `mftb zones`, and the records."""

@@ -8,7 +8,7 @@ use timebase::{Ms, Period, TimeFault, read_instant};
 use trajdb::RunFault;
 
 /// Whether what was written is one word of a line.
-fn is_word(text: &str) -> bool {
+pub(crate) fn is_word(text: &str) -> bool {
     !text.is_empty()
         && !text
             .as_bytes()
@@ -16,7 +16,7 @@ fn is_word(text: &str) -> bool {
             .any(|byte| byte.is_ascii_whitespace())
 }
 
-/// Refuses texts of which one is no word.
+/// Refuses coordinates of which one is no word.
 pub(crate) fn hold_words<'a>(texts: &[&str]) -> Result<(), Fault<'a>> {
     for text in texts {
         if !is_word(text) {
@@ -24,6 +24,16 @@ pub(crate) fn hold_words<'a>(texts: &[&str]) -> Result<(), Fault<'a>> {
         }
     }
     Ok(())
+}
+
+/// Refuses times of which one is no word: none of them is an instant.
+pub(crate) fn hold_times<'a>(times: [&str; 2]) -> Result<(), Fault<'a>> {
+    let [t1, t2] = times;
+    if is_word(t1) && is_word(t2) {
+        Ok(())
+    } else {
+        Err(Fault::Bounds(LineCode::Q7))
+    }
 }
 
 /// The coordinate of a word.

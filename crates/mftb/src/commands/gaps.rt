@@ -1,6 +1,6 @@
 //! `mftb gaps`: times without a position, by feature.
 use crate::commands::asking::{close_asked, database_to_ask, store_to_ask};
-use crate::commands::bounds::{hold_words, period_of};
+use crate::commands::bounds::{hold_times, period_of};
 use arguments::Gaps;
 use fixedpoint::Coord;
 use legs::Rect;
@@ -75,7 +75,7 @@ pub(crate) fn print_gaps<'a, R: Files<File = File> + AllocGlobal + RandomSource,
     task: &Gaps<'a>,
     out: &mut O,
 ) -> Result<(), Fault<'a>> {
-    hold_words(&task.times)?;
+    hold_times(task.times)?;
     let period = period_of(task.times)?;
     let store = store_to_ask(rt, task.store)?;
     let told = told_of(rt, store, task.cache_pages, &period)?;

@@ -1,16 +1,17 @@
 //! `mftb moments`: when legs are inside rectangles in a period.
 use crate::commands::asking::{close_asked, database_to_ask, store_to_ask};
-use crate::commands::bounds::{hold_words, period_of};
+use crate::commands::bounds::{hold_times, period_of};
 use crate::commands::rectangles::{NamedRect, rects_of};
 use crate::explain::elsewhere::tell_elsewhere;
-use arguments::{Moments, RowKind, Where};
+use arguments::{Moments, RowKind, ValueMode, Where};
 use mfcsv::Dimension;
 use moments::{Stay, dwells_of, stays, visits_of};
 use outputs::Output;
 use pages::PageStore;
 use reasons::Area;
 use reports::{
-    Frame, push_dwell_fields, push_dwells, push_fields, push_label, push_stays, push_visits,
+    Frame, push_columns, push_dwell_fields, push_dwells, push_fields, push_label, push_stays,
+    push_valued_stays, push_visits,
 };
 use sessions::{Fault, send_all};
 use std::alloc::Global;
@@ -66,7 +67,8 @@ struct Told {
 
 impl Asked {
     /// The text of the line that names the fields.
-    fn heading(&self, dimension: Dimension) -> Result<Vec<u8>, RunFault> {
+    fn heading<S: PageStore>(&self, database: &Db<S>) -> Result<Vec<u8>, RunFault> {
+        let dimension = frame_of(database, b"").dimension;
         let mut text = Vec::new(self.alloc);
         let first = if self.is_named {
             "rectangle,feature"
@@ -74,7 +76,11 @@ impl Asked {
             "feature"
         };
         match self.rows {
-            RowKind::Legs => push_fields(&mut text, first, dimension, ENDS)?,
+            RowKind::Legs(ValueMode::Without) => push_fields(&mut text, first, dimension, ENDS)?,
+            RowKind::Legs(ValueMode::With) => {
+                push_fields(&mut text, first, dimension, ENDS)?;
+                push_columns(self.alloc, &mut text, database)?;
+            }
             RowKind::Visits => push_fields(&mut text, first, dimension, VISIT_ENDS)?,
             RowKind::Dwell => push_dwell_fields(&mut text, first)?,
         }
@@ -100,7 +106,10 @@ impl Asked {
     ) -> Result<(), RunFault> {
         let (alloc, frame) = (self.alloc, frame_of(database, label));
         match self.rows {
-            RowKind::Legs => push_stays(alloc, text, database, &frame, stays),
+            RowKind::Legs(ValueMode::Without) => push_stays(alloc, text, database, &frame, stays),
+            RowKind::Legs(ValueMode::With) => {
+                push_valued_stays(alloc, text, database, &frame, stays)
+            }
             RowKind::Visits => {
                 push_visits(alloc, text, database, &frame, &visits_of(alloc, stays)?)
             }
@@ -117,8 +126,7 @@ impl Asked {
         database: &mut Db<S>,
         rects: &[NamedRect],
     ) -> Result<Told, RunFault> {
-        let dimension = frame_of(database, b"").dimension;
-        let (mut text, mut empty) = (self.heading(dimension)?, Vec::new(self.alloc));
+        let (mut text, mut empty) = (self.heading(database)?, Vec::new(self.alloc));
         for place in 0..rects.len() {
             let asked = &rects[place];
             let label = self.label(asked.name.as_str())?;
@@ -151,7 +159,7 @@ pub(crate) fn print_moments<
     R: Files<File = File> + Eprint + AllocGlobal + RandomSource,
     O: Output,
 >(rt: &R, task: &Moments<'a>, out: &mut O, is_terminal: bool) -> Result<(), Fault<'a>> {
-    hold_words(&task.times)?;
+    hold_times(task.times)?;
     let rects = rects_of(rt, &task.place)?;
     let asked = Asked {
         alloc: rt.alloc(),

@@ -1,21 +1,22 @@
 //! `mftb zones`: who is in which zone of a file, from when to when.
 use crate::commands::asking::{close_asked, database_to_ask, store_to_ask};
-use crate::commands::bounds::{hold_words, period_of};
+use crate::commands::bounds::{hold_times, period_of};
 use crate::commands::gaps::everywhere;
 use crate::commands::moments_command::frame_of;
 use crate::commands::rectangles::NamedRect;
 use crate::explain::elsewhere::tell_elsewhere;
+use crate::explain::misplaced::tell_form;
 use crate::outcome::Outcome;
-use arguments::{ZoneRowKind, Zones};
+use arguments::{Telling, ValueMode, ZoneRowKind, Zones};
 use legs::Leg;
-use mfcsv::{Dimension, without_marks};
+use mfcsv::without_marks;
 use outputs::Output;
 use pages::PageStore;
 use predicates::Predicate;
 use reasons::Area;
 use reports::{
-    ZoneFrame, push_dwell_fields, push_fields, push_label, push_zone_dwells, push_zone_features,
-    push_zone_stays, push_zone_visits,
+    ZoneFrame, push_columns, push_dwell_fields, push_fields, push_label, push_valued_zone_stays,
+    push_zone_dwells, push_zone_features, push_zone_stays, push_zone_visits,
 };
 use sessions::{Fault, MOST_BYTES, read_named, send_all};
 use std::alloc::{AllocError, Global};
@@ -30,6 +31,12 @@ use zoning::{Courses, Site, Stay, Tallies, dwells_of, features_of, visits_of};
 
 /// The first fields of each record.
 const FIRST: &str = "zone,feature";
+
+/// The last ones of a stay.
+const ENDS: &str = "enters_by,leaves_by,from,to";
+
+/// The same of a visit, with how many legs it has.
+const VISIT_ENDS: &str = "enters_by,leaves_by,legs,from,to";
 
 /// The site of a shape.
 fn site_of(alloc: Global, shape: Shape) -> Result<Site, AllocError> {
@@ -49,19 +56,17 @@ struct Asked {
 
 impl Asked {
     /// The text of the line that names the fields.
-    fn heading(&self, dimension: Dimension) -> Result<Vec<u8>, RunFault> {
+    fn heading<S: PageStore>(&self, database: &Db<S>) -> Result<Vec<u8>, RunFault> {
+        let dimension = frame_of(database, b"").dimension;
         let mut text = Vec::new(self.alloc);
         match self.rows {
-            ZoneRowKind::Visits => {
-                push_fields(
-                    &mut text,
-                    FIRST,
-                    dimension,
-                    "enters_by,leaves_by,legs,from,to",
-                )?;
+            ZoneRowKind::Visits => push_fields(&mut text, FIRST, dimension, VISIT_ENDS)?,
+            ZoneRowKind::Legs(ValueMode::Without) => {
+                push_fields(&mut text, FIRST, dimension, ENDS)?;
             }
-            ZoneRowKind::Legs => {
-                push_fields(&mut text, FIRST, dimension, "enters_by,leaves_by,from,to")?;
+            ZoneRowKind::Legs(ValueMode::With) => {
+                push_fields(&mut text, FIRST, dimension, ENDS)?;
+                push_columns(self.alloc, &mut text, database)?;
             }
             ZoneRowKind::Dwell => push_dwell_fields(&mut text, FIRST)?,
             ZoneRowKind::Features(_) => {
@@ -124,7 +129,7 @@ impl Told {
         Ok(Told {
             asked,
             tallies: Tallies::of(asked.alloc, &legs)?,
-            text: asked.heading(frame_of(database, b"").dimension)?,
+            text: asked.heading(database)?,
             boxes: Vec::new(asked.alloc),
             empty: Vec::new(asked.alloc),
         })
@@ -140,7 +145,12 @@ impl Told {
         let (alloc, label) = (self.asked.alloc, zone.frame.label);
         let text = &mut self.text;
         match self.asked.rows {
-            ZoneRowKind::Legs => push_zone_stays(alloc, text, database, zone, stays),
+            ZoneRowKind::Legs(ValueMode::Without) => {
+                push_zone_stays(alloc, text, database, zone, stays)
+            }
+            ZoneRowKind::Legs(ValueMode::With) => {
+                push_valued_zone_stays(alloc, text, database, zone, stays)
+            }
             ZoneRowKind::Dwell => {
                 let visits = visits_of(alloc, stays)?;
                 push_zone_dwells(alloc, text, database, label, &dwells_of(alloc, &visits)?)
@@ -269,13 +279,13 @@ fn print_answer<'a, R: Files<File = File> + Eprint + AllocGlobal + RandomSource,
 }
 
 /// Reads the zone file, opens the store to be read alone, and prints who is in which zone in the period. A zone file
-/// with a fault is refused in words, and nothing is printed.
+/// with a fault is refused in words, and nothing is printed; what is plainly another file is said to be that.
 pub(crate) fn print_zones<
     'a,
     R: Files<File = File> + Eprint + AllocGlobal + RandomSource,
     O: Output,
 >(rt: &R, task: &Zones<'a>, out: &mut O, is_terminal: bool) -> Result<Outcome, Fault<'a>> {
-    hold_words(&task.times)?;
+    hold_times(task.times)?;
     let period = period_of(task.times)?;
     let bytes = read_named(rt, task.zones, MOST_BYTES)?;
     match read_zones(rt.alloc(), without_marks(&bytes)) {
@@ -286,6 +296,9 @@ pub(crate) fn print_zones<
         Err(ZoneFault::Memory) => Err(Fault::Run(RunFault::Memory)),
         Err(refused) => {
             let _ = eprintln!(rt; "mftb: {refused}");
+            if task.telling != Telling::Never {
+                tell_form(rt, task, without_marks(&bytes));
+            }
             Ok(Outcome::ZonesRefused)
         }
     }

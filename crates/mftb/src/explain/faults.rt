@@ -1,4 +1,6 @@
 //! Why the program failed, beyond what the line of the fault says.
+use crate::commands::bounds::is_word;
+use crate::explain::misplaced::tell_instants;
 use arguments::{Corners, Task, Telling, Where};
 use querylang::LineCode;
 use reasons::{Code, Shown, line_words};
@@ -84,6 +86,18 @@ fn line_of(alloc: Global, corners: Corners<'_>, times: [&str; 2]) -> Result<Stri
     format!(in alloc; "box {x1} {y1} {x2} {y2} {t1} {t2}")
 }
 
+/// Which of two times is no word, and why.
+fn blank_words(alloc: Global, times: [&str; 2]) -> Option<String> {
+    let [t1, t2] = times;
+    for (name, text) in [("T1", t1), ("T2", t2)] {
+        if !is_word(text) {
+            let (text, why) = (Shown(text), "is no instant: it is empty, or has a blank");
+            return format!(in alloc; "{name} '{text}' {why}").ok();
+        }
+    }
+    None
+}
+
 /// Which word of a rectangle and a period is refused, and why.
 fn bounds_words(alloc: Global, task: &Task<'_>, code: LineCode) -> Option<String> {
     let (corners, times) = match task {
@@ -98,6 +112,9 @@ fn bounds_words(alloc: Global, task: &Task<'_>, code: LineCode) -> Option<String
     if code == LineCode::Q3 {
         // That is said of the line of a script.
         return None;
+    }
+    if let Some(words) = blank_words(alloc, times) {
+        return Some(words);
     }
     let line = line_of(alloc, corners, times).ok()?;
     let code = Code::read(code.as_str())?;
@@ -120,6 +137,9 @@ fn tell_cause<R: rt::Files<File = File> + Eprint + AllocGlobal>(
             if let Some(words) = bounds_words(rt.alloc(), task, *code) {
                 let words = words.as_str();
                 let _ = eprintln!(rt; "mftb: {words}");
+            }
+            if let Task::Zones(task) = task {
+                tell_instants(rt, task);
             }
         }
         fault if fault.is_of_store() => {

@@ -2,5 +2,6 @@
 pub(crate) mod catalogued;
 pub(crate) mod elsewhere;
 pub(crate) mod faults;
+pub(crate) mod misplaced;
 pub(crate) mod notes;
 pub(crate) mod reach;

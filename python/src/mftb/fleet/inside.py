@@ -23,6 +23,7 @@ def add_words(parser: ArgumentParser, command: str) -> None:
     kinds = parser.add_mutually_exclusive_group()
     for kind in KINDS[command]:
         kinds.add_argument(f"--{kind}", dest="kind", action="store_const", const=f"--{kind}", help=f"as mftb {command}")
+    parser.add_argument("--columns", action="store_true", help=f"as mftb {command}")
     if command == "moments":
         parser.add_argument("--rects", metavar="FILE", help="a file of rectangles: name,x1,y1,x2,y2")
         parser.add_argument("words", nargs="+", metavar="WORD", help="X1 Y1 X2 Y2 T1 T2; with --rects T1 T2")
@@ -33,16 +34,21 @@ def add_words(parser: ArgumentParser, command: str) -> None:
     parser.add_argument("last", metavar="T2", help="the last moment")
 
 
+def flags_of(options: Namespace) -> list[str]:
+    """What is printed, as the program takes it."""
+    return [*filter(None, [options.kind]), *["--columns"] * options.columns]
+
+
 def moments_of(options: Namespace) -> int:
     """Prints when legs are inside a rectangle, as mftb moments."""
-    before = [options.kind] if options.kind else []
+    before = flags_of(options)
     before += ["--rects", os.path.abspath(options.rects)] if options.rects else []
     return put_together(options, "moments", before, options.words)
 
 
 def zones_of(options: Namespace) -> int:
     """Prints who is in which zone of a file, as mftb zones."""
-    before = [options.kind] if options.kind else []
+    before = flags_of(options)
     before += ["--features", options.features] if options.features else []
     return put_together(options, "zones", before, [os.path.abspath(options.zones), options.first, options.last])
 
@@ -58,7 +64,8 @@ def put_together(options: Namespace, command: str, before: Sequence[str], behind
             found = crew.gather(workers, command, fleetpart.inside, jobs)
             wrong = next((one.wrong for one in found if one.wrong), None)
             if wrong:
-                say("fleet", wrong[0])
+                for line in wrong:
+                    say("fleet", line)
                 return fleetpart.WRONG_WORDS
             print_records(found, names_of(options))
     return 0

@@ -205,7 +205,7 @@ def moments(text: Iterable[str], path: str, title: str, legs: Legs) -> Layer:
             if feature is None:
                 raise Refused(f"{place}: the store has no feature {row['feature']!r} (see --period)")
             layer.rings += rings(row, feature)
-            first, last = (float(exact(row[end.moment])) for end in ENDS)
+            first, last = (float(Fraction(row[end.moment])) for end in ENDS)
         except (KeyError, TypeError, ValueError, ZeroDivisionError):
             raise Refused(f"{place}: not what mftb moments prints") from None
         layer.spans.append(Span(feature, first, last))
@@ -224,7 +224,7 @@ def rings(row: dict[str, str], feature: int) -> Iterator[Ring]:
         way = end.edge if by else end.visit
         yield Ring(
             feature,
-            float(exact(row[end.moment])),
+            float(Fraction(row[end.moment])),
             units(row[end.x]),
             units(row[end.y]),
             row[end.moment],
@@ -232,9 +232,3 @@ def rings(row: dict[str, str], feature: int) -> Iterator[Ring]:
             "meets" if touches and by else way,
             row.get("zone") or "",
         )
-
-
-def exact(text: str) -> Fraction:
-    """A moment as the program prints it: n/d, or whole milliseconds and a proper fraction."""
-    whole_part, plus, rest = text.partition("+")
-    return Fraction(whole_part) + Fraction(rest) if plus else Fraction(text)
