@@ -1,5 +1,5 @@
 -- Why calls stopped.
-use Rattle.std.proofs.Common.{ℕ, ◌-◌, ◌+◌, ◌≤◌, ◌≡◌, ◌∙◌, refl, arith, List, Option, Some, None, All, Bool, [], ◌∷◌, eqb, inl, inr, length, ◌<◌}
+use Rattle.std.proofs.Common.{ℕ, ◌+◌, ◌≤◌, ◌≡◌, ◌∙◌, refl, arith, List, Option, Some, None, All, Bool, [], ◌∷◌, eqb, inl, inr, length, ◌<◌}
 use Rattle.std.specs.Prelude.{filter}
 use Rattle.legs.specs.Legs.{LegView}
 use Rattle.legs.specs.Book.{Book}

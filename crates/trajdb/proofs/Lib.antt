@@ -1,5 +1,6 @@
 pub mod PickLemmas
 pub mod AnswerLemmas
+pub mod LineLaws
 pub mod LineLemmas
 pub mod BookLemmas
 pub mod FileLemmas
@@ -7,9 +8,10 @@ pub mod LoadLemmas
 pub mod RunLemmas
 pub mod FaultLemmas
 pub mod TellingLemmas
-pub mod TracedLemmas
+pub mod StepLemmas
 pub mod PageLemmas
 pub mod LastingLemmas
 pub mod CheckLemmas
 pub mod SoundLemmas
 pub mod SafeLemmas
+pub mod ApartLemmas

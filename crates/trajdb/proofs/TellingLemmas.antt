@@ -1,13 +1,15 @@
 -- What a database tells, and which page it names.
-use Rattle.std.proofs.Common.{ℕ, ◌≡◌, ◌∙◌, ◌+◌, ◌<◌, ◌++◌, ◌∷◌, [], ap, map, take, get_or, List, All, Option, Some, None, Result, Ok, Err, IfOk, refl, sym, subst, inl, inr, length, true}
-use Rattle.std.specs.Prelude.{◌⊎◌, OnOk}
+use Rattle.std.proofs.Common.{ℕ, ◌≡◌, ◌∙◌, ◌+◌, ◌<◌, ◌≤◌, ◌++◌, ◌∷◌, [], ap, map, take, get_or, List, All, Option, Some, None, Result, Ok, Err, IfOk, refl, sym, subst, inl, inr, length, true}
+use Rattle.std.specs.Prelude.{◌⊎◌, IfErr, OnOk}
+use Rattle.std.specs.Global.{Vec}
 use Rattle.std.proofs.lemmas.List.{append_assoc, append-nil, map-append, take_more}
-use Rattle.std.proofs.lemmas.Result.{IfOk-weaker}
+use Rattle.std.proofs.lemmas.Result.{IfErr-weaker, IfOk-weaker}
 use Rattle.timebase.specs.Period.{PeriodView}
 use Rattle.legs.specs.Asking.{Denies}
 use Rattle.legs.specs.Boxes.{RectView}
 use Rattle.legs.specs.Book.{Book}
 use Rattle.legs.specs.Law.{IsThere}
+use Rattle.legs.specs.Limits.{greatest_limit}
 use Rattle.legs.specs.Legs.{LegView}
 use Rattle.legs.specs.Questions.{Question, OfFeature}
 use Rattle.legs.specs.Tracks.{IsOver}
@@ -18,9 +20,10 @@ use Rattle.predicates.specs.Predicates.{Holds}
 use Rattle.predicates.specs.declared.Predicate.{Predicate}
 use Rattle.trajdb.specs.Answers.{legs_text, names_text}
 use Rattle.trajdb.specs.Calls.{IsText, LeavesBook}
-use Rattle.trajdb.specs.Database.{CoreView}
+use Rattle.trajdb.specs.Database.{CoreView, IsSound}
 use Rattle.trajdb.specs.Faults.{run_fault_of}
-use Rattle.trajdb.specs.Telling.{AreLive, AreToldOf, DeniesLegs, DeniesTrack, Names, PicksLive}
+use Rattle.trajdb.specs.Telling.{AreLive, AreToldOf, DeniesLegs, DeniesNamed, DeniesSome, MakingCall, Names, PicksLive, QuestionCall}
+use Rattle.trajdb.proofs.FaultLemmas.{text_refused}
 use Rattle.trajdb.specs.declared.RunFault.{RunFault}
 use Rattle.trajdb.specs.declared.RunFault.TheVariants.{Memory, Store, Damaged, StoreFull, Failed, Output}
 
@@ -51,8 +54,11 @@ module _ {I : Type 0} (g : Ghosts I) (core : CoreView I) where
   legs_names P question fault text = text_names P (DeniesLegs g core question) fault text (λ page zero. inr zero)
 
   -- and of what is told of features
-  pub track_names : (P : Type 0) (period : Option PeriodView) (fault : RunFault) → IsText P fault → Names g core (DeniesTrack g core period) fault
-  track_names P period fault text = text_names P (DeniesTrack g core period) fault text (λ page zero. inr zero)
+  pub named_names : (P : Type 0) (name : List ℕ) (fault : RunFault) → IsText P fault → Names g core (DeniesNamed g core name) fault
+  named_names P name fault text = text_names P (DeniesNamed g core name) fault text (λ page zero. inr zero)
+
+  pub some_names : (P : Type 0) (period : PeriodView) (fault : RunFault) → IsText P fault → Names g core (DeniesSome g core period) fault
+  some_names P period fault text = text_names P (DeniesSome g core period) fault text (λ page zero. inr zero)
 
   -- what is picked of what is left completes what is picked of all
   abbrev pub IsPickingLive : Predicate → RectView → PeriodView → (all left picked : List ℕ) → Type 0
@@ -84,14 +90,14 @@ module _ {I : Type 0} (g : Ghosts I) (old now : CoreView I) (leaves : LeavesBook
   failed_before (inl f) = inl (sym leaves.failed ∙ f)
   failed_before (inr s) = inr (sym leaves.index.spent ∙ s)
 
-  pub names_before : (period : Option PeriodView) (fault : RunFault) → Names g now (DeniesTrack g now period) fault → Names g old (DeniesTrack g old period) fault
-  names_before period Memory h = tt
-  names_before period Store h = tt
-  names_before period (Damaged page) (inl (feature, denied)) = inl (feature, leaves.index.denied (OfFeature feature period) page denied)
-  names_before period (Damaged page) (inr zero) = inr zero
-  names_before period StoreFull h = tt
-  names_before period Failed h = failed_before h
-  names_before period Output h = tt
+  pub names_before : (period : PeriodView) (feature : ℕ) → (length old.book.names ≤ greatest_limit → feature < length old.book.names) → (fault : RunFault)
+      → Names g now (λ page. g.denies now.index (OfFeature feature (Some period)) page) fault → Names g old (DeniesSome g old period) fault
+  names_before period feature there Memory h = tt
+  names_before period feature there Store h = tt
+  names_before period feature there (Damaged page) h = inl (feature, there, leaves.index.denied (OfFeature feature (Some period)) page h)
+  names_before period feature there StoreFull h = tt
+  names_before period feature there Failed h = failed_before h
+  names_before period feature there Output h = tt
 
 -- what is shown of a book that is the same, of legs that are the same
 pub shown_legs : (old new : Book) (a b : List LegView) → new ≡ old → a ≡ b → legs_text new a ≡ legs_text old b
@@ -113,12 +119,6 @@ pub ok_both : {T E : Type 0} (r : Result T E) (P : T → Type 0) (Q : Type 0) �
 ok_both (Ok t) P Q p q = (p, q)
 ok_both (Err e) P Q p q = tt
 
--- a text of legs that are there, of the book after the call, is that text of legs that are there, of the book before it
-pub shown_before : {T E : Type 0} (r : Result T E) (items : T → List ℕ) (old now : Book) (shown legs : List LegView) → now ≡ old → shown ≡ legs
-    → IfOk r (λ text. items text ≡ legs_text now shown) → OnOk r (All (IsThere now) shown) → IfOk r (λ text. All (IsThere old) legs × (items text ≡ legs_text old legs))
-shown_before r items old now shown legs same value text there =
-    IfOk-weaker r _ _ (λ t h. (there_legs old now shown legs same value h.1, h.0 ∙ shown_legs old now shown legs same value)) (ok_both r _ _ text there)
-
 pub shown_names : (old new : Book) (a b : List ℕ) → new ≡ old → a ≡ b → names_text new a ≡ names_text old b
 shown_names old new a b same e = (λ i. names_text (same i) (e i))
 
@@ -130,10 +130,53 @@ told_of g core F o feature there legs h f = subst (λ o. AreToldOf g core o legs
 pub told_none : {I : Type 0} (g : Ghosts I) (core : CoreView I) (o : Option ℕ) (legs : List LegView) → o ≡ None → legs ≡ [] → AreToldOf g core o legs
 told_none g core o legs e h = subst (λ o. AreToldOf g core o legs) (sym e) h
 
--- a page that the index denies of a feature is one that is named
-pub denied_of : {I : Type 0} (g : Ghosts I) (core : CoreView I) (period : Option PeriodView) (feature : ℕ) (fault : IndexFault) → Denies g core.index (OfFeature feature period) fault → Names g core (DeniesTrack g core period) (run_fault_of fault)
-denied_of g core period feature index.Memory h = tt
-denied_of g core period feature index.Store h = tt
-denied_of g core period feature (index.Damaged page) h = inl (feature, h)
-denied_of g core period feature index.StoreFull h = tt
-denied_of g core period feature index.Spent h = inr h
+-- a page that the index denies is one that is named
+pub denied_of : {I : Type 0} (g : Ghosts I) (core : CoreView I) (question : Question) (Q : ℕ → Type 0) (fault : IndexFault) → ((page : ℕ) → g.denies core.index question page → Q page) → Denies g core.index question fault
+    → Names g core Q (run_fault_of fault)
+denied_of g core question Q index.Memory more h = tt
+denied_of g core question Q index.Store more h = tt
+denied_of g core question Q (index.Damaged page) more h = more page h
+denied_of g core question Q index.StoreFull more h = tt
+denied_of g core question Q index.Spent more h = inr h
+
+-- what is so is so where there is an answer
+pub where_ok : {T E : Type 0} (r : Result T E) (P : Type 0) → P → OnOk r P
+where_ok (Ok t) P p = p
+where_ok (Err e) P p = tt
+
+-- a question that was refused is refused whatever it is answered by
+pub refused_call : {I A B : Type 0} (g : Ghosts I) (old now : CoreView I) (result : Result B RunFault) (fault : RunFault) (right told : A → Type 0) (denied : RunFault → Type 0) (cost : Type 0)
+    (right' told' : B → Type 0) (denied' : RunFault → Type 0) (cost' : Type 0) → result ≡ Err fault → QuestionCall g old now (Err fault) right told denied cost → (denied fault → denied' fault)
+    → QuestionCall g old now result right' told' denied' cost'
+refused_call {I} {A} {B} g old now result fault right told denied cost right' told' denied' cost' is question more =
+    subst (λ (r : Result B RunFault). QuestionCall g old now r right' told' denied' cost') (sym is)
+    (record { found = tt; says = tt; named = more question.named; asks = tt; leaves = question.leaves; refused = question.refused })
+
+-- the text of what a question found is what its command promises
+pub shown_call : {I A : Type 0} (g : Ghosts I) (old now : CoreView I) (what : A) (result : Result (Vec ℕ) RunFault) (is_text : Vec ℕ → Type 0) (P Q : Type 0)
+    (right told : A → Type 0) (denied : RunFault → Type 0) (cost : Type 0) (right' told' : Vec ℕ → Type 0) (denied' : RunFault → Type 0)
+    → QuestionCall g old now (Ok what) right told denied cost → IfOk result is_text → OnOk result Q → IfErr result (IsText P)
+    → ((text : Vec ℕ) → is_text text → right what → right' text) → ((text : Vec ℕ) → is_text text → Q → told what → told' text)
+    → ((fault : RunFault) → IsText P fault → denied' fault) → (IsSound g old → right what → P) → QuestionCall g old now result right' told' denied' cost
+shown_call g old now what result is_text P Q right told denied cost right' told' denied' question made all_there unmade to_right to_told to_denied is_there = record {
+  found = IfOk-weaker result _ _ (λ text m sound. to_right text m (question.found sound)) made;
+  says = IfOk-weaker result _ _ (λ text h. to_told text h.0 h.1 question.says) (ok_both result _ _ made all_there);
+  named = IfErr-weaker result _ _ to_denied unmade;
+  asks = where_ok result cost question.asks;
+  leaves = question.leaves;
+  refused = IfErr-weaker result _ _ (λ fault text. text_refused g old now P fault text (λ sound. is_there sound (question.found sound))) unmade;
+}
+
+-- so is the text of legs, each with its name and its row
+pub shown_legs_call : {I : Type 0} (g : Ghosts I) (old now : CoreView I) (legs : Vec LegView) (shown : List LegView) (result : Result (Vec ℕ) RunFault)
+    (right told : Vec LegView → Type 0) (denied : RunFault → Type 0) (cost : Type 0) (right' told' : Vec ℕ → Type 0) (denied' : RunFault → Type 0)
+    → QuestionCall g old now (Ok legs) right told denied cost → MakingCall result (λ text. text.items ≡ legs_text now.book shown) (All (IsThere now.book) shown) → shown ≡ legs.items
+    → ((text : Vec ℕ) → text.items ≡ legs_text old.book legs.items → right legs → right' text)
+    → ((text : Vec ℕ) → All (IsThere old.book) legs.items × (text.items ≡ legs_text old.book legs.items) → told legs → told' text)
+    → ((fault : RunFault) → IsText (All (IsThere now.book) shown) fault → denied' fault) → (IsSound g old → right legs → All (IsThere now.book) shown)
+    → QuestionCall g old now result right' told' denied' cost
+shown_legs_call g old now legs shown result right told denied cost right' told' denied' question making same to_right to_told to_denied is_there =
+    let text_is = shown_legs old.book now.book shown legs.items question.leaves.book same in
+    shown_call g old now legs result (λ text. text.items ≡ legs_text now.book shown) (All (IsThere now.book) shown) (All (IsThere now.book) shown) right told denied cost right' told' denied'
+    question making.made making.there making.fault (λ text made. to_right text (made ∙ text_is))
+    (λ text made there. to_told text (there_legs old.book now.book shown legs.items question.leaves.book same there, made ∙ text_is)) to_denied is_there

@@ -1,5 +1,5 @@
 -- What a call of a database leaves, and why it stopped.
-use Rattle.std.specs.Prelude.{ℕ, ◌≡◌, ◌<◌, [], slice_index_or, true, false, List, Option, Some, None, Result, Ok, Err, IsTrue, is_some, if◌then◌else◌, ◌⊎◌, ◌↔◌, drop, length, sum_by, map}
+use Rattle.std.specs.Prelude.{ℕ, ◌≡◌, ◌<◌, ◌≤◌, ◌+◌, ◌-◌, ◌^◌, [], ◌∷◌, slice_index_or, true, false, List, Option, Some, None, Result, Ok, Err, IsTrue, is_some, if◌then◌else◌, ◌⊎◌, ◌↔◌, drop, length, sum_by, map}
 use Rattle.std.specs.List.{range_with_len}
 use Rattle.timebase.specs.Period.{PeriodView}
 use Rattle.legs.specs.declared.head.BookHead.{BookHead}
@@ -213,6 +213,34 @@ AsksFor book plan (Features predicate rect period) old new =
 AsksFor book plan (Trajectory name) old new =
     RisesBy old new (track_asks (feature_named book.names name) plan book.legs)
 AsksFor book plan Write old new = RisesBy old new (write_asks book.head plan book.legs)
+
+-- at most how many pages a command asks for over a book, which is no `load`
+abbrev pub command_cost : Book → Option ShapeView → Command → ℕ
+command_cost book plan (Load name) = 0
+command_cost book plan Count = 0
+command_cost book plan (Box rect period) = search_cost (box_over rect period) plan book.legs
+command_cost book plan (Legs predicate rect period) =
+    search_cost (box_near predicate rect period) plan book.legs
+command_cost book plan (Features predicate rect period) =
+    features_bound (range_with_len 0 (length book.names)) period plan book.legs
+command_cost book plan (Trajectory name) =
+    track_asks (feature_named book.names name) plan book.legs
+command_cost book plan Write = write_asks book.head plan book.legs
+
+-- so of a line that was read
+abbrev pub said_cost : Book → Option ShapeView → Result (Option Command) LineCode → ℕ
+said_cost book plan (Ok (Some command)) = command_cost book plan command
+said_cost book plan (Ok None) = 0
+said_cost book plan (Err code) = 0
+
+-- so of lines, none of which is a `load`: the sum
+abbrev pub lines_cost : Book → Option ShapeView → List (List ℕ) → ℕ
+lines_cost book plan [] = 0
+lines_cost book plan (line ∷ lines) = said_cost book plan (line_command line) + lines_cost book plan lines
+
+-- a counter rose by at most that many, where it is below the greatest number that it counts
+abbrev pub RisesWithin : ℕ → ℕ → ℕ → Type 0
+RisesWithin old new bound = new < 2 ^ 64 - 1 → new ≤ old + bound
 
 -- of a sound database a question asked for that many pages
 abbrev pub Asks : {I : Type 0} → Ghosts I → CoreView I → CoreView I

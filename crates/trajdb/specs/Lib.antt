@@ -9,8 +9,8 @@ pub mod Loads
 pub mod Calls
 pub mod Run
 pub mod Telling
-pub mod Lines
 pub mod Db
 pub mod Lasting
 pub mod Checking
 pub mod Promises
+pub mod Apart

@@ -1,7 +1,7 @@
 -- What each call of a database promises: one record for a call, each field of which is a clause. A public function that
 -- ensures such a record ensures each of them. `load`, `command` and `run` are of a database over any index; what one over
 -- pages promises besides stands behind.
-use Rattle.std.specs.Prelude.{ℕ, ◌≡◌, ◌<◌, ◌⊎◌, List, None, Result, Ok, Err, IfOk, IfErr, IsErrOf, IsTrue, OnOk, OnErr, true, false}
+use Rattle.std.specs.Prelude.{ℕ, ◌≡◌, ◌<◌, ◌⊎◌, List, [], Option, Some, None, Result, Ok, Err, IfOk, IfErr, IsErrOf, IsTrue, OnOk, OnErr, true, false}
 use Rattle.std.specs.Global.{Vec}
 use Rattle.legs.specs.Book.{Book}
 use Rattle.legs.specs.declared.listed.Listed.{Ghosts}
@@ -13,16 +13,19 @@ use Rattle.outputs.specs.Output.{HasRefused, IsFlushed, OutputView}
 use Rattle.boxsearch.specs.Index.{words, IsMarked}
 use Rattle.register.specs.Lasting.{first_fault, ComesFirst, IsReadingFault, IsStop}
 use Rattle.catalogue.specs.Holding.{HoldsBook, HoldsButFirst, IsUnfinishedStore}
+use Rattle.querylang.specs.CodeText.{line_code_text}
+use Rattle.querylang.specs.Line.{line_command}
 use Rattle.querylang.specs.declared.Command.{Command}
-use Rattle.trajdb.specs.Answers.{AcceptsBy, IsAnswer, book_then, book_with, load_of}
-use Rattle.trajdb.specs.Calls.{QuestionAsks, Begins, BeginsOnly, IsAsked, IsLater, IsLoadFault, IsLoadStop, IsQuestionFault, IsRunStop, IsStopped, KeepsPages, LeavesBook, Loads}
+use Rattle.querylang.specs.declared.LineCode.{LineCode}
+use Rattle.trajdb.specs.Answers.{AcceptsBy, IsAnswer, book_then, book_with, load_of, refusal_text}
+use Rattle.trajdb.specs.Calls.{QuestionAsks, Begins, BeginsOnly, HasLoad, IsAsked, IsLater, IsLoadFault, IsLoadStop, IsQuestionFault, IsRunStop, IsStopped, KeepsPages, LeavesBook, Loads, RisesWithin, lines_cost}
 use Rattle.trajdb.specs.Checking.{Reports}
 use Rattle.trajdb.specs.Database.{CoreView, FailsBy, IsRefused, IsSound, IsTold, LoadGives, Becomes}
 use Rattle.trajdb.specs.Db.{DbView, HasPages, IsSoundDb}
 use Rattle.trajdb.specs.Faults.{IsNotOutput}
 use Rattle.trajdb.specs.Lasting.{HasBook, IsClosingFault, IsFaultless, IsIdle, IsSafe, IsSafeStore, IsUnfinishedAnswer}
-use Rattle.trajdb.specs.Run.{AcceptsSome, StopsAt, Stops, IsCut}
-use Rattle.trajdb.specs.Telling.{IsToldAnswer, NamesBy, TellsCut, TellsRun}
+use Rattle.trajdb.specs.Run.{AcceptsSome, CutsBy, RunsBy, StopsAt, Stops, IsCut}
+use Rattle.trajdb.specs.Telling.{IsToldAnswer, NamesBy}
 use Rattle.trajdb.specs.declared.Counts.{Counts}
 use Rattle.trajdb.specs.declared.LoadFault.{LoadFault}
 use Rattle.register.specs.declared.fault.CatalogueFault.{CatalogueFault}
@@ -101,6 +104,30 @@ pub record CommandCall {I : Type 0} (g : Ghosts I) (files : List (List ℕ × Li
   -- a failed database does nothing
   pub was_failed : old.failed ≡ true → (result ≡ Err RunFault.Failed) × (new ≡ old)
 
+-- what lines do, by what a command promises, with the named files at hand
+module _ {I : Type 0} (g : Ghosts I) (files : List (List ℕ × List ℕ)) (old new : CoreView I) where
+  -- the text answers a line that was read: a command as `command` promises; any other line leaves all as it is
+  abbrev pub DoesSaid : Result (Option Command) LineCode → List ℕ → Type 0
+  DoesSaid (Ok (Some command)) text =
+      (answer : Vec ℕ) × (answer.items ≡ text) × CommandCall g files old new command (Ok answer)
+  DoesSaid (Ok None) text = (text ≡ []) × (new ≡ old)
+  DoesSaid (Err code) text = (text ≡ refusal_text (line_code_text code)) × (new ≡ old)
+
+  -- the text answers a line
+  unfoldable pub DoesLine : List ℕ → List ℕ → Type 0
+  DoesLine line text = DoesSaid (line_command line) text
+
+  -- why a line that was read is not answered: the command is refused, as `command` promises, or memory ran out before it
+  abbrev pub StopsSaid : Result (Option Command) LineCode → RunFault → Type 0
+  StopsSaid (Ok (Some command)) fault =
+      CommandCall g files old new command (Err fault) ⊎ (fault ≡ RunFault.Memory) × (new ≡ old)
+  StopsSaid (Ok None) fault = ⊥
+  StopsSaid (Err code) fault = (fault ≡ RunFault.Memory) × (new ≡ old)
+
+  -- why a line is not answered
+  unfoldable pub StopsLine : List ℕ → RunFault → Type 0
+  StopsLine line fault = StopsSaid (line_command line) fault
+
 -- what `run` of the lines of a script promises beside its theorem, with the named files at hand, and with an output
 -- that shows what it has taken
 pub record RunCall {I O : Type 0} (g : Ghosts I) (shown : O → OutputView)
@@ -110,11 +137,16 @@ pub record RunCall {I O : Type 0} (g : Ghosts I) (shown : O → OutputView)
   pub sound : OnOk result (IsSound g old → IsSound g new)
   -- after `Ok` the database has not failed
   pub lives : OnOk result (new.failed ≡ false)
-  -- any database sent the answers to all lines, each by what the pages that it met say
-  pub says : OnOk result (TellsRun g files (shown out).contents (shown out').contents old new lines)
+  -- any database sent the answers to all lines, each of which does what `command` promises
+  pub says : OnOk result
+      (RunsBy (DoesLine g files) (shown out).contents (shown out').contents old new lines)
+  -- a sound database asks for at most the sum of the bounds of its lines, where none is a `load`
+  pub asks : OnOk result (IsSound g old → (HasLoad lines → ⊥)
+      → RisesWithin (g.asked old.index) (g.asked new.index)
+      (lines_cost old.book (g.plan old.index) lines))
   -- if the output fails, a prefix of such answers was sent, all but the last one whole
   pub says_cut : IsErrOf result RunFault.Output
-      → TellsCut g files (shown out).contents (shown out').contents old new lines
+      → CutsBy (DoesLine g files) (shown out).contents (shown out').contents old new lines
   -- if the output fails, a sound database is as after some lines, and a prefix of their answers was
   -- sent
   pub output : IsErrOf result RunFault.Output → IsSound g old

@@ -1,5 +1,5 @@
 -- The run of a script.
-use Rattle.std.specs.Prelude.{◌≡◌, ◌≢◌, ◌⊎◌, ℕ, ◌+◌, ◌-◌, List, [], ◌∷◌, ◌++◌, take, Option, Bool, true, false, ◌<◌, length, slice_index_or}
+use Rattle.std.specs.Prelude.{◌≡◌, ◌≢◌, ◌⊎◌, ℕ, ◌+◌, ◌-◌, List, [], ◌∷◌, ◌++◌, drop, take, Option, Bool, true, false, ◌<◌, length, slice_index_or}
 use Rattle.std.specs.Io.KnownBytes.{Appends}
 use Rattle.legs.specs.Limits.{LimitsView}
 use Rattle.legs.specs.Book.{Book}
@@ -8,6 +8,54 @@ use Rattle.trajdb.specs.Calls.{Speaks, LoadsBy}
 use Rattle.trajdb.specs.declared.RunFault.{RunFault}
 use Rattle.trajdb.specs.declared.RunFault.TheVariants.{Memory}
 use Rattle.trajdb.specs.Answers.{AcceptsLine, IsLineText, line_book}
+
+-- the first bytes are a prefix of the others
+abbrev pub IsPrefixOf : List ℕ → List ℕ → Type 0
+IsPrefixOf front all = (rest : List ℕ) × (all ≡ front ++ rest)
+
+-- lines, each of which does a step: from what was before it to what it leaves, with what it answers
+module _ {S : Type 0} (step : S → S → List ℕ → List ℕ → Type 0) where
+  -- a line is done, and its answer was sent
+  pub record HasDone (sent sent' : Option (List ℕ)) (old new : S) (line : List ℕ) : Type 0 where
+    pub text : List ℕ
+    pub does : step old new line text
+    pub sends : Appends sent sent' text
+
+  -- a line is done, and the first n bytes of its answer were sent
+  pub record HasCut (sent sent' : Option (List ℕ)) (old new : S) (line : List ℕ) : Type 0 where
+    pub text : List ℕ
+    pub does : step old new line text
+    pub n : ℕ
+    pub sends : Appends sent sent' (take n text)
+
+  -- the text is the answers to lines, one after another, each a step from what the lines before left
+  abbrev pub DoesAll : (old new : S) → List (List ℕ) → List ℕ → Type 0
+  DoesAll old new [] text = (new ≡ old) × (text ≡ [])
+  DoesAll old new (line ∷ lines) text =
+      (mid : S) × (first : List ℕ) × (others : List ℕ) × (text ≡ first ++ others)
+      × step old mid line first × DoesAll mid new lines others
+
+  -- all lines are done, and their answers and nothing else were sent
+  pub record RunsBy (sent sent' : Option (List ℕ)) (old new : S) (lines : List (List ℕ)) : Type 0
+    where
+      pub text : List ℕ
+      pub does : DoesAll old new lines text
+      pub sends : Appends sent sent' text
+
+  -- the first k lines are done, all but the last of them and then that one; what was sent is a prefix of their answers, and
+  -- all of them but the last one are whole
+  pub record CutsBy (sent sent' : Option (List ℕ)) (old new : S) (lines : List (List ℕ)) : Type 0
+    where
+      pub k : ℕ
+      pub mid : S
+      pub before : List ℕ
+      pub earlier : DoesAll old mid (take (k - 1) lines) before
+      pub text : List ℕ
+      pub last : DoesAll mid new (drop (k - 1) (take k lines)) text
+      pub written : List ℕ
+      pub sends : Appends sent sent' written
+      pub whole : IsPrefixOf before written
+      pub prefix : IsPrefixOf written (before ++ text)
 
 -- the book after all lines
 abbrev pub run_book : LimitsView → List (List ℕ × List ℕ) → Book → List (List ℕ) → Book
@@ -64,10 +112,6 @@ pub record FailsAt (files : List (List ℕ × List ℕ)) (failed : Bool) (fault 
 abbrev pub StopsAt : List (List ℕ × List ℕ) → Bool → RunFault → List (List ℕ) → Type 0
 StopsAt files failed fault lines =
     (k : ℕ) × (k < length lines) × FailsAt files failed fault (slice_index_or lines k [])
-
--- the first bytes are a prefix of the others
-abbrev pub IsPrefixOf : List ℕ → List ℕ → Type 0
-IsPrefixOf front all = (rest : List ℕ) × (all ≡ front ++ rest)
 
 -- the first k lines are done, and the book is the one after them; what was sent is a prefix of their
 -- answers, and all of them but the last one are whole

@@ -1,7 +1,7 @@
 -- What a database answers by what the pages of its index say, be it sound or not: nothing else is answered, and a page
 -- that is named is one that was met and is not what it is to be there, or page 0.
-use Rattle.std.specs.Prelude.{ℕ, ◌≡◌, ◌≤◌, ◌++◌, ◌-◌, ◌⊎◌, ◌↔◌, List, [], ◌∷◌, length, take, drop, All, Option, Some, None, Result, Ok, Err, true, false, codes, decimal}
-use Rattle.std.specs.Io.KnownBytes.{Appends}
+use Rattle.std.specs.Prelude.{ℕ, ◌≡◌, ◌≤◌, ◌<◌, ◌++◌, ◌⊎◌, ◌↔◌, List, [], ◌∷◌, length, All, Option, Some, None, Result, IfOk, IfErr, OnOk, true, codes, decimal}
+use Rattle.std.specs.Global.{Vec}
 use Rattle.std.specs.List.{range_with_len}
 use Rattle.timebase.specs.Period.{PeriodView}
 use Rattle.legs.specs.Legs.{LegView}
@@ -18,17 +18,13 @@ use Rattle.legs.specs.declared.listed.Listed.{Ghosts}
 use Rattle.predicates.specs.Near.{box_near}
 use Rattle.predicates.specs.Predicates.{Holds}
 use Rattle.predicates.specs.declared.Predicate.{Predicate}
-use Rattle.querylang.specs.CodeText.{line_code_text}
-use Rattle.querylang.specs.Line.{line_command}
-use Rattle.querylang.specs.declared.LineCode.{LineCode}
 use Rattle.querylang.specs.declared.Command.{Command}
 use Rattle.querylang.specs.declared.Command.TheVariants.{Load, Count, Box, Legs, Features, Trajectory, Write}
-use Rattle.trajdb.specs.Answers.{HoldsOfLeg, IsCountsText, IsFileRefusal, file_answer, legs_text, names_text, ok_text, refusal_text}
-use Rattle.trajdb.specs.Calls.{IsLater, LeavesBook, Loads}
-use Rattle.trajdb.specs.Database.{CoreView}
+use Rattle.trajdb.specs.Answers.{HoldsOfLeg, IsAnswer, IsCountsText, IsFileRefusal, file_answer, legs_text, names_text, ok_text, refusal_text}
+use Rattle.trajdb.specs.Calls.{IsRefused, IsText, LeavesBook, QuestionAsks}
+use Rattle.trajdb.specs.Database.{CoreView, IsSound}
 use Rattle.trajdb.specs.Files.{file_named}
 use Rattle.trajdb.specs.Picks.{Picks}
-use Rattle.trajdb.specs.Run.{IsPrefixOf}
 use Rattle.trajdb.specs.declared.RunFault.{RunFault}
 use Rattle.trajdb.specs.declared.RunFault.TheVariants.{Memory, Store, Damaged, StoreFull, Failed, Output}
 
@@ -131,10 +127,19 @@ module _ {I : Type 0} (g : Ghosts I) (core : CoreView I) where
   abbrev pub DeniesLegs : Question → ℕ → Type 0
   DeniesLegs question page = g.denies core.index question page ⊎ (page ≡ 0)
 
-  -- so it is for some feature
-  abbrev pub DeniesTrack : Option PeriodView → ℕ → Type 0
-  DeniesTrack period page =
-      ((feature : ℕ) × g.denies core.index (OfFeature feature period) page) ⊎ (page ≡ 0)
+  -- so it is for the feature of a name, of a database of no more features than any limit allows
+  abbrev pub DeniesNamed : List ℕ → ℕ → Type 0
+  DeniesNamed name page =
+      ((feature : ℕ)
+      × (length core.book.names ≤ greatest_limit → feature_named core.book.names name ≡ Some feature)
+      × g.denies core.index (OfFeature feature None) page) ⊎ (page ≡ 0)
+
+  -- and for some feature that is there
+  abbrev pub DeniesSome : PeriodView → ℕ → Type 0
+  DeniesSome period page =
+      ((feature : ℕ)
+      × (length core.book.names ≤ greatest_limit → feature < length core.book.names)
+      × g.denies core.index (OfFeature feature (Some period)) page) ⊎ (page ≡ 0)
 
   -- a page that is named is such a one; the database is said to be failed only where it was, or its index refused a leg
   abbrev pub Names : (ℕ → Type 0) → RunFault → Type 0
@@ -152,70 +157,41 @@ module _ {I : Type 0} (g : Ghosts I) (core : CoreView I) where
   NamesBy (Box rect period) fault = Names (DeniesLegs (InBox (box_over rect period))) fault
   NamesBy (Legs predicate rect period) fault =
       Names (DeniesLegs (InBox (box_near predicate rect period))) fault
-  NamesBy (Features predicate rect period) fault = Names (DeniesTrack (Some period)) fault
-  NamesBy (Trajectory name) fault = Names (DeniesTrack None) fault
+  NamesBy (Features predicate rect period) fault = Names (DeniesSome period) fault
+  NamesBy (Trajectory name) fault = Names (DeniesNamed name) fault
   NamesBy Write fault = Names (DeniesLegs (InBox everything)) fault
 
--- what a command that is answered leaves, be the database sound or not: a question all that is known of the book; the
--- database is not failed
-pub record LeftBy {I : Type 0} (g : Ghosts I) (files : List (List ℕ × List ℕ))
-    (old new : CoreView I) (command : Command) (text : List ℕ) : Type 0 where
-  pub question : (Loads files command → ⊥) → LeavesBook g old new
-  pub later : IsLater g old new
-  pub lives : new.failed ≡ false
+-- what a question promises, be it answered by legs, by features or by a text
+pub record QuestionCall {I A : Type 0} (g : Ghosts I) (old new : CoreView I)
+    (result : Result A RunFault) (right told : A → Type 0) (denied : RunFault → Type 0)
+    (cost : Type 0) : Type 0 where
+  -- over a sound database it is what the book says
+  pub found : IfOk result (λ answer. IsSound g old → right answer)
+  -- over any database it is what the pages that it met say
+  pub says : IfOk result told
+  -- a page that is named was met and is not what it has to be there, or is page 0
+  pub named : IfErr result denied
+  -- a sound database asks for as many pages as the list of legs gives, or at most its bound
+  pub asks : OnOk result cost
+  -- the book, and all else that is known, stay as they were
+  pub leaves : LeavesBook g old new
+  -- a sound database refuses it only if memory runs out or the store fails
+  pub refused : IfErr result (IsRefused g old new)
 
-module _ {I : Type 0} (g : Ghosts I) (files : List (List ℕ × List ℕ)) where
-  -- the text is what a line answers by what is told, and this is left
-  abbrev pub TellsSaid : (old new : CoreView I) → Result (Option Command) LineCode → List ℕ → Type 0
-  TellsSaid old new (Ok (Some command)) text =
-      IsToldAnswer g old files command text × LeftBy g files old new command text
-  TellsSaid old new (Ok None) text = (text ≡ []) × (new ≡ old)
-  TellsSaid old new (Err code) text = (text ≡ refusal_text (line_code_text code)) × (new ≡ old)
+-- what the text of a question promises, by the command that it answers, which is no `load`
+abbrev pub TextCall : {I : Type 0} → Ghosts I → CoreView I → CoreView I → Command
+    → Result (Vec ℕ) RunFault → Type 0
+TextCall g old new command result =
+    QuestionCall g old new result (λ text. IsAnswer old.limits [] old.book command text.items)
+    (λ text. IsToldAnswer g old [] command text.items) (NamesBy g old command)
+    (QuestionAsks g old new command)
 
-  -- the text is what a line answers by what is told, and this is left
-  unfoldable pub TellsLine : (old new : CoreView I) → List ℕ → List ℕ → Type 0
-  TellsLine old new line text = TellsSaid old new (line_command line) text
-
-  -- the text is the answers to lines, one after another, each by what is told after the lines before
-  abbrev pub TellsLines : (old new : CoreView I) → List (List ℕ) → List ℕ → Type 0
-  TellsLines old new [] text = (new ≡ old) × (text ≡ [])
-  TellsLines old new (line ∷ lines) text =
-      (mid : CoreView I) × (first : List ℕ) × (others : List ℕ) × (text ≡ first ++ others)
-      × TellsLine old mid line first × TellsLines mid new lines others
-
-  -- all lines are done, and their answers and nothing else were sent
-  pub record TellsRun (sent sent' : Option (List ℕ)) (old new : CoreView I)
-      (lines : List (List ℕ)) : Type 0 where
-    pub text : List ℕ
-    pub tells : TellsLines old new lines text
-    pub sends : Appends sent sent' text
-
-  -- the first k lines are done, all but the last of them and then that one; what was sent is a prefix of their answers, and
-  -- all of them but the last one are whole
-  pub record TellsCut (sent sent' : Option (List ℕ)) (old new : CoreView I)
-      (lines : List (List ℕ)) : Type 0 where
-    pub k : ℕ
-    pub mid : CoreView I
-    pub before : List ℕ
-    pub earlier : TellsLines old mid (take (k - 1) lines) before
-    pub text : List ℕ
-    pub last : TellsLines mid new (drop (k - 1) (take k lines)) text
-    pub written : List ℕ
-    pub sends : Appends sent sent' written
-    pub whole : IsPrefixOf before written
-    pub prefix : IsPrefixOf written (before ++ text)
-
-  -- a line is done, and of its answer the first n bytes were sent, or all
-  pub record HasTold (sent sent' : Option (List ℕ)) (old new : CoreView I)
-      (line : List ℕ) : Type 0 where
-    pub text : List ℕ
-    pub tells : TellsLine old new line text
-    pub sends : Appends sent sent' text
-
-  -- a line is done, and the first n bytes of its answer were sent
-  pub record HasCutTold (sent sent' : Option (List ℕ)) (old new : CoreView I)
-      (line : List ℕ) : Type 0 where
-    pub text : List ℕ
-    pub tells : TellsLine old new line text
-    pub n : ℕ
-    pub sends : Appends sent sent' (take n text)
+-- what is made of what is there where P holds: exactly that, or why not
+pub record MakingCall {A : Type 0} (result : Result A RunFault) (right : A → Type 0)
+    (P : Type 0) : Type 0 where
+  -- it is what has to be made
+  pub made : IfOk result right
+  -- then all of it is there
+  pub there : OnOk result P
+  -- else memory ran out, or something is not there
+  pub fault : IfErr result (IsText P)

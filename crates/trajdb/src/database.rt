@@ -312,37 +312,17 @@ impl<I: Start> Core<I> {
 }
 
 impl<I: Start> Core<I> {
-    ghost use Rattle.std.specs.Prelude.{◌≡◌, ◌≢◌, IfOk, IfErr, IsErrOf, OnOk, OnErr, Err, true, false};
-    ghost use Rattle.trajdb.specs.Answers.{AcceptsLine, IsLineText, line_book};
-    ghost use Rattle.trajdb.specs.Database.{Becomes, IsSound};
-    ghost use Rattle.trajdb.specs.Calls.{Begins, BeginsOnly, IsStopped, IsLater, KeepsPages, LeavesBook, LoadsBy, Speaks};
-    ghost use Rattle.trajdb.specs.Telling.{TellsLine};
+    ghost use Rattle.std.specs.Prelude.{IfOk, IfErr};
+    ghost use Rattle.trajdb.specs.Faults.{IsNotOutput};
+    ghost use Rattle.trajdb.specs.Promises.{DoesLine, StopsLine};
 
     /// The whole answer to a line of a script.
-    #[tactic(auto, unfolding(crate::specs::Answers::IsLineText, crate::specs::Answers::line_book, crate::specs::Answers::AcceptsLine, crate::specs::Calls::LoadsBy, crate::specs::Calls::Speaks, crate::specs::Telling::TellsLine))]
+    #[tactic(auto, unfolding(crate::specs::Promises::DoesLine, crate::specs::Promises::StopsLine))]
     fn answer(&mut self, alloc: Global, line: &[u8], files: &Files) -> Result<Vec<u8>, RunFault>
-        requires { self.old.failed ≡ false }
-        ensures text { IfOk result (λ text. IsSound I.Listed self.old
-            → IsLineText self.old.limits files.now self.old.book line.now text.items) }
-        ensures becomes { OnOk result (Becomes I.Listed self.old self.new
-            (line_book self.old.limits files.now self.old.book line.now)) }
-        ensures lives { OnOk result (self.new.failed ≡ false) }
-        ensures says { IfOk result (λ text.
-            TellsLine I.Listed files.now self.old self.new line.now text.items) }
-        ensures later { IsLater I.Listed self.old self.new }
-        ensures speaks { OnErr result (Speaks line.now) }
-        ensures refused { OnErr result (self.new.failed ≡ false
-            → LeavesBook I.Listed self.old self.new) }
-        ensures failed { self.new.failed ≡ true → LoadsBy files.now line.now }
-        ensures full { IsErrOf result RunFault.StoreFull → self.new.failed ≡ true }
-        ensures stopped { IfErr result (IsStopped I.Listed self.old self.new) }
-        ensures fails { IfErr result (λ fault. LoadsBy files.now line.now → fault ≢ RunFault.Memory
-            → self.new.failed ≡ true) }
-        ensures begins { OnOk result (Begins I.Listed self.old self.new
-            (AcceptsLine self.old.limits files.now self.old.book line.now)) }
-        ensures only { BeginsOnly I.Listed self.old self.new
-            (AcceptsLine self.old.limits files.now self.old.book line.now) }
-        ensures pages { KeepsPages I.Listed self.old self.new }
+        ensures does { IfOk result (λ text.
+            DoesLine I.Listed files.now self.old self.new line.now text.items) }
+        ensures stops { IfErr result (StopsLine I.Listed files.now self.old self.new line.now) }
+        ensures inside { IfErr result IsNotOutput }
     {
         match parse_line(alloc, line) {
             Ok(Some(command)) => self.command(alloc, &command, files),
@@ -354,17 +334,14 @@ impl<I: Start> Core<I> {
 }
 
 impl<I: Start> Core<I> {
-    ghost use Rattle.std.specs.Prelude.{◌≡◌, ◌⊎◌, IfOk, IfErr, IsErrOf, IsTrue, OnOk, OnErr, Err, false, true};
-    ghost use Rattle.trajdb.specs.Script.{lines_of, without_return};
+    ghost use Rattle.std.specs.Prelude.{◌≡◌, ◌⊎◌, IfErr, IsErrOf, IsTrue, OnOk, Err};
+    ghost use Rattle.std.specs.Io.KnownBytes.{Keeps};
     ghost use Rattle.outputs.specs.Output.{HasRefused};
-    ghost use Rattle.trajdb.specs.Answers.{AcceptsLine};
-    ghost use Rattle.trajdb.specs.Faults.{IsNotOutput};
-    ghost use Rattle.trajdb.specs.Lines.{HasDone, HasCut, HasNotDone};
-    ghost use Rattle.trajdb.specs.Run.{FailsAt, Runs};
     ghost use Rattle.trajdb.specs.Database.{IsSound};
-    ghost use Rattle.trajdb.specs.Calls.{LeavesBook, Begins, BeginsOnly, IsRunStop, IsLater, KeepsPages};
-    ghost use Rattle.trajdb.specs.Promises.{RunCall};
-    ghost use Rattle.trajdb.specs.Telling.{HasCutTold, HasTold};
+    ghost use Rattle.trajdb.specs.Faults.{IsNotOutput};
+    ghost use Rattle.trajdb.specs.Promises.{DoesLine, RunCall, StopsLine};
+    ghost use Rattle.trajdb.specs.Run.{HasCut, HasDone, Runs};
+    ghost use Rattle.trajdb.specs.Script.{lines_of};
 
     /// One line of a script: its answer goes to the output.
     fn line<O: Output>(
@@ -374,43 +351,20 @@ impl<I: Start> Core<I> {
         files: &Files,
         out: &mut O,
     ) -> Result<(), RunFault>
-        requires { self.old.failed ≡ false }
-        ensures becomes { OnOk result (IsSound I.Listed self.old
-            → HasDone self.old.limits files.now (O.seen out.old).contents (O.seen out.new).contents
-            self.old.book self.new.book line.now) }
-        ensures sound { OnOk result (IsSound I.Listed self.old → IsSound I.Listed self.new) }
-        ensures lives { OnOk result (self.new.failed ≡ false) }
-        ensures cut { IsErrOf result RunFault.Output → IsSound I.Listed self.old
-            → HasCut self.old.limits files.now (O.seen out.old).contents (O.seen out.new).contents
-            self.old.book self.new.book line.now }
-        ensures cut_sound { IsErrOf result RunFault.Output → IsSound I.Listed self.old
-            → IsSound I.Listed self.new }
-        ensures cut_lives { IsErrOf result RunFault.Output → self.new.failed ≡ false }
-        ensures refused { IfErr result (λ e. IsNotOutput e → IsSound I.Listed self.old
-            → HasNotDone files.now (O.seen out.old).contents (O.seen out.new).contents self.old.book
-            self.new.book self.new.failed line.now) }
-        ensures kept { IfErr result (λ e. IsNotOutput e → self.new.failed ≡ false
-            → LeavesBook I.Listed self.old self.new) }
-        ensures full { IsErrOf result RunFault.StoreFull → self.new.failed ≡ true }
-        ensures stopped { IfErr result (IsRunStop I.Listed self.old self.new) }
-        ensures later { IsLater I.Listed self.old self.new }
-        ensures fails { IfErr result (λ fault. IsNotOutput fault
-            → FailsAt files.now self.new.failed fault line.now) }
-        ensures says { OnOk result (HasTold I.Listed files.now (O.seen out.old).contents
-            (O.seen out.new).contents self.old self.new line.now) }
-        ensures says_cut { IsErrOf result RunFault.Output → HasCutTold I.Listed files.now
+        ensures done { OnOk result (HasDone (DoesLine I.Listed files.now)
+            (O.seen out.old).contents (O.seen out.new).contents self.old self.new line.now) }
+        ensures cut { IsErrOf result RunFault.Output → HasCut (DoesLine I.Listed files.now)
             (O.seen out.old).contents (O.seen out.new).contents self.old self.new line.now }
+        ensures stops { IfErr result (λ fault. IsNotOutput fault
+            → StopsLine I.Listed files.now self.old self.new line.now fault) }
+        ensures sends { IfErr result (λ fault. IsNotOutput fault
+            → Keeps (O.seen out.old).contents (O.seen out.new).contents) }
         ensures refuses_none { OnOk result ((O.seen out.new).refusals ≡ (O.seen out.old).refusals) }
         ensures output { IsErrOf result RunFault.Output
             → HasRefused (O.seen out.old) (O.seen out.new) }
         ensures flushed { IfErr result (λ fault. IsNotOutput fault
             → IsTrue (O.seen out.new).is_flushed
             ⊎ HasRefused (O.seen out.old) (O.seen out.new)) }
-        ensures begins { OnOk result (Begins I.Listed self.old self.new
-            (AcceptsLine self.old.limits files.now self.old.book line.now)) }
-        ensures only { BeginsOnly I.Listed self.old self.new
-            (AcceptsLine self.old.limits files.now self.old.book line.now) }
-        ensures pages { KeepsPages I.Listed self.old self.new }
     {
         match self.answer(alloc, line, files) {
             Ok(text) => send(out, text.as_slice()),

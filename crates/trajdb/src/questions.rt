@@ -36,22 +36,22 @@ fn holding(
 }
 
 impl<I: Start> Core<I> {
-    ghost use Rattle.std.specs.Prelude.{◌≡◌, ◌↔◌, ◌≤◌, ◌<◌, All, IsTrue, IfOk, IfErr, OnOk, Ok, Some, length, map};
+    ghost use Rattle.std.specs.Prelude.{◌≡◌, ◌↔◌, ◌≤◌, ◌<◌, All, IsTrue, IfOk, IfErr, None, Some, length, map};
     ghost use Rattle.std.specs.List.{range_with_len};
     ghost use Rattle.legs.specs.Boxes.{box_over, everything};
     ghost use Rattle.legs.specs.Index.{legs_in_box, legs_of, live_legs_of};
     ghost use Rattle.legs.specs.Limits.{greatest_limit};
     ghost use Rattle.legs.specs.Book.{feature_named};
     ghost use Rattle.trajdb.specs.Picks.{Picks};
-    ghost use Rattle.trajdb.specs.Answers.{HoldsOfFeature, HoldsOfLeg, IsFeaturesAnswer, IsLegsAnswer, book_frame, named_leg_of, file_answer, legs_text, feature_name, names_text, track_of, write_text};
+    ghost use Rattle.trajdb.specs.Answers.{HoldsOfFeature, HoldsOfLeg, book_frame, named_leg_of, file_answer, legs_text, feature_name, names_text, track_of};
     ghost use Rattle.legs.specs.Costs.{search_cost};
     ghost use Rattle.predicates.specs.Near.{box_near};
     ghost use Rattle.legs.specs.Law.{IsThere};
-    ghost use Rattle.legs.specs.Questions.{InBox};
+    ghost use Rattle.legs.specs.Questions.{InBox, OfFeature};
     ghost use Rattle.legs.specs.Sieves.{IsSieved};
-    ghost use Rattle.trajdb.specs.Database.{IsSound};
-    ghost use Rattle.trajdb.specs.Telling.{ArePickedOf, AreSievedLive, AreToldOf, DeniesLegs, DeniesTrack, HoldsLive, IsToldFeatures, IsToldFile, IsToldLegs, IsToldPicks, IsToldTrack, Names, PicksLive};
-    ghost use Rattle.trajdb.specs.Calls.{IsText, IsRefused, LeavesBook, Asks, AsksAtMost, feature_bound, features_bound, track_asks, write_asks};
+    ghost use Rattle.trajdb.specs.Telling.{ArePickedOf, AreSievedLive, AreToldOf, DeniesNamed, DeniesSome, HoldsLive, MakingCall, Names, PicksLive, QuestionCall, TextCall};
+    ghost use Rattle.trajdb.specs.Calls.{IsText, Asks, AsksAtMost, feature_bound, features_bound, track_asks};
+    ghost use Rattle.querylang.specs.declared.Command.{Command};
 
     /// How legs are written.
     fn frame(&self) -> Frame
@@ -74,9 +74,8 @@ impl<I: Start> Core<I> {
 
     /// The name of a feature.
     fn name(&self, feature: u32) -> Result<&str, RunFault>
-        ensures name { IfOk result (λ name. name.now ≡ feature_name self.now.book feature) }
-        ensures there { OnOk result (feature < length self.now.book.names) }
-        ensures fault { IfErr result (IsText (feature < length self.now.book.names)) }
+        ensures { MakingCall result (λ name. name.now ≡ feature_name self.now.book feature)
+            (feature < length self.now.book.names) }
     {
         match self.tracks.name(feature) {
             Some(name) => Ok(name),
@@ -86,9 +85,8 @@ impl<I: Start> Core<I> {
 
     /// A leg with the name of its feature and the attribute values of its record.
     fn entry<'a>(&'a self, leg: &'a Leg) -> Result<Entry<'a>, RunFault>
-        ensures entry { IfOk result (λ entry. entry ≡ named_leg_of self.now.book leg.now) }
-        ensures there { OnOk result (IsThere self.now.book leg.now) }
-        ensures fault { IfErr result (IsText (IsThere self.now.book leg.now)) }
+        ensures { MakingCall result (λ entry. entry ≡ named_leg_of self.now.book leg.now)
+            (IsThere self.now.book leg.now) }
     {
         let name = self.name(leg.feature)?;
         let Some(values) = self.rows.row(leg.row as usize) else {
@@ -99,9 +97,8 @@ impl<I: Start> Core<I> {
 
     /// The answer of legs.
     pub(crate) fn legs_text(&self, alloc: Global, legs: &[Leg]) -> Result<Vec<u8>, RunFault>
-        ensures text { IfOk result (λ text. text.items ≡ legs_text self.now.book legs.now) }
-        ensures there { OnOk result (All (IsThere self.now.book) legs.now) }
-        ensures fault { IfErr result (IsText (All (IsThere self.now.book) legs.now)) }
+        ensures { MakingCall result (λ text. text.items ≡ legs_text self.now.book legs.now)
+            (All (IsThere self.now.book) legs.now) }
     {
         let entries = self.entries(alloc, legs)?;
         let mut text = ok_text(alloc, legs.len() as u64)?;
@@ -111,32 +108,26 @@ impl<I: Start> Core<I> {
 
     /// The legs whose box meets the box over a rectangle and a period.
     pub(crate) fn legs_in(&mut self, rect: &Rect, period: &Period) -> Result<Vec<Leg>, RunFault>
-        ensures found { IfOk result (λ legs. IsSound I.Listed self.old
-            → legs.items ≡ legs_in_box (box_over rect.now period.now) self.old.book.legs) }
-        ensures says { IfOk result (λ legs. I.tells self.old.index
-            (InBox (box_over rect.now period.now)) legs.items) }
-        ensures named { IfErr result (Names I.Listed self.old
-            (λ page. I.denies self.old.index (InBox (box_over rect.now period.now)) page)) }
-        ensures asks { OnOk result (Asks I.Listed self.old self.new (search_cost
-            (box_over rect.now period.now))) }
-        ensures leaves { LeavesBook I.Listed self.old self.new }
-        ensures refused { IfErr result (IsRefused I.Listed self.old self.new) }
+        ensures { QuestionCall I.Listed self.old self.new result
+            (λ legs. legs.items ≡ legs_in_box (box_over rect.now period.now) self.old.book.legs)
+            (λ legs. I.tells self.old.index (InBox (box_over rect.now period.now)) legs.items)
+            (Names I.Listed self.old (λ page. I.denies self.old.index
+            (InBox (box_over rect.now period.now)) page))
+            (Asks I.Listed self.old self.new (search_cost (box_over rect.now period.now))) }
     {
         Ok(self.index.search(&Box3::new(rect, period))?)
     }
 
     /// The legs of the feature of a name.
     pub(crate) fn legs_of(&mut self, alloc: Global, name: &str) -> Result<Vec<Leg>, RunFault>
-        ensures found { IfOk result (λ legs. IsSound I.Listed self.old
-            → legs.items ≡ track_of (feature_named self.old.book.names name.now) self.old.book.legs) }
-        ensures says { IfOk result (λ legs. length self.old.book.names ≤ greatest_limit
-            → AreToldOf I.Listed self.old (feature_named self.old.book.names name.now) legs.items) }
-        ensures named { IfErr result (Names I.Listed self.old
-            (DeniesTrack I.Listed self.old None)) }
-        ensures asks { OnOk result (Asks I.Listed self.old self.new (track_asks (feature_named
-            self.old.book.names name.now))) }
-        ensures leaves { LeavesBook I.Listed self.old self.new }
-        ensures refused { IfErr result (IsRefused I.Listed self.old self.new) }
+        ensures { QuestionCall I.Listed self.old self.new result
+            (λ legs. legs.items
+            ≡ track_of (feature_named self.old.book.names name.now) self.old.book.legs)
+            (λ legs. length self.old.book.names ≤ greatest_limit → AreToldOf I.Listed self.old
+            (feature_named self.old.book.names name.now) legs.items)
+            (Names I.Listed self.old (DeniesNamed I.Listed self.old name.now))
+            (Asks I.Listed self.old self.new
+            (track_asks (feature_named self.old.book.names name.now))) }
     {
         match self.tracks.feature(name) {
             Some(feature) => Ok(self.index.track(feature)?),
@@ -152,16 +143,13 @@ impl<I: Start> Core<I> {
         rect: &Rect,
         period: &Period,
     ) -> Result<Vec<Leg>, RunFault>
-        ensures found { IfOk result (λ legs. IsSound I.Listed self.old
-            → Picks (HoldsOfLeg predicate rect.now period.now) self.old.book.legs legs.items) }
-        ensures says { IfOk result (λ legs. ArePickedOf I.Listed self.old predicate
-            rect.now period.now legs.items) }
-        ensures named { IfErr result (Names I.Listed self.old
-            (λ page. I.denies self.old.index (InBox (box_near predicate rect.now period.now)) page)) }
-        ensures asks { OnOk result (Asks I.Listed self.old self.new (search_cost
-            (box_near predicate rect.now period.now))) }
-        ensures leaves { LeavesBook I.Listed self.old self.new }
-        ensures refused { IfErr result (IsRefused I.Listed self.old self.new) }
+        ensures { QuestionCall I.Listed self.old self.new result
+            (λ legs. Picks (HoldsOfLeg predicate rect.now period.now) self.old.book.legs legs.items)
+            (λ legs. ArePickedOf I.Listed self.old predicate rect.now period.now legs.items)
+            (Names I.Listed self.old (λ page. I.denies self.old.index
+            (InBox (box_near predicate rect.now period.now)) page))
+            (Asks I.Listed self.old self.new
+            (search_cost (box_near predicate rect.now period.now))) }
     {
         let near = self.index.search(&search_box(predicate, rect, period))?;
         Ok(holding(alloc, near.as_slice(), predicate, rect, period)?)
@@ -176,17 +164,14 @@ impl<I: Start> Core<I> {
         period: &Period,
         sieve: &Sieve,
     ) -> Result<Vec<Leg>, RunFault>
-        ensures found { IfOk result (λ legs. IsSound I.Listed self.old
-            → IsSieved sieve.now period.now
-            (live_legs_of feature period.now self.old.book.legs) legs.items) }
-        ensures says { IfOk result (λ legs. AreSievedLive I.Listed self.old
-            sieve.now period.now feature legs.items) }
-        ensures named { IfErr result (Names I.Listed self.old
-            (DeniesTrack I.Listed self.old (Some period.now))) }
-        ensures asks { OnOk result (feature < length self.old.book.names
+        ensures { QuestionCall I.Listed self.old self.new result
+            (λ legs. IsSieved sieve.now period.now
+            (live_legs_of feature period.now self.old.book.legs) legs.items)
+            (λ legs. AreSievedLive I.Listed self.old sieve.now period.now feature legs.items)
+            (Names I.Listed self.old (λ page. I.denies self.old.index
+            (OfFeature feature (Some period.now)) page))
+            (feature < length self.old.book.names
             → AsksAtMost I.Listed self.old self.new (feature_bound feature period.now)) }
-        ensures leaves { LeavesBook I.Listed self.old self.new }
-        ensures refused { IfErr result (IsRefused I.Listed self.old self.new) }
     {
         if self.tracks.is_over(feature, period) {
             return Ok(Vec::new(alloc));
@@ -203,17 +188,14 @@ impl<I: Start> Core<I> {
         rect: &Rect,
         period: &Period,
     ) -> Result<bool, RunFault>
-        ensures holds { IfOk result (λ yes. IsSound I.Listed self.old
-            → IsTrue yes ↔ HoldsOfFeature predicate rect.now period.now
-            self.old.book.legs feature) }
-        ensures says { IfOk result (λ yes. HoldsLive I.Listed self.old predicate
-            rect.now period.now feature (IsTrue yes)) }
-        ensures named { IfErr result (Names I.Listed self.old
-            (DeniesTrack I.Listed self.old (Some period.now))) }
-        ensures asks { OnOk result (feature < length self.old.book.names
+        ensures { QuestionCall I.Listed self.old self.new result
+            (λ yes. IsTrue yes
+            ↔ HoldsOfFeature predicate rect.now period.now self.old.book.legs feature)
+            (λ yes. HoldsLive I.Listed self.old predicate rect.now period.now feature (IsTrue yes))
+            (Names I.Listed self.old (λ page. I.denies self.old.index
+            (OfFeature feature (Some period.now)) page))
+            (feature < length self.old.book.names
             → AsksAtMost I.Listed self.old self.new (feature_bound feature period.now)) }
-        ensures leaves { LeavesBook I.Listed self.old self.new }
-        ensures refused { IfErr result (IsRefused I.Listed self.old self.new) }
     {
         let wanted = sieve(predicate, rect);
         let legs = self.live_legs(alloc, feature, period, &wanted)?;
@@ -235,18 +217,15 @@ impl<I: Start> Core<I> {
         rect: &Rect,
         period: &Period,
     ) -> Result<Vec<u32>, RunFault>
-        ensures found { IfOk result (λ features. IsSound I.Listed self.old
-            → Picks (HoldsOfFeature predicate rect.now period.now self.old.book.legs)
-            (range_with_len 0 (length self.old.book.names)) features.items) }
-        ensures says { IfOk result (λ features. length self.old.book.names ≤ greatest_limit
+        ensures { QuestionCall I.Listed self.old self.new result
+            (λ features. Picks (HoldsOfFeature predicate rect.now period.now self.old.book.legs)
+            (range_with_len 0 (length self.old.book.names)) features.items)
+            (λ features. length self.old.book.names ≤ greatest_limit
             → PicksLive I.Listed self.old predicate rect.now period.now
-            (range_with_len 0 (length self.old.book.names)) features.items) }
-        ensures named { IfErr result (Names I.Listed self.old
-            (DeniesTrack I.Listed self.old (Some period.now))) }
-        ensures asks { OnOk result (AsksAtMost I.Listed self.old self.new (features_bound
-            (range_with_len 0 (length self.old.book.names)) period.now)) }
-        ensures leaves { LeavesBook I.Listed self.old self.new }
-        ensures refused { IfErr result (IsRefused I.Listed self.old self.new) }
+            (range_with_len 0 (length self.old.book.names)) features.items)
+            (Names I.Listed self.old (DeniesSome I.Listed self.old period.now))
+            (AsksAtMost I.Listed self.old self.new
+            (features_bound (range_with_len 0 (length self.old.book.names)) period.now)) }
     {
         let mut features = Vec::new(alloc);
         for feature in 0..self.feature_count() {
@@ -284,10 +263,9 @@ impl<I: Start> Core<I> {
     }
 
     fn entries<'a>(&'a self, alloc: Global, legs: &'a [Leg]) -> Result<Vec<Entry<'a>>, RunFault>
-        ensures entries { IfOk result (λ entries. entries.items ≡ map (named_leg_of
-            self.now.book) legs.now) }
-        ensures there { OnOk result (All (IsThere self.now.book) legs.now) }
-        ensures fault { IfErr result (IsText (All (IsThere self.now.book) legs.now)) }
+        ensures { MakingCall result
+            (λ entries. entries.items ≡ map (named_leg_of self.now.book) legs.now)
+            (All (IsThere self.now.book) legs.now) }
     {
         let mut entries = Vec::with_capacity(alloc, legs.len())?;
         for leg in legs {
@@ -298,10 +276,9 @@ impl<I: Start> Core<I> {
 
     /// The answer of legs as a file.
     fn file_text(&self, alloc: Global, head: &BookHead, legs: &[Leg]) -> Result<Vec<u8>, RunFault>
-        ensures text { IfOk result (λ text. text.items ≡ file_answer
-            self.now.book head.now legs.now) }
-        ensures there { OnOk result (All (IsThere self.now.book) legs.now) }
-        ensures fault { IfErr result (IsText (All (IsThere self.now.book) legs.now)) }
+        ensures { MakingCall result
+            (λ text. text.items ≡ file_answer self.now.book head.now legs.now)
+            (All (IsThere self.now.book) legs.now) }
     {
         let entries = self.entries(alloc, legs)?;
         let mut text = ok_text(alloc, (legs.len() as u64).saturating_add(2))?;
@@ -311,30 +288,18 @@ impl<I: Start> Core<I> {
 
     /// All legs.
     fn all_legs(&mut self) -> Result<Vec<Leg>, RunFault>
-        ensures found { IfOk result (λ legs. IsSound I.Listed self.old
-            → legs.items ≡ self.old.book.legs) }
-        ensures says { IfOk result (λ legs. I.tells self.old.index (InBox everything) legs.items) }
-        ensures named { IfErr result (Names I.Listed self.old
-            (λ page. I.denies self.old.index (InBox everything) page)) }
-        ensures asks { OnOk result (Asks I.Listed self.old self.new (search_cost everything)) }
-        ensures leaves { LeavesBook I.Listed self.old self.new }
-        ensures refused { IfErr result (IsRefused I.Listed self.old self.new) }
+        ensures { QuestionCall I.Listed self.old self.new result
+            (λ legs. legs.items ≡ self.old.book.legs)
+            (λ legs. I.tells self.old.index (InBox everything) legs.items)
+            (Names I.Listed self.old (λ page. I.denies self.old.index (InBox everything) page))
+            (Asks I.Listed self.old self.new (search_cost everything)) }
     {
         Ok(self.index.search(&Box3::everything())?)
     }
 
     /// The answer to `write`; it asks for nothing where there is no head.
     pub(crate) fn write_text(&mut self, alloc: Global) -> Result<Vec<u8>, RunFault>
-        ensures text { IfOk result (λ text. IsSound I.Listed self.old
-            → text.items ≡ write_text self.old.book.head self.old.book) }
-        ensures says { IfOk result
-            (λ text. IsToldFile I.Listed self.old self.old.book.head text.items) }
-        ensures named { IfErr result (Names I.Listed self.old
-            (DeniesLegs I.Listed self.old (InBox everything))) }
-        ensures asks { OnOk result (Asks I.Listed self.old self.new
-            (write_asks self.old.book.head)) }
-        ensures leaves { LeavesBook I.Listed self.old self.new }
-        ensures refused { IfErr result (IsRefused I.Listed self.old self.new) }
+        ensures { TextCall I.Listed self.old self.new Command.Write result }
     {
         if self.head.is_none() {
             return Ok(refusal_text(alloc, "Q10")?);
@@ -353,17 +318,7 @@ impl<I: Start> Core<I> {
         rect: &Rect,
         period: &Period,
     ) -> Result<Vec<u8>, RunFault>
-        ensures text { IfOk result (λ text. IsSound I.Listed self.old
-            → text.items ≡ legs_text self.old.book (legs_in_box (box_over rect.now period.now)
-            self.old.book.legs)) }
-        ensures says { IfOk result (λ text. IsToldLegs I.Listed self.old
-            (InBox (box_over rect.now period.now)) text.items) }
-        ensures named { IfErr result (Names I.Listed self.old
-            (DeniesLegs I.Listed self.old (InBox (box_over rect.now period.now)))) }
-        ensures asks { OnOk result (Asks I.Listed self.old self.new (search_cost
-            (box_over rect.now period.now))) }
-        ensures leaves { LeavesBook I.Listed self.old self.new }
-        ensures refused { IfErr result (IsRefused I.Listed self.old self.new) }
+        ensures { TextCall I.Listed self.old self.new (Command.Box rect.now period.now) result }
     {
         let legs = self.legs_in(rect, period)?;
         self.legs_text(alloc, legs.as_slice())
@@ -371,17 +326,7 @@ impl<I: Start> Core<I> {
 
     /// The answer to `trajectory`.
     pub(crate) fn track_text(&mut self, alloc: Global, name: &str) -> Result<Vec<u8>, RunFault>
-        ensures text { IfOk result (λ text. IsSound I.Listed self.old
-            → text.items ≡ legs_text self.old.book (track_of (feature_named
-            self.old.book.names name.now) self.old.book.legs)) }
-        ensures says { IfOk result (λ text. length self.old.book.names ≤ greatest_limit
-            → IsToldTrack I.Listed self.old (feature_named self.old.book.names name.now) text.items) }
-        ensures named { IfErr result (Names I.Listed self.old
-            (DeniesTrack I.Listed self.old None)) }
-        ensures asks { OnOk result (Asks I.Listed self.old self.new (track_asks (feature_named
-            self.old.book.names name.now))) }
-        ensures leaves { LeavesBook I.Listed self.old self.new }
-        ensures refused { IfErr result (IsRefused I.Listed self.old self.new) }
+        ensures { TextCall I.Listed self.old self.new (Command.Trajectory name.now) result }
     {
         let legs = self.legs_of(alloc, name)?;
         self.legs_text(alloc, legs.as_slice())
@@ -395,16 +340,7 @@ impl<I: Start> Core<I> {
         rect: &Rect,
         period: &Period,
     ) -> Result<Vec<u8>, RunFault>
-        ensures text { IfOk result (λ text. IsSound I.Listed self.old
-            → IsLegsAnswer self.old.book predicate rect.now period.now text.items) }
-        ensures says { IfOk result (λ text. IsToldPicks I.Listed self.old predicate
-            rect.now period.now text.items) }
-        ensures named { IfErr result (Names I.Listed self.old
-            (DeniesLegs I.Listed self.old (InBox (box_near predicate rect.now period.now)))) }
-        ensures asks { OnOk result (Asks I.Listed self.old self.new (search_cost
-            (box_near predicate rect.now period.now))) }
-        ensures leaves { LeavesBook I.Listed self.old self.new }
-        ensures refused { IfErr result (IsRefused I.Listed self.old self.new) }
+        ensures { TextCall I.Listed self.old self.new (Command.Legs predicate rect.now period.now) result }
     {
         let legs = self.legs_for(alloc, predicate, rect, period)?;
         self.legs_text(alloc, legs.as_slice())
@@ -418,16 +354,7 @@ impl<I: Start> Core<I> {
         rect: &Rect,
         period: &Period,
     ) -> Result<Vec<u8>, RunFault>
-        ensures text { IfOk result (λ text. IsSound I.Listed self.old
-            → IsFeaturesAnswer self.old.book predicate rect.now period.now text.items) }
-        ensures says { IfOk result (λ text. length self.old.book.names ≤ greatest_limit
-            → IsToldFeatures I.Listed self.old predicate rect.now period.now text.items) }
-        ensures named { IfErr result (Names I.Listed self.old
-            (DeniesTrack I.Listed self.old (Some period.now))) }
-        ensures asks { OnOk result (AsksAtMost I.Listed self.old self.new
-            (features_bound (range_with_len 0 (length self.old.book.names)) period.now)) }
-        ensures leaves { LeavesBook I.Listed self.old self.new }
-        ensures refused { IfErr result (IsRefused I.Listed self.old self.new) }
+        ensures { TextCall I.Listed self.old self.new (Command.Features predicate rect.now period.now) result }
     {
         let features = self.features_for(alloc, predicate, rect, period)?;
         self.names_text(alloc, features.as_slice())

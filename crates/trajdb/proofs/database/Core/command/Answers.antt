@@ -1,4 +1,5 @@
 use Rattle.std.proofs.Common.{rules}
+use Rattle.trajdb.proofs.PageLemmas.{keeps_leaves}
 use Rattle.trajdb.proofs.database.Core.command.Goals as goal
 
 pub returns-in-Some : goal.returns-in-Some
@@ -23,7 +24,7 @@ returns-in-Some g c = record {
 
 pub returns-in-Features : goal.returns-in-Features
 returns-in-Features g c = rw (c.in-Features.is) (record {
-  text = c.features_text.ensures.text;
+  text = c.features_text.ensures.found;
   becomes = search rules;
   lives = search rules;
   says = c.features_text.ensures.says;
@@ -37,13 +38,13 @@ returns-in-Features g c = rw (c.in-Features.is) (record {
   stopped = search rules;
   begins = search rules;
   only = search rules;
-  pages = search rules;
+  pages = keeps_leaves g.I.Listed c.args.self.now c.features_text.new.self c.features_text.ensures.leaves;
   was_failed = search rules;
 })
 
 pub returns-in-Trajectory : goal.returns-in-Trajectory
 returns-in-Trajectory g c = rw (c.in-Trajectory.is, ← c.as_str-in-Trajectory.ensures) (record {
-  text = c.track_text.ensures.text;
+  text = c.track_text.ensures.found;
   becomes = search rules;
   lives = search rules;
   says = c.track_text.ensures.says;
@@ -57,6 +58,6 @@ returns-in-Trajectory g c = rw (c.in-Trajectory.is, ← c.as_str-in-Trajectory.e
   stopped = search rules;
   begins = search rules;
   only = search rules;
-  pages = search rules;
+  pages = keeps_leaves g.I.Listed c.args.self.now c.track_text.new.self c.track_text.ensures.leaves;
   was_failed = search rules;
 })

@@ -13,6 +13,6 @@ loop-leg-preserved g c =
     let leg = c.leg-item.result in
     let t = c.loop-leg-test.true in
     record {
-      entries = map_more (named_leg_of book) legs i leg c.in_ok-entry.field-0 c.loop-leg.entries.items c.push.new.self.items (omega (arith, t)) c.leg-item.is c.loop-leg.invariant.entries c.in_ok-push.ensures.items c.in_ok-entry.ensures.entry;
+      entries = map_more (named_leg_of book) legs i leg c.in_ok-entry.field-0 c.loop-leg.entries.items c.push.new.self.items (omega (arith, t)) c.leg-item.is c.loop-leg.invariant.entries c.in_ok-push.ensures.items c.in_ok-entry.ensures.made;
       there = All-more (IsThere book) legs i leg (omega (arith, t)) c.loop-leg.invariant.there (subst (IsThere book) c.leg-item.is c.in_ok-entry.ensures.there);
     }

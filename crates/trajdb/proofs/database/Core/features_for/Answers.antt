@@ -1,4 +1,4 @@
-use Rattle.std.proofs.Common.{ℕ, ◌≡◌, ◌∙◌, ◌+◌, ◌-◌, ◌<◌, ◌≤◌, List, sym, subst, ap, length, arith, refl, false, IsTrue, Some}
+use Rattle.std.proofs.Common.{ℕ, ◌≡◌, ◌∙◌, ◌+◌, ◌-◌, ◌<◌, ◌≤◌, List, [], sym, subst, ap, length, arith, refl, rules, false, IsTrue}
 use Rattle.std.specs.List.{range_with_len}
 use Rattle.legs.specs.Legs.{LegView}
 use Rattle.legs.specs.Book.{Book}
@@ -56,7 +56,7 @@ loop-feature-preserved g c = record {
       let so_far = subst (λ (l : List ℕ). IsPicking P all l c.loop-feature.features.items) (range_more c.loop-feature.feature (length book.names) less) (c.loop-feature.invariant.picked s) in
       let holds = subst (λ (legs : List LegView). (IsTrue c.in_ok-holds_for.field-0 → HoldsOfFeature c.args.predicate c.args.rect.now c.args.period.now legs c.loop-feature.feature)
       × (HoldsOfFeature c.args.predicate c.args.rect.now c.args.period.now legs c.loop-feature.feature → IsTrue c.in_ok-holds_for.field-0))
-      (ap (λ (b : Book). b.legs) c.loop-feature.invariant.leaves.book) (c.in_ok-holds_for.ensures.holds (c.loop-feature.invariant.leaves.sound s)) in
+      (ap (λ (b : Book). b.legs) c.loop-feature.invariant.leaves.book) (c.in_ok-holds_for.ensures.found (c.loop-feature.invariant.leaves.sound s)) in
       elim c.if-branch.branch [
         | then-branch+in_ok-push w ↦
             subst (λ (l : List ℕ). IsPicking P all others l) (sym (ap (λ v. v.items) w.features-is ∙ w.in_ok-push.ensures.items)) (picking-yes P all others c.loop-feature.features.items c.loop-feature.feature so_far (holds.0 w.if-branch.true))
@@ -88,26 +88,40 @@ loop-feature-preserved g c = record {
       ];
 }
 
-pub returns-clause-found : goal.returns-clause-found
-returns-clause-found g c = λ s.
-    let book = c.args.self.now.book in
-    let P : ℕ → Type 0 = HoldsOfFeature c.args.predicate c.args.rect.now c.args.period.now book.legs in
-    let few : length book.names ≤ 2147483648 = s.tracks.lawful.few_names in
-    let count = c.feature_count-feature-end.ensures few in
-    let over = c.loop-feature-test.false in
-    picking-end P (range_with_len 0 (length book.names)) c.loop-feature.features.items
-    (subst (λ (l : List ℕ). IsPicking P (range_with_len 0 (length book.names)) l c.loop-feature.features.items) (range_none c.loop-feature.feature (length book.names) (omega (arith, count, over))) (c.loop-feature.invariant.picked s))
-
-pub returns-clause-says : goal.returns-clause-says
-returns-clause-says g c = λ few.
+pub returns : goal.returns
+returns g c =
     let old = c.args.self.now in
-    let L = IsPickingLive g.I.Listed old c.args.predicate c.args.rect.now c.args.period.now (range_with_len 0 (length old.book.names)) in
-    let count = c.feature_count-feature-end.ensures few in
+    let book = old.book in
+    let all : List ℕ = range_with_len 0 (length book.names) in
+    let P : ℕ → Type 0 = HoldsOfFeature c.args.predicate c.args.rect.now c.args.period.now book.legs in
+    let L = IsPickingLive g.I.Listed old c.args.predicate c.args.rect.now c.args.period.now all in
     let over = c.loop-feature-test.false in
-    live_end g.I.Listed old c.args.predicate c.args.rect.now c.args.period.now (range_with_len 0 (length old.book.names)) c.loop-feature.features.items
-    (subst (λ (l : List ℕ). L l c.loop-feature.features.items) (range_none c.loop-feature.feature (length old.book.names) (omega (arith, count, over))) (c.loop-feature.invariant.live few))
+    let none : length book.names ≤ 2147483648 → range_with_len c.loop-feature.feature (length book.names - c.loop-feature.feature) ≡ [] =
+    λ few. let count = c.feature_count-feature-end.ensures few in range_none c.loop-feature.feature (length book.names) (omega (arith, count, over)) in
+    record {
+      found = λ s.
+          picking-end P all c.loop-feature.features.items (subst (λ (l : List ℕ). IsPicking P all l c.loop-feature.features.items) (none s.tracks.lawful.few_names) (c.loop-feature.invariant.picked s));
+      says = λ few.
+          live_end g.I.Listed old c.args.predicate c.args.rect.now c.args.period.now all c.loop-feature.features.items
+          (subst (λ (l : List ℕ). L l c.loop-feature.features.items) (none few) (c.loop-feature.invariant.live few));
+      named = tt;
+      asks = search rules;
+      leaves = c.loop-feature.invariant.leaves;
+      refused = tt;
+    }
 
-pub returns-in_err-holds_for-clause-named : goal.returns-in_err-holds_for-clause-named
-returns-in_err-holds_for-clause-named g c =
+pub returns-in_err-holds_for : goal.returns-in_err-holds_for
+returns-in_err-holds_for g c =
     let p = err_from_is_err_and c.from_residual.result c.from_residual.ensures.1 in
-    rw (p.1, p.2) (names_before g.I.Listed c.args.self.now c.loop-feature.self c.loop-feature.invariant.leaves (Some c.args.period.now) _ c.in_err-holds_for.ensures.named)
+    let leaves = c.loop-feature.invariant.leaves in
+    let test = c.loop-feature-test.true in
+    let there : length c.args.self.now.book.names ≤ 2147483648 → c.loop-feature.feature < length c.args.self.now.book.names =
+    λ few. let count = c.feature_count-feature-end.ensures few in omega (arith, count, test) in
+    record {
+      found = search rules;
+      says = search rules;
+      named = rw (p.1, p.2) (names_before g.I.Listed c.args.self.now c.loop-feature.self leaves c.args.period.now c.loop-feature.feature there _ c.in_err-holds_for.ensures.named);
+      asks = search rules;
+      leaves = leaves-trans g.I.Listed c.args.self.now c.loop-feature.self c.holds_for.new.self leaves c.in_err-holds_for.ensures.leaves;
+      refused = search rules;
+    }

@@ -1,22 +1,20 @@
-use Rattle.std.proofs.Common.{◌<◌, ◌∙◌, All, length, Some}
-use Rattle.std.proofs.lemmas.Result.{IfErr-weaker, IfOk-weaker}
-use Rattle.trajdb.proofs.TellingLemmas.{shown_names, track_names}
-use Rattle.trajdb.specs.Answers.{HoldsOfFeature}
-use Rattle.trajdb.proofs.FaultLemmas.{text_refused, features_there}
+use Rattle.std.proofs.Common.{◌<◌, ◌≡◌, ◌∙◌, All, length, ℕ}
+use Rattle.std.specs.Global.{Vec}
+use Rattle.trajdb.specs.Answers.{HoldsOfFeature, names_text}
+use Rattle.trajdb.proofs.FaultLemmas.{features_there}
+use Rattle.trajdb.proofs.TellingLemmas.{shown_call, shown_names, some_names, where_ok}
 use Rattle.trajdb.proofs.database.Core.features_text.Goals as goal
 
-pub returns-clause-refused : goal.returns-clause-refused
-returns-clause-refused g c =
-    IfErr-weaker c.names_text.result _ _ (λ fault text.
-    text_refused g.I.Listed c.args.self.now c.features_for.new.self (All (λ feature. feature < length c.features_for.new.self.book.names) c.as_slice.result.now) fault text (λ sound.
-    features_there c.args.self.now.book c.features_for.new.self.book (HoldsOfFeature c.args.predicate c.args.rect.now c.args.period.now c.args.self.now.book.legs) c.as_slice.result.now c.in_ok-features.features.items
-    c.in_ok-features.ensures.leaves.book c.as_slice.ensures.value (c.in_ok-features.ensures.found sound))) c.names_text.ensures.fault
-
-pub returns-clause-says : goal.returns-clause-says
-returns-clause-says g c =
-    IfOk-weaker c.names_text.result _ _ (λ text h few. (c.in_ok-features.features.items, c.in_ok-features.ensures.says few, h ∙ shown_names c.args.self.now.book c.features_for.new.self.book c.as_slice.result.now c.in_ok-features.features.items c.in_ok-features.ensures.leaves.book c.as_slice.ensures.value)) c.names_text.ensures.text
-
-pub returns-clause-named : goal.returns-clause-named
-returns-clause-named g c =
-    IfErr-weaker c.names_text.result _ _ (λ fault text.
-    track_names g.I.Listed c.args.self.now (All (λ feature. feature < length c.features_for.new.self.book.names) c.as_slice.result.now) (Some c.args.period.now) fault text) c.names_text.ensures.fault
+pub returns : goal.returns
+returns g c =
+    let old = c.args.self.now in
+    let now = c.features_for.new.self in
+    let features = c.in_ok-features.features.items in
+    let book = c.in_ok-features.ensures.leaves.book in
+    let same = c.as_slice.ensures.value in
+    let text_is = shown_names old.book now.book c.as_slice.result.now features book same in
+    shown_call g.I.Listed old now c.in_ok-features.features c.names_text.result (λ (text : Vec ℕ). text.items ≡ names_text now.book c.as_slice.result.now)
+    (All (λ feature. feature < length now.book.names) c.as_slice.result.now) (Unit {0}) _ _ _ _ _ _ _ c.in_ok-features.ensures c.names_text.ensures.text (where_ok c.names_text.result (Unit {0}) tt)
+    c.names_text.ensures.fault (λ text made right. (features, right, made ∙ text_is)) (λ text made there told few. (features, told few, made ∙ text_is))
+    (λ fault text. some_names g.I.Listed old _ c.args.period.now fault text)
+    (λ sound right. features_there old.book now.book (HoldsOfFeature c.args.predicate c.args.rect.now c.args.period.now old.book.legs) c.as_slice.result.now features book same right)
