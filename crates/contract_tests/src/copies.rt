@@ -8,9 +8,9 @@ use sessions::{Fault, Folder};
 ///
 /// Wrong bodies: the name is given before the disk has the pages.
 pub fn give<'a, F: Folder>(folder: &mut F, mut store: F::Store) -> Result<(), Fault<'a>>
-    requires { IsTrue (F.has_copy folder.old) }
-    ensures { OnOk result (IsReplaced (F.Store.PageStore.seen store) (F.held folder.old)
-        (F.held folder.new)) }
+    requires { IsTrue (F.seen folder.old).has_copy }
+    ensures { OnOk result (IsReplaced (F.Store.PageStore.seen store) (F.seen folder.old)
+        (F.seen folder.new)) }
 {
     folder.sync(&mut store)?;
     match folder.replace(store) {

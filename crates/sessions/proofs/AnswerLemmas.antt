@@ -42,7 +42,7 @@ answered old new s files sent sent' lines (Ok x) runs sound keeps idle limits pl
 answered old new s files sent sent' lines (Err e) runs sound keeps idle limits plan holds = tt
 
 -- what was sent of a run that was done, and whose database was then not closed
-pub front_done : (limits : LimitsView) (book new : Book) (files : List (List ℕ × List ℕ)) (sent sent' : Option (List ℕ)) (lines : List (List ℕ)) → HasRun limits files sent sent' book new lines → SendsFront limits book files sent sent' lines
+abbrev pub front_done : (limits : LimitsView) (book new : Book) (files : List (List ℕ × List ℕ)) (sent sent' : Option (List ℕ)) (lines : List (List ℕ)) → HasRun limits files sent sent' book new lines → SendsFront limits book files sent sent' lines
 front_done limits book new files sent sent' lines r = record {
   front = r.text;
   sends = r.sends;
@@ -53,11 +53,11 @@ front_done limits book new files sent sent' lines r = record {
 }
 
 -- of one that stopped at a line
-pub front_stopped : (limits : LimitsView) (book new : Book) (files : List (List ℕ × List ℕ)) (sent sent' : Option (List ℕ)) (lines : List (List ℕ)) (failed : Bool) (k : ℕ) → HasStopped limits files sent sent' book new failed lines k → SendsFront limits book files sent sent' lines
+abbrev pub front_stopped : (limits : LimitsView) (book new : Book) (files : List (List ℕ × List ℕ)) (sent sent' : Option (List ℕ)) (lines : List (List ℕ)) (failed : Bool) (k : ℕ) → HasStopped limits files sent sent' book new failed lines k → SendsFront limits book files sent sent' lines
 front_stopped limits book new files sent sent' lines failed k s = record { front = s.text; sends = s.sends; done = k; text = s.text; answers = s.answers; is_front = ([], sym (append-nil s.text)) }
 
 -- of one whose output failed
-pub front_cut : (limits : LimitsView) (book new : Book) (files : List (List ℕ × List ℕ)) (sent sent' : Option (List ℕ)) (lines : List (List ℕ)) (k : ℕ) → HasCutRun limits files sent sent' book new lines k → SendsFront limits book files sent sent' lines
+abbrev pub front_cut : (limits : LimitsView) (book new : Book) (files : List (List ℕ × List ℕ)) (sent sent' : Option (List ℕ)) (lines : List (List ℕ)) (k : ℕ) → HasCutRun limits files sent sent' book new lines k → SendsFront limits book files sent sent' lines
 front_cut limits book new files sent sent' lines k c = record { front = c.written; sends = c.sends; done = k; text = c.all; answers = c.answers; is_front = c.prefix }
 
 -- of one that is refused
@@ -99,42 +99,6 @@ created (Err e) shape limits faithful plan sound book is = tt
 pub given : {E F : Type 0} (P : Type 0) (r : Result (Unit {0}) E) (s : Result (Unit {0}) F) → OnOk r (s ≡ Ok tt) → OnOk s P → OnOk r P
 given P (Ok x) s is h = subst (λ k. OnOk k P) is h
 given P (Err e) s is h = tt
-
--- a database that was opened and checked, and is closed then
-module _ (old new : DbView) (s : Store) (leaves : LeavesBook words old new) (rests : IsIdle old → IsIdle new) (same : new.failed ≡ false → new.begun ≡ false → s ≡ new.index.cache.store) where
-  shape_same : new.index.tree.shape ≡ old.index.tree.shape
-  shape_same = the_same new.index.tree.shape old.index.tree.shape leaves.index.later.plan
-
-  pub still_holds : HoldsBook s new.index.tree.shape new.limits new.book → HoldsBook s old.index.tree.shape old.limits old.book
-  still_holds h =
-      subst (λ b. HoldsBook s old.index.tree.shape old.limits b) leaves.book
-      (subst (λ l. HoldsBook s old.index.tree.shape l new.book) leaves.limits
-      (subst (λ k. HoldsBook s k new.limits new.book) shape_same h))
-
-  pub checks : (report : Report) → new.failed ≡ false → (IsSoundDb new → HasPages new → IsIdle new → HoldsBook s new.index.tree.shape new.limits new.book)
-      → (IsTrue old.index.cache.store.is_faithful → IsSoundDb new) → (IsTrue old.index.cache.store.is_faithful → HasPages new) → (IsTrue old.index.cache.store.is_faithful → Reports new report)
-      → IsTrue old.index.cache.store.is_faithful → IsIdle old → Checks s old report
-  checks report lives holds sound pages reports fa idle =
-      let r = reports fa in
-      record {
-        holds = still_holds (holds (sound fa) (pages fa) (rests idle));
-        pages = λ unbegun. r.pages ∙ ap (λ (k : Store). k.count) (sym (same lives (leaves.begun ∙ unbegun)));
-        legs = r.legs ∙ ap (λ (b : Book). length b.legs) leaves.book;
-        features = r.features ∙ ap (λ (b : Book). length b.names) leaves.book;
-      }
-
-  pub keeps : {E : Type 0} (closed : Result (Unit {0}) E) → OnOk closed (IsSoundDb new → HasPages new → IsIdle new → HoldsBook s new.index.tree.shape new.limits new.book) → (new.failed ≡ false → new.begun ≡ false → closed ≡ Ok tt)
-      → KeepsPages words old new → IsSoundDb old → HasPages old → IsIdle old → old.begun ≡ false → old.failed ≡ false → HoldsBook s old.index.tree.shape old.limits old.book
-  keeps closed holds idle pages sound has rest unbegun lives =
-      let e = idle (leaves.failed ∙ lives) (leaves.begun ∙ unbegun) in
-      let h = subst (λ r. OnOk r (IsSoundDb new → HasPages new → IsIdle new → HoldsBook s new.index.tree.shape new.limits new.book)) e holds in
-      still_holds (h (leaves.sound sound) (pages.pages sound.index.faithful has) (rests rest))
-
--- a database that had not begun, and passed its check, is closed without a fault
-pub not_refused : (old new : DbView) (closed : Result (Unit {0}) RunFault) (e : RunFault) → closed ≡ Err e → LeavesBook words old new → new.failed ≡ false → (new.failed ≡ false → new.begun ≡ false → closed ≡ Ok tt) → old.begun ≡ false → ⊥
-not_refused old new closed e is leaves lives idle unbegun =
-    let done : closed ≡ Ok tt = idle lives (leaves.begun ∙ unbegun) in
-    cc
 
 -- a database that was made with a book and is closed leaves a store that holds it
 pub closed_book : (db : DbView) (s : Store) (ran : Result (Unit {0}) RunFault) → OnOk ran (IsSoundDb db → HasPages db → IsIdle db → HoldsBook s db.index.tree.shape db.limits db.book) → ran ≡ Ok tt

@@ -25,7 +25,8 @@ use Rattle.trajdb.specs.declared.RunFault.TheVariants as run
 use Rattle.sessions.specs.Answers.{said, ClosesAfter, Ends, FailsToLoad, RunsOver, SendsLines, new_shape}
 use Rattle.sessions.specs.declared.fault.Fault.{Fault}
 use Rattle.sessions.specs.declared.fault.Fault.TheVariants.{Open, Run}
-use Rattle.sessions.specs.Folder.{BeginsWith, History, HoldsNow, IsDropped, IsRefusedBeside, Makes, NameIsKept, OpensOrMakes, RunsBeside, store_in}
+use Rattle.sessions.specs.Folder.{store_in, BeginsWith, History, HoldsNow, IsDropped, IsRefusedBeside, LeavesCopy, Makes, NameIsKept, OfEachBook, OpensOrMakes, RunsBeside}
+use Rattle.sessions.proofs.AnswerLemmas.{more_known}
 
 -- what a folder tells of a store's name is faithful
 pub tells : (past : History) → IsTrue (store_in past).is_faithful
@@ -61,127 +62,14 @@ begun_with (Ok db) first past same is_new given shape limits book faithful new k
     (subst (λ k. HasBook new_shape given k db) (sym b) (new n faithful (subst (λ (k : Store). k.count ≡ 0) (sym same) z))))
 
 -- nothing was sent
-pub unsent_lines : (limits : LimitsView) (book : Book) (files : List (List ℕ × List ℕ)) (sent sent' : Option (List ℕ)) (lines : List (List ℕ)) (ran : Result (Unit {0}) Fault) (fault : Fault) → ran ≡ Err fault → sent' ≡ sent → SendsLines limits book files sent sent' lines ran
+pub unsent_lines : (limits : LimitsView) (book : Book) (files : List (List ℕ × List ℕ)) (sent sent' : Option (List ℕ)) (lines : List (List ℕ)) (ran : Result (Unit {0}) Fault) (fault : Fault) → ran ≡ Err fault → sent' ≡ sent
+    → SendsLines (Run run.Output) limits book files sent sent' lines ran
 unsent_lines limits book files sent sent' lines ran fault is same = record {
-  done = 0;
-  text = [];
-  answers = refl;
-  front = [];
-  sends = subst (λ k. Appends sent k []) (sym same) (Appends-nil sent);
-  is_front = ([], refl);
+  part = record { front = []; sends = subst (λ k. Appends sent k []) (sym same) (Appends-nil sent); done = 0; text = []; answers = refl; is_front = ([], refl) };
   whole = subst (λ r. OnOk r (0 ≡ length lines)) (sym is) tt;
   all = λ n. refl;
   cut = λ o. ([], refl, ([], refl));
 }
-
--- what is said where a run and its closing are answered is said of that
-pub whole_said : (P : Type 0) (ran closed : Result (Unit {0}) RunFault) → OnOk ran P → OnOk (said ran closed) P
-whole_said P (Ok x) (Ok y) h = h
-whole_said P (Ok x) (Err f) h = tt
-whole_said P (Err f) closed h = tt
-
--- what a run over a database and its closing leave, in the words of one on a copy
-module _ (files : List (List ℕ × List ℕ)) (sent sent' : Option (List ℕ)) (lines : List (List ℕ)) (s : Store) where
-  output_first : (db : DbView) (k : ℕ) (ran closed : Result (Unit {0}) RunFault) → ClosesAfter db files lines k closed s ⊎ FailsToLoad db files lines k ran closed s → said ran closed ≡ Err (Run run.Output) → ran ≡ Err run.Output
-  output_first db k (Ok x) (Ok y) left is = absurd (cc is)
-  output_first db k (Ok x) (Err f) (inl h) is = let o : f ≡ run.Output = cc is in absurd (subst IsLoadFault o h.0.0)
-  output_first db k (Ok x) (Err f) (inr h) is = let w = h.ran_is in absurd (cc w)
-  output_first db k (Err f) closed left is = cc is
-
-  pub sends_said : (db : DbView) (ran closed : Result (Unit {0}) RunFault) (answered : Result (Unit {0}) Fault) → answered ≡ said ran closed → Ends db files sent sent' lines ran closed s → SendsLines db.limits db.book files sent sent' lines answered
-  sends_said db ran closed answered is e = record {
-    done = e.done;
-    text = e.text;
-    answers = e.answers;
-    front = e.front;
-    sends = e.sends;
-    is_front = e.is_front;
-    whole = subst (λ r. OnOk r (e.done ≡ length lines)) (sym is) (whole_said (e.done ≡ length lines) ran closed e.whole);
-    all = λ n. e.all (λ o. n (is ∙ ap (λ r. said r closed) o));
-    cut = λ o. e.cut (output_first db e.done ran closed e.left (sym is ∙ o));
-  }
-
-  pub kept_end : (db : DbView) (ran closed : Result (Unit {0}) RunFault) (kept : Result (Unit {0}) Fault) → kept ≡ said (Ok tt) closed → kept ≡ Ok tt → (e : Ends db files sent sent' lines ran closed s)
-      → HoldsBook s (shape_of db) db.limits (run_book db.limits files db.book (take e.done lines))
-  kept_end db ran (Err f) kept is ok e = absurd (cc (is, ok))
-  kept_end db ran (Ok y) kept is ok e = by_left e.left where
-    by_left : ClosesAfter db files lines e.done (Ok y) s ⊎ FailsToLoad db files lines e.done ran (Ok y) s → HoldsBook s (shape_of db) db.limits (run_book db.limits files db.book (take e.done lines))
-    by_left (inl h) = h.0
-    by_left (inr h) = let w = h.closed_is in absurd (cc w)
-
-  pub dropped_end : (db : DbView) (ran closed : Result (Unit {0}) RunFault) (answered kept : Result (Unit {0}) Fault) (fault : Fault) → kept ≡ said (Ok tt) closed → kept ≡ Err fault → Ends db files sent sent' lines ran closed s → IsDropped files sent sent' lines answered fault
-  dropped_end db ran (Ok y) answered kept fault is fails e = absurd (cc (is, fails))
-  dropped_end db ran (Err f) answered kept fault is fails e = by_left e.left where
-    by_left : ClosesAfter db files lines e.done (Err f) s ⊎ FailsToLoad db files lines e.done ran (Err f) s → IsDropped files sent sent' lines answered fault
-    by_left (inl h) = inr (inr (f, cc (is, fails), h.0.0))
-    by_left (inr h) = let w = h.closed_is in inr (inl (cc (is, fails, w), e.done, h.at))
-
-  pub refused_end : (db : DbView) (ran closed : Result (Unit {0}) RunFault) (fault : Fault) → said ran closed ≡ Err fault → Ends db files sent sent' lines ran closed s → IsRefusedBeside sent sent' fault
-  refused_end db (Ok x) (Ok y) fault is e = absurd (cc is)
-  refused_end db (Ok x) (Err f) fault is e = by_left e.left where
-    by_left : ClosesAfter db files lines e.done (Err f) s ⊎ FailsToLoad db files lines e.done (Ok x) (Err f) s → IsRefusedBeside sent sent' fault
-    by_left (inl h) = inr (f, cc is, λ n. h.0.0)
-    by_left (inr h) = let w = h.ran_is in absurd (cc w)
-  refused_end db (Err f) closed fault is e = inr (f, cc is, λ n. (e.stopped n).0)
-
--- a run over what was made of a store, which a folder tells: over the database that was opened with a book, or over none
-module _ {S O : Type 0} (seen : S → Store) (shown : O → OutputView) (files : List (List ℕ × List ℕ)) (out out' : O) (lines : List (List ℕ)) (store : Store) (answered kept : Result (Unit {0}) Fault)
-    (shape : ShapeView) (limits : LimitsView) (book : Book) where
-  pub over_sends : (o : Result DbView (S × CatalogueFault)) → IfOk o HasPages → IfOk o IsIdle → IfOk o (λ db. db.failed ≡ false) → IfOk o (HasBook shape limits book) → RunsOver seen shown o files out out' lines answered kept store → SendsLines limits book files (shown out).contents (shown out').contents lines answered
-  over_sends (Err back) pages idle lives has h = unsent_lines limits book files (shown out).contents (shown out').contents lines answered (Open back.1) h.0 (ap (λ (s : OutputView). s.contents) h.3)
-  over_sends (Ok db) pages idle lives has h =
-      let e = h.4.ends has.sound pages idle lives in
-      subst (λ b. SendsLines limits b files (shown out).contents (shown out').contents lines answered) has.book_is
-      (subst (λ l. SendsLines l db.book files (shown out).contents (shown out').contents lines answered) has.limits_are
-      (sends_said files (shown out).contents (shown out').contents lines store db h.0 h.1 answered h.2 e))
-
-  pub over_beside : (was is : Option History) (o : Result DbView (S × CatalogueFault)) → kept ≡ Ok tt → NameIsKept store was is → IfOk o HasPages → IfOk o IsIdle → IfOk o (λ db. db.failed ≡ false) → IfOk o (HasBook shape limits book) → RunsOver seen shown o files out out' lines answered kept store → RunsBeside shape limits book files (shown out).contents (shown out').contents lines answered was is
-  unfolding sends_said
-  over_beside was is (Err back) ok name pages idle lives has h = let w = h.1 in absurd (cc (w, ok))
-  over_beside was is (Ok db) ok name pages idle lives has h =
-      let e = h.4.ends has.sound pages idle lives in
-      let holds = kept_end files (shown out).contents (shown out').contents lines store db h.0 h.1 kept h.3 ok e in
-      let own : RunsBeside (shape_of db) db.limits db.book files (shown out).contents (shown out').contents lines answered was is = record {
-        sends = sends_said files (shown out).contents (shown out').contents lines store db h.0 h.1 answered h.2 e;
-        store = store;
-        holds = holds;
-        kept = name;
-        held = held_now store (shape_of db) db.limits (run_book db.limits files db.book (take e.done lines)) was is holds name;
-      } in
-      subst (λ b. RunsBeside shape limits b files (shown out).contents (shown out').contents lines answered was is) has.book_is
-      (subst (λ l. RunsBeside shape l db.book files (shown out).contents (shown out').contents lines answered was is) has.limits_are
-      (subst (λ t. RunsBeside t db.limits db.book files (shown out).contents (shown out').contents lines answered was is) has.shape_is own))
-
-  pub over_dropped : (fault : Fault) (o : Result DbView (S × CatalogueFault)) → kept ≡ Err fault → IfOk o HasPages → IfOk o IsIdle → IfOk o (λ db. db.failed ≡ false) → IfOk o (HasBook shape limits book) → RunsOver seen shown o files out out' lines answered kept store → IsDropped files (shown out).contents (shown out').contents lines answered fault
-  over_dropped fault (Err back) fails pages idle lives has h = inl (ap (λ (s : OutputView). s.contents) h.3, h.0 ∙ sym h.1 ∙ fails)
-  over_dropped fault (Ok db) fails pages idle lives has h = dropped_end files (shown out).contents (shown out').contents lines store db h.0 h.1 answered kept fault h.3 fails (h.4.ends has.sound pages idle lives)
-
-  pub over_refused : (fault : Fault) (o : Result DbView (S × CatalogueFault)) → answered ≡ Err fault → IfOk o HasPages → IfOk o IsIdle → IfOk o (λ db. db.failed ≡ false) → IfOk o (HasBook shape limits book) → RunsOver seen shown o files out out' lines answered kept store → IsRefusedBeside (shown out).contents (shown out').contents fault
-  over_refused fault (Err back) is pages idle lives has h = inl (ap (λ (s : OutputView). s.contents) h.3)
-  over_refused fault (Ok db) is pages idle lives has h = refused_end files (shown out).contents (shown out').contents lines store db h.0 h.1 fault (sym h.2 ∙ is) (h.4.ends has.sound pages idle lives)
-
--- a fact holds where there is something
-pub some_only : (was : Option History) (P : History → Type 0) → ((past : History) → was ≡ Some past → P past) → IfSome was P
-some_only None P f = tt
-some_only (Some past) P f = f past refl
-
--- what follows from what is said of an answer, or of a refusal
-pub map_ok : {T E : Type 0} (P Q : Type 0) (r : Result T E) → (P → Q) → OnOk r P → OnOk r Q
-map_ok P Q (Ok x) f h = f h
-map_ok P Q (Err e) f h = tt
-
-pub map_err : {T E : Type 0} (P Q : E → Type 0) (r : Result T E) → ((e : E) → P e → Q e) → IfErr r P → IfErr r Q
-map_err P Q (Ok x) f h = tt
-map_err P Q (Err e) f h = f e h
-
-pub each_err : {T E : Type 0} (Q : E → Type 0) (r : Result T E) → ((e : E) → r ≡ Err e → Q e) → IfErr r Q
-each_err Q (Ok x) f = tt
-each_err Q (Err e) f = f e refl
-
--- what a database is under premises
-pub only_if : {T E : Type 0} (P Q : T → Type 0) (r : Result T E) → ((x : T) → P x → Q x) → IfOk r P → IfOk r Q
-only_if P Q (Ok x) f h = f x h
-only_if P Q (Err e) f h = tt
 
 -- a database is made, or it is not, of a store without pages
 pub made_or_not : {S : Type 0} (seen : S → Store) (limits : LimitsView) (pages : ℕ) (r : Result DbView (S × CatalogueFault)) (s : Store)
@@ -198,15 +86,117 @@ pub made_empty : {S : Type 0} (seen : S → Store) (is_new : Bool) (limits : Lim
 made_empty seen is_new limits pages (Ok db) s o = λ n f z. ((o.makes n z).0 f).0
 made_empty seen is_new limits pages (Err back) s o = tt
 
--- what is known of a database over a copy of a store with a book
-pub begun : {S P : Type 0} (seen : S → Store) (was : Option History) (first : Store) → IfSome was (λ p. first ≡ store_in p) → (is_new : Bool) (given : LimitsView) (cache : ℕ) (o : Result DbView (S × CatalogueFault)) → OpensOrMakes seen first is_new given cache o
-    → IfOk o (λ db. IsTrue first.is_faithful → (shape : ShapeView) (limits : LimitsView) (book : Book) → HoldsBook first shape limits book → HasBook shape limits book db)
-    → IfOk o (λ db. IsTrue first.is_faithful → HasPages db) → IfOk o (λ db. IsTrue first.is_faithful → IsIdle db)
-    → (past : History) → was ≡ Some past → (shape : ShapeView) (limits : LimitsView) (book : Book) → BeginsWith is_new given (store_in past) shape limits book
-    → (IfOk o HasPages → IfOk o IsIdle → IfOk o (HasBook shape limits book) → P) → P
-begun seen was first copies is_new given cache o opens kept pages idle past e shape limits book h f =
-    let same = subst (λ k. IfSome k (λ p. first ≡ store_in p)) e copies in
-    let faithful = subst (λ (s : Store). IsTrue s.is_faithful) (sym same) (tells past) in
-    f (only_if (λ (db : DbView). IsTrue first.is_faithful → HasPages db) HasPages o (λ db k. k faithful) pages)
-    (only_if (λ (db : DbView). IsTrue first.is_faithful → IsIdle db) IsIdle o (λ db k. k faithful) idle)
-    (begun_with o first (store_in past) same is_new given shape limits book faithful (made_empty seen is_new given cache o first opens) kept h)
+-- what is said where a run and its closing are answered is said of that
+whole_said : (P : Type 0) (ran closed : Result (Unit {0}) RunFault) → OnOk ran P → OnOk (said ran closed) P
+whole_said P (Ok x) (Ok y) h = h
+whole_said P (Ok x) (Err f) h = tt
+whole_said P (Err f) closed h = tt
+
+-- what a run over a database and its closing leave, in the words of one on a copy
+module _ (files : List (List ℕ × List ℕ)) (sent sent' : Option (List ℕ)) (lines : List (List ℕ)) (s : Store) (db : DbView) where
+  output_first : (ran closed : Result (Unit {0}) RunFault) → Ends db files sent sent' lines ran closed s → said ran closed ≡ Err (Run run.Output) → ran ≡ Err run.Output
+  output_first (Ok x) (Ok y) e is = absurd (cc is)
+  output_first (Ok x) (Err f) e is = by_left e.left where
+    by_left : ClosesAfter db files lines e.sends.part.done (Err f) s ⊎ FailsToLoad db files lines e.sends.part.done (Ok x) (Err f) s → Ok x ≡ Err run.Output
+    by_left (inl h) = let o : f ≡ run.Output = cc is in absurd (subst IsLoadFault o h.0.0)
+    by_left (inr h) = let w = h.ran_is in absurd (cc w)
+  output_first (Err f) closed e is = cc is
+
+  sends_said : (ran closed : Result (Unit {0}) RunFault) → Ends db files sent sent' lines ran closed s → SendsLines (Run run.Output) db.limits db.book files sent sent' lines (said ran closed)
+  sends_said ran closed e = record {
+    part = e.sends.part;
+    whole = whole_said (e.sends.part.done ≡ length lines) ran closed e.sends.whole;
+    all = λ n. e.sends.all (λ o. n (ap (λ r. said r closed) o));
+    cut = λ o. e.sends.cut (output_first ran closed e o);
+  }
+
+  kept_end : (ran closed : Result (Unit {0}) RunFault) (e : Ends db files sent sent' lines ran closed s) → OnOk (said (Ok tt) closed) (HoldsBook s (shape_of db) db.limits (run_book db.limits files db.book (take e.sends.part.done lines)))
+  kept_end ran (Err f) e = tt
+  kept_end ran (Ok y) e = by_left e.left where
+    by_left : ClosesAfter db files lines e.sends.part.done (Ok y) s ⊎ FailsToLoad db files lines e.sends.part.done ran (Ok y) s → HoldsBook s (shape_of db) db.limits (run_book db.limits files db.book (take e.sends.part.done lines))
+    by_left (inl h) = h.0
+    by_left (inr h) = let w = h.closed_is in absurd (cc w)
+
+  dropped_end : (ran closed : Result (Unit {0}) RunFault) → Ends db files sent sent' lines ran closed s → IfErr (said (Ok tt) closed) (IsDropped files sent sent' lines (said ran closed))
+  dropped_end ran (Ok y) e = tt
+  dropped_end ran (Err f) e = by_left e.left where
+    by_left : ClosesAfter db files lines e.sends.part.done (Err f) s ⊎ FailsToLoad db files lines e.sends.part.done ran (Err f) s → IsDropped files sent sent' lines (said ran (Err f)) (Run f)
+    by_left (inl h) = inr (inr (f, refl, h.0.0))
+    by_left (inr h) = let w = h.closed_is in inr (inl (cc w, e.sends.part.done, h.at))
+
+  refused_end : (ran closed : Result (Unit {0}) RunFault) → Ends db files sent sent' lines ran closed s → IfErr (said ran closed) (IsRefusedBeside sent sent')
+  refused_end (Ok x) (Ok y) e = tt
+  refused_end (Ok x) (Err f) e = by_left e.left where
+    by_left : ClosesAfter db files lines e.sends.part.done (Err f) s ⊎ FailsToLoad db files lines e.sends.part.done (Ok x) (Err f) s → IsRefusedBeside sent sent' (Run f)
+    by_left (inl h) = inr (f, refl, λ n. h.0.0)
+    by_left (inr h) = let w = h.ran_is in absurd (cc w)
+  refused_end (Err f) closed e = inr (f, refl, λ n. (e.stopped n).0)
+
+  pub leaves_end : (ran closed : Result (Unit {0}) RunFault) → Ends db files sent sent' lines ran closed s → LeavesCopy files sent sent' lines (said ran closed) (said (Ok tt) closed) s (shape_of db) db.limits db.book
+  unfolding sends_said
+  leaves_end ran closed e = record { sends = sends_said ran closed e; holds = kept_end ran closed e; dropped = dropped_end ran closed e; refused = refused_end ran closed e }
+
+pub each_err : {T E : Type 0} (Q : E → Type 0) (r : Result T E) → ((e : E) → r ≡ Err e → Q e) → IfErr r Q
+each_err Q (Ok x) f = tt
+each_err Q (Err e) f = f e refl
+
+-- a run over what was made of the store of a copy, which a folder tells: over the database that was opened with a book, or over none
+module _ {S O : Type 0} (seen : S → Store) (shown : O → OutputView) (files : List (List ℕ × List ℕ)) (out out' : O) (lines : List (List ℕ)) (store : Store) (answered kept : Result (Unit {0}) Fault) where
+  abbrev Leaves : ShapeView → LimitsView → Book → Type 0
+  Leaves = LeavesCopy files (shown out).contents (shown out').contents lines answered kept store
+
+  over_copy : (shape : ShapeView) (limits : LimitsView) (book : Book) (o : Result DbView (S × CatalogueFault)) → IfOk o HasPages → IfOk o IsIdle → IfOk o (λ db. db.failed ≡ false) → IfOk o (HasBook shape limits book) → RunsOver seen shown o files out out' lines answered kept store → Leaves shape limits book
+  unfolding unsent_lines
+  over_copy shape limits book (Err back) pages idle lives has h =
+      let same = ap (λ (s : OutputView). s.contents) h.3 in
+      record {
+        sends = unsent_lines limits book files (shown out).contents (shown out').contents lines answered (Open back.1) h.0 same;
+        holds = subst (λ r. OnOk r (HoldsBook store shape limits book)) (sym h.1) tt;
+        dropped = each_err (IsDropped files (shown out).contents (shown out').contents lines answered) kept (λ fault is. inl (same, h.0 ∙ sym h.1 ∙ is));
+        refused = each_err (IsRefusedBeside (shown out).contents (shown out').contents) answered (λ fault is. inl same);
+      }
+  over_copy shape limits book (Ok db) pages idle lives has h =
+      let own = leaves_end files (shown out).contents (shown out').contents lines store db h.0 h.1 (h.4.ends has.sound pages idle lives) in
+      subst (λ b. Leaves shape limits b) has.book_is
+      (subst (λ l. Leaves shape l db.book) has.limits_are
+      (subst (λ t. Leaves t db.limits db.book) has.shape_is
+      (subst (λ a. LeavesCopy files (shown out).contents (shown out').contents lines a kept store (shape_of db) db.limits db.book) (sym h.2)
+      (subst (λ k. LeavesCopy files (shown out).contents (shown out').contents lines (said h.0 h.1) k store (shape_of db) db.limits db.book) (sym h.3) own))))
+
+  pub leaves_copy : (first : Store) (is_new : Bool) (given : LimitsView) (cache : ℕ) (o : Result DbView (S × CatalogueFault)) → OpensOrMakes seen first is_new given cache o
+      → IfOk o (λ db. IsTrue first.is_faithful → (shape : ShapeView) (limits : LimitsView) (book : Book) → HoldsBook first shape limits book → HasBook shape limits book db)
+      → IfOk o (λ db. IsTrue first.is_faithful → HasPages db) → IfOk o (λ db. IsTrue first.is_faithful → IsIdle db) → IfOk o (λ db. db.failed ≡ false) → RunsOver seen shown o files out out' lines answered kept store
+      → (held : Option History) → IfSome held (λ past. first ≡ store_in past) → OfEachBook held is_new given Leaves
+  leaves_copy first is_new given cache o opens kept_book pages idle lives runs None same = tt
+  leaves_copy first is_new given cache o opens kept_book pages idle lives runs (Some past) same = λ shape limits book h.
+      let faithful = subst (λ (s : Store). IsTrue s.is_faithful) (sym same) (tells past) in
+      over_copy shape limits book o (more_known (λ (db : DbView). IsTrue first.is_faithful → HasPages db) HasPages o (λ db k. k faithful) pages)
+      (more_known (λ (db : DbView). IsTrue first.is_faithful → IsIdle db) IsIdle o (λ db k. k faithful) idle) lives
+      (begun_with o first (store_in past) same is_new given shape limits book faithful (made_empty seen is_new given cache o first opens) kept_book h) runs
+
+-- what is so of each book, and of each book from which it follows
+module _ (held : Option History) (is_new : Bool) (given : LimitsView) where
+  pub every_book : (P : ShapeView → LimitsView → Book → Type 0) → ((shape : ShapeView) (limits : LimitsView) (book : Book) → P shape limits book) → OfEachBook held is_new given P
+  every_book P f = each held where
+    each : (h : Option History) → OfEachBook h is_new given P
+    each None = tt
+    each (Some past) = λ shape limits book b. f shape limits book
+
+  pub each_book : (R P : ShapeView → LimitsView → Book → Type 0) → ((shape : ShapeView) (limits : LimitsView) (book : Book) → R shape limits book → P shape limits book) → OfEachBook held is_new given R → OfEachBook held is_new given P
+  each_book R P f left = each held left where
+    each : (h : Option History) → OfEachBook h is_new given R → OfEachBook h is_new given P
+    each None l = tt
+    each (Some past) l = λ shape limits book b. f shape limits book (l shape limits book b)
+
+-- what a run left of a copy that is kept
+pub beside : (files : List (List ℕ × List ℕ)) (sent sent' : Option (List ℕ)) (lines : List (List ℕ)) (ran kept : Result (Unit {0}) Fault) (store : Store) (was is : Option History) → kept ≡ Ok tt → NameIsKept store was is
+    → (shape : ShapeView) (limits : LimitsView) (book : Book) → LeavesCopy files sent sent' lines ran kept store shape limits book → RunsBeside shape limits book files sent sent' lines ran was is
+beside files sent sent' lines ran kept store was is ok name shape limits book left =
+    let after = run_book limits files book (take left.sends.part.done lines) in
+    let holds = subst (λ r. OnOk r (HoldsBook store shape limits after)) ok left.holds in
+    record { sends = left.sends; store = store; holds = holds; kept = name; held = held_now store shape limits after was is holds name }
+
+-- what follows from what is said of an answer
+pub map_ok : {T E : Type 0} (P Q : Type 0) (r : Result T E) → (P → Q) → OnOk r P → OnOk r Q
+map_ok P Q (Ok x) f h = f h
+map_ok P Q (Err e) f h = tt

@@ -16,7 +16,7 @@ use Rattle.trajdb.specs.declared.RunFault.TheVariants as run
 use Rattle.sessions.specs.Answers.{said, Answers, ClosesAfter, ClosesWith, Ends, FailsToLoad, HasWritten, SendsFront}
 use Rattle.sessions.specs.declared.fault.Fault.{Fault}
 use Rattle.sessions.specs.declared.fault.Fault.TheVariants.{Run}
-use Rattle.sessions.proofs.AnswerLemmas.{answered, front_done, front_sent, the_same}
+use Rattle.sessions.proofs.AnswerLemmas.{answered, front_cut, front_done, front_sent, front_stopped, the_same}
 
 -- a fault inside is none of the output
 inside_not : (e : RunFault) → IsNotOutput e → e ≡ run.Output → ⊥
@@ -74,18 +74,10 @@ module _ (old new : DbView) (s : Store) (files : List (List ℕ × List ℕ)) (s
   all_done r lives sound was pages is_idle =
       let all : take (length lines) lines ≡ lines = take_all (length lines) lines (omega arith) in
       record {
-        done = length lines;
-        text = r.text;
-        answers = subst (λ l. IsRunText old.limits files old.book l r.text) (sym all) r.answers;
-        front = r.text;
-        sends = r.sends;
-        is_front = ([], sym (append-nil r.text));
-        whole = refl;
+        sends = record { part = front_done old.limits old.book new.book files sent sent' lines r; whole = refl; all = λ n. refl; cut = λ o. cc o };
         stopped = tt;
         full = λ o. cc o;
         closed_full = closed_full;
-        all = λ n. refl;
-        cut = λ o. cc o;
         left = left_with (length lines) (Ok tt) (λ l. subst (λ x. BeginsIn files old new x) (sym all) (begins was)) lives was sound pages is_idle (subst (λ l. new.book ≡ run_book old.limits files old.book l) (sym all) r.book);
         lasts = lasts was.index.faithful is_idle;
       }
@@ -94,18 +86,15 @@ module _ (old new : DbView) (s : Store) (files : List (List ℕ × List ℕ)) (s
   stopped_at : (e : RunFault) → IsNotOutput e → IsLoadFault e → (IsErrOf {T = Unit {0}} {E = RunFault} (Err e) run.StoreFull → new.failed ≡ true) → (new.failed ≡ false → IsSoundDb old → IsSoundDb new) → (k : ℕ) → HasStopped old.limits files sent sent' old.book new.book new.failed lines k → (new.failed ≡ false → BeginsIn files old new (take k lines))
       → IsSoundDb old → HasPages old → IsIdle old → Ended (Err e)
   stopped_at e inside allowed is_full kept k st begun was pages is_idle = record {
-    done = k;
-    text = st.text;
-    answers = st.answers;
-    front = st.text;
-    sends = st.sends;
-    is_front = ([], sym (append-nil st.text));
-    whole = tt;
+    sends = record {
+      part = front_stopped old.limits old.book new.book files sent sent' lines new.failed k st;
+      whole = tt;
+      all = λ n. refl;
+      cut = λ o. absurd (inside_not e inside (same_err e run.Output o));
+    };
     stopped = λ n. (allowed, (st.within, st.speaks));
     full = λ o. fails_at (is_full o);
     closed_full = closed_full;
-    all = λ n. refl;
-    cut = λ o. absurd (inside_not e inside (same_err e run.Output o));
     left = by_state new.failed refl;
     lasts = lasts was.index.faithful is_idle;
   } where
@@ -129,18 +118,15 @@ module _ (old new : DbView) (s : Store) (files : List (List ℕ × List ℕ)) (s
   -- its output failed
   cut_at : (k : ℕ) → HasCutRun old.limits files sent sent' old.book new.book lines k → BeginsIn files old new (take k lines) → new.failed ≡ false → IsSoundDb new → IsSoundDb old → HasPages old → IsIdle old → Ended (Err run.Output)
   cut_at k c begun lives sound was pages is_idle = record {
-    done = k;
-    text = c.all;
-    answers = c.answers;
-    front = c.written;
-    sends = c.sends;
-    is_front = c.prefix;
-    whole = tt;
+    sends = record {
+      part = front_cut old.limits old.book new.book files sent sent' lines k c;
+      whole = tt;
+      all = λ n. absurd (n refl);
+      cut = λ o. (c.before, c.earlier, c.whole);
+    };
     stopped = λ n. absurd n;
     full = λ o. cc o;
     closed_full = closed_full;
-    all = λ n. absurd (n refl);
-    cut = λ o. (c.before, c.earlier, c.whole);
     left = left_with k (Err run.Output) (λ l. begun) lives was sound pages is_idle c.book;
     lasts = lasts was.index.faithful is_idle;
   }

@@ -22,7 +22,7 @@ use Rattle.trajdb.specs.declared.Report.{Report}
 use Rattle.trajdb.specs.declared.RunFault.{RunFault}
 use Rattle.trajdb.specs.declared.RunFault.TheVariants as run
 use Rattle.sessions.specs.declared.fault.Fault.{Fault}
-use Rattle.sessions.specs.declared.fault.Fault.TheVariants.{Run, Open, CannotRead, CannotWrite, NotEmpty, NoPart, InUse, NoStore, NoSuchStore, OtherLimits, Rects, Bounds}
+use Rattle.sessions.specs.declared.fault.Fault.TheVariants.{Run, Open}
 
 -- the shape of the tree of a new database
 abbrev pub new_shape : ShapeView
@@ -48,20 +48,16 @@ pub record SendsFront (limits : LimitsView) (book : Book) (files : List (List �
   pub is_front : IsPrefixOf front text
 
 -- what was sent of a run that ended so: the answers to some first lines, and to all lines where it was brought to its end;
--- all of these answers, or where the output failed a front of them that has all but the last one
-pub record SendsLines (limits : LimitsView) (book : Book) (files : List (List ℕ × List ℕ))
-    (sent sent' : Option (List ℕ)) (lines : List (List ℕ)) (ran : Result (Unit {0}) Fault) : Type 0 where
-  pub done : ℕ
-  pub text : List ℕ
-  pub answers : IsRunText limits files book (take done lines) text
-  pub front : List ℕ
-  pub sends : Appends sent sent' front
-  pub is_front : IsPrefixOf front text
-  pub whole : OnOk ran (done ≡ length lines)
-  pub all : ran ≢ Err (Run run.Output) → front ≡ text
-  pub cut : ran ≡ Err (Run run.Output)
-      → (before : List ℕ) × IsRunText limits files book (take (done - 1) lines) before
-      × IsPrefixOf before front
+-- all of these answers, or where the output failed, as that fault says, a front of them that has all but the last one
+pub record SendsLines {E : Type 0} (output : E) (limits : LimitsView) (book : Book)
+    (files : List (List ℕ × List ℕ)) (sent sent' : Option (List ℕ)) (lines : List (List ℕ))
+    (ran : Result (Unit {0}) E) : Type 0 where
+  pub part : SendsFront limits book files sent sent' lines
+  pub whole : OnOk ran (part.done ≡ length lines)
+  pub all : ran ≢ Err output → part.front ≡ part.text
+  pub cut : ran ≡ Err output
+      → (before : List ℕ) × IsRunText limits files book (take (part.done - 1) lines) before
+      × IsPrefixOf before part.front
 
 -- what the closing of a database with a book leaves, by what it answered: the store holds the book, or where memory ran
 -- out or the store is full, it is one that is not finished; where the store failed, it is that, or all of its pages but
@@ -104,30 +100,21 @@ ClosesAfter db files lines done closed store =
     closed store
     × (db.begun ≡ false → OnErr closed (AcceptsSome db.limits files db.book (take done lines)))
 
--- what a run over a database and its closing leave, whatever they answer: the answers to some first lines were sent, and
--- to all lines where nothing is said to have failed; all of these answers, or where the output failed a front of them
--- that has all but the last one. The database was closed with the book after these lines (`ClosesAfter`); or the next line
--- is a `load` of a file, which failed. Where the run stopped at a line, that is the next one, and it says that memory ran
--- out, or that the store failed or, at such a `load`, is full; where the closing says that it is full, it is. Where the
--- closing answers well, all of the store is synced, or it has the pages that the database had, as they were written
+-- what a run over a database and its closing leave, whatever they answer, beside what was sent. The database was closed
+-- with the book after the lines that were answered (`ClosesAfter`); or the next line is a `load` of a file, which failed.
+-- Where the run stopped at a line, that is the next one, and it says that memory ran out, or that the store failed or, at
+-- such a `load`, is full; where the closing says that it is full, it is. Where the closing answers well, all of the store
+-- is synced, or it has the pages that the database had, as they were written
 pub record Ends (db : DbView) (files : List (List ℕ × List ℕ)) (sent sent' : Option (List ℕ))
     (lines : List (List ℕ)) (ran closed : Result (Unit {0}) RunFault) (store : Store) : Type 0 where
-  pub done : ℕ
-  pub text : List ℕ
-  pub answers : IsRunText db.limits files db.book (take done lines) text
-  pub front : List ℕ
-  pub sends : Appends sent sent' front
-  pub is_front : IsPrefixOf front text
-  pub whole : OnOk ran (done ≡ length lines)
-  pub stopped : IfErr ran (λ fault. IsNotOutput fault → IsLoadFault fault × IsAtLine lines done)
-  pub full : ran ≡ Err run.StoreFull → FailsToLoad db files lines done ran closed store
+  pub sends : SendsLines run.Output db.limits db.book files sent sent' lines ran
+  pub stopped : IfErr ran (λ fault. IsNotOutput fault
+      → IsLoadFault fault × IsAtLine lines sends.part.done)
+  pub full : ran ≡ Err run.StoreFull
+      → FailsToLoad db files lines sends.part.done ran closed store
   pub closed_full : closed ≡ Err run.StoreFull → store.count ≡ store.most
-  pub all : ran ≢ Err run.Output → front ≡ text
-  pub cut : ran ≡ Err run.Output
-      → (before : List ℕ) × IsRunText db.limits files db.book (take (done - 1) lines) before
-      × IsPrefixOf before front
-  pub left : ClosesAfter db files lines done closed store
-      ⊎ FailsToLoad db files lines done ran closed store
+  pub left : ClosesAfter db files lines sends.part.done closed store
+      ⊎ FailsToLoad db files lines sends.part.done ran closed store
   pub lasts : OnOk closed (IsSynced store ⊎ HasWritten db store)
 
 -- a run over a database and its closing, be it sound or not: there is a database between them, and the run and the closing
@@ -177,11 +164,13 @@ pub record Checks (store : Store) (db : DbView) (report : Report) : Type 0 where
   pub legs : report.legs ≡ length db.book.legs
   pub features : report.features ≡ length db.book.names
 
--- a store holds the book of a database, or is not finished, or has all pages but page 0 of one that holds it, synced
+-- a store holds the book of a database; or that had begun, and the store is not finished, or has all pages but page 0 of one
+-- that holds the book, synced
 abbrev pub HoldsOrNot : Store → DbView → Type 0
 HoldsOrNot store db =
     HoldsBook store (shape_of db) db.limits db.book
-    ⊎ (IsUnfinishedStore store ⊎ HoldsButFirst store (shape_of db) db.limits db.book)
+    ⊎ ((db.begun ≡ true)
+    × (IsUnfinishedStore store ⊎ HoldsButFirst store (shape_of db) db.limits db.book))
 
 -- how a check and its closing are answered: the check's own fault comes first
 abbrev pub said_checked : Result Report RunFault → Result (Unit {0}) RunFault
@@ -218,19 +207,8 @@ IsOverFault old after new left (Run run.Memory) = Unit {0}
 IsOverFault old after new left (Run run.Store) = Faulted new left
 IsOverFault old after new left (Run (run.Damaged page)) = Unit {0}
 IsOverFault old after new left (Run run.StoreFull) = left.count ≡ left.most
-IsOverFault old after new left (Run run.Failed) = ⊥
-IsOverFault old after new left (Run run.Output) = ⊥
 IsOverFault old after new left (Open fault) = IsMigratingFault old after new left fault
-IsOverFault old after new left (CannotRead name cause) = ⊥
-IsOverFault old after new left (CannotWrite name) = ⊥
-IsOverFault old after new left NotEmpty = ⊥
-IsOverFault old after new left (NoPart part parts) = ⊥
-IsOverFault old after new left InUse = ⊥
-IsOverFault old after new left (NoStore cause) = ⊥
-IsOverFault old after new left NoSuchStore = ⊥
-IsOverFault old after new left (OtherLimits legs features) = ⊥
-IsOverFault old after new left (Bounds code) = ⊥
-IsOverFault old after new left (Rects number why) = ⊥
+IsOverFault old after new left _ = ⊥
 
 -- why a store of version 1 that holds a book is not brought over: memory ran out or the new store is full, which then
 -- has no page, or says that it is not finished, or has a page 0 alone, whose write failed; or a store failed, and where
@@ -238,24 +216,8 @@ IsOverFault old after new left (Rects number why) = ⊥
 abbrev pub IsNotOver : (new left : Store) → Fault → Type 0
 IsNotOver new left (Run run.Memory) = IsLeftOver new left
 IsNotOver new left (Run run.Store) = Unit {0}
-IsNotOver new left (Run (run.Damaged page)) = ⊥
 IsNotOver new left (Run run.StoreFull) = IsLeftOver new left
-IsNotOver new left (Run run.Failed) = ⊥
-IsNotOver new left (Run run.Output) = ⊥
 IsNotOver new left (Open opening.Memory) = IsLeftOver new left
 IsNotOver new left (Open opening.Store) = IsLeftOver new left
-IsNotOver new left (Open (opening.Damaged page)) = ⊥
 IsNotOver new left (Open opening.StoreFull) = IsLeftOver new left
-IsNotOver new left (Open opening.Unfinished) = ⊥
-IsNotOver new left (Open opening.Version) = ⊥
-IsNotOver new left (Open opening.Malformed) = ⊥
-IsNotOver new left (CannotRead name cause) = ⊥
-IsNotOver new left (CannotWrite name) = ⊥
-IsNotOver new left NotEmpty = ⊥
-IsNotOver new left (NoPart part parts) = ⊥
-IsNotOver new left InUse = ⊥
-IsNotOver new left (NoStore cause) = ⊥
-IsNotOver new left NoSuchStore = ⊥
-IsNotOver new left (OtherLimits legs features) = ⊥
-IsNotOver new left (Bounds code) = ⊥
-IsNotOver new left (Rects number why) = ⊥
+IsNotOver new left _ = ⊥

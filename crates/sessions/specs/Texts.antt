@@ -1,7 +1,7 @@
 -- What the program says of a fault, and how it ends then.
 use Rattle.std.specs.Prelude.{ℕ, ◌≡◌, List, ◌++◌, codes, decimal}
 use Rattle.querylang.specs.declared.LineCode.{LineCode}
-use Rattle.querylang.specs.declared.LineCode.TheVariants.{Q1, Q2, Q3, Q4, Q5, Q6, Q7, Q8}
+use Rattle.querylang.specs.declared.LineCode.TheVariants.{Q5, Q6, Q7, Q8}
 use Rattle.register.specs.declared.fault.CatalogueFault.TheVariants as opening
 use Rattle.trajdb.specs.declared.RunFault.TheVariants as run
 use Rattle.sessions.specs.declared.cause.Cause.{Cause}
@@ -13,14 +13,11 @@ use Rattle.sessions.specs.declared.rects_fault.RectsFault.TheVariants.{NotUtf8, 
 
 -- why a rectangle or a period is refused
 abbrev pub bounds_words : LineCode → List ℕ
-bounds_words Q1 = codes "X1 Y1 X2 Y2 T1 T2 are one word each"
-bounds_words Q2 = codes "X1 Y1 X2 Y2 T1 T2 are one word each"
-bounds_words Q3 = codes "X1 Y1 X2 Y2 T1 T2 are one word each"
-bounds_words Q4 = codes "X1 Y1 X2 Y2 T1 T2 are one word each"
 bounds_words Q5 = codes "a coordinate is no number, or out of range"
 bounds_words Q6 = codes "X1 is above X2, or Y1 above Y2"
 bounds_words Q7 = codes "T1 or T2 is no instant, or out of range"
 bounds_words Q8 = codes "T1 is after T2"
+bounds_words _ = codes "X1 Y1 X2 Y2 T1 T2 are one word each"
 
 -- why a file of rectangles is refused
 abbrev pub rects_words : RectsFault → List ℕ
@@ -76,30 +73,15 @@ cause_text Other = codes "the system refused a call"
 
 -- the exit status of the program: 2 where its words are wrong, else 1
 abbrev pub status_of : Fault → ℕ
-status_of (Run why) = 1
-status_of (Open why) = 1
-status_of (CannotRead name cause) = 1
-status_of (CannotWrite name) = 1
-status_of NotEmpty = 1
 status_of (NoPart part parts) = 2
-status_of InUse = 1
-status_of (NoStore cause) = 1
-status_of NoSuchStore = 1
 status_of (OtherLimits legs features) = 2
 status_of (Bounds code) = 2
 status_of (Rects number why) = 2
+status_of _ = 1
 
 -- a store that failed is the fault
 abbrev pub IsOfStore : Fault → Type 0
 IsOfStore (Run why) = why ≡ run.Store
 IsOfStore (Open why) = why ≡ opening.Store
-IsOfStore (CannotRead name cause) = ⊥
-IsOfStore (CannotWrite name) = ⊥
-IsOfStore NotEmpty = ⊥
-IsOfStore (NoPart part parts) = ⊥
-IsOfStore InUse = ⊥
 IsOfStore (NoStore cause) = Unit {0}
-IsOfStore NoSuchStore = ⊥
-IsOfStore (OtherLimits legs features) = ⊥
-IsOfStore (Bounds code) = ⊥
-IsOfStore (Rects number why) = ⊥
+IsOfStore _ = ⊥

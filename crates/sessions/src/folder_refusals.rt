@@ -1,5 +1,6 @@
 //! What a folder refused.
-ghost use Rattle.std.specs.Prelude.{◌≡◌, ◌≤◌, ◌+◌, ◌-◌, ◌^◌, min, None, Some};
+ghost use Rattle.std.specs.Prelude.{◌≡◌};
+ghost use Rattle.sessions.specs.Folder.{noted};
 
 use crate::fault::Fault;
 use pages::Refusals;
@@ -15,12 +16,7 @@ pub struct FolderRefusals {
 
 impl FolderRefusals {
     /// Nothing so far.
-    pub fn nothing() -> FolderRefusals
-        // No refusal was counted.
-        ensures refusals { result.refusals ≡ 0 }
-        // There is no last error.
-        ensures last { result.last ≡ None }
-    {
+    pub fn nothing() -> FolderRefusals {
         FolderRefusals {
             refusals: Refusals::none(),
             last: None,
@@ -31,12 +27,8 @@ impl FolderRefusals {
     pub fn note(&mut self, fault: Fault<'static>) -> Fault<'static>
         // It returns the error that it was given.
         ensures same { result ≡ fault.entry }
-        // One refusal more is counted, up to 2^64 - 1.
-        ensures counted { self.new.refusals ≡ min (self.old.refusals + 1) (2 ^ 64 - 1) }
-        // The count never falls.
-        ensures later { self.old.refusals ≤ self.new.refusals }
-        // The error is now the last one.
-        ensures last { self.new.last ≡ Some fault.entry }
+        // One refusal more is counted, up to 2^64 - 1, and the error is now the last one.
+        ensures noted { self.new ≡ noted fault.entry self.old }
     {
         self.refusals.add();
         self.last = Some(fault);

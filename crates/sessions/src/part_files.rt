@@ -1,7 +1,6 @@
 //! The files of all parts of a file.
-ghost use Rattle.std.specs.Prelude.{◌≡◌, ◌<◌, ◌≤◌, ◌+◌, ◌^◌, ◌∷◌, [], ℕ, ◌⊎◌, Option, IfErr, IsErrOf, OnErr, OnOk, length, map};
-ghost use Rattle.pages.specs.Store.{HasRisen};
-ghost use Rattle.sessions.specs.Parts.{HasFirst, HasFirstTexts, Puts, parts_from, numbered, with_puts};
+ghost use Rattle.std.specs.Prelude.{◌≡◌, ◌<◌, ◌≤◌, ◌+◌, ◌^◌, ◌∷◌, [], IfErr, OnErr, OnOk, length, map};
+ghost use Rattle.sessions.specs.Parts.{HasFirst, HasFirstTexts, IsNotPut, PartsView, parts_from, numbered, with_puts};
 
 use parts::parts;
 use std::alloc::Global;
@@ -16,41 +15,29 @@ const PARTS_AT_ONCE: u64 = 16;
 /// A folder may tell contracts what was put into it, and then that is said exactly. A folder of the
 /// system tells nothing.
 pub trait PartFolder {
-    /// The parts that were put into it so far, with their texts, in order, where the folder tells
-    /// it.
-    ghost puts: { Self → Option Puts };
-
-    /// How often it was refused to give a name.
-    ghost refusals: { Self → ℕ };
+    /// What contracts see of it: the parts that were put into it so far, with their texts, in order,
+    /// where the folder tells it, and how often it refused to give a name.
+    ghost seen: { Self → PartsView };
 
     /// Gives the name of a part, by its number from 0, to a file of that text, in one step. Where
     /// it is refused, the names stand for what they stood for.
     fn put(&mut self, part: u64, text: &[u8]) -> Result<(), RunFault>
         // After `Ok` this part with this text is the last one that was put.
         ensures put { OnOk result
-            (puts self.new ≡ with_puts (puts self.old) ((part, text.now) ∷ [])) }
-        // After an error nothing more was put.
-        ensures stays { OnErr result (puts self.new ≡ puts self.old) }
-        // The only errors are `Memory` and `Output`.
-        ensures fault { IfErr result (λ e. (e ≡ RunFault.Memory) ⊎ (e ≡ RunFault.Output)) }
-        // `Output` is counted as a refusal.
-        ensures cause { IsErrOf result RunFault.Output
-            → HasRisen (refusals self.old) (refusals self.new) }
-        // The count of refusals never falls.
-        ensures later { refusals self.old ≤ refusals self.new };
+            (seen self.new ≡ with_puts (seen self.old) ((part, text.now) ∷ [])) }
+        // An error is `Memory`, or `Output`, which is counted as a refusal. Nothing more was put.
+        ensures refused { IfErr result (λ fault. IsNotPut fault (seen self.old) (seen self.new)
+            × ((seen self.new).puts ≡ (seen self.old).puts)) };
 }
 
 /// Puts the texts of parts, of which the first has that number, into a folder.
 fn put_texts<F: PartFolder>(folder: &mut F, first: u64, texts: &[Vec<u8>]) -> Result<(), RunFault>
     requires { first + length texts.now < 2 ^ 64 }
-    ensures all { OnOk result (F.puts folder.new
-        ≡ with_puts (F.puts folder.old) (numbered first (map (λ text. text.items) texts.now))) }
-    ensures some { OnErr result (HasFirstTexts first (map (λ text. text.items) texts.now)
-        (F.puts folder.old) (F.puts folder.new)) }
-    ensures fault { IfErr result (λ e. (e ≡ RunFault.Memory) ⊎ (e ≡ RunFault.Output)) }
-    ensures cause { IsErrOf result RunFault.Output
-        → HasRisen (F.refusals folder.old) (F.refusals folder.new) }
-    ensures later { F.refusals folder.old ≤ F.refusals folder.new }
+    ensures all { OnOk result (F.seen folder.new
+        ≡ with_puts (F.seen folder.old) (numbered first (map (λ text. text.items) texts.now))) }
+    ensures refused { IfErr result (λ fault. IsNotPut fault (F.seen folder.old) (F.seen folder.new)
+        × HasFirstTexts first (map (λ text. text.items) texts.now) (F.seen folder.old)
+        (F.seen folder.new)) }
 {
     let mut part = first;
     for text in texts {
@@ -79,18 +66,13 @@ pub fn put_parts<F: PartFolder>(
     requires within { first + count ≤ n }
     // Each part is put once, in order, and says what `parts` says of it; the file is not looked
     // through for faults.
-    ensures all { OnOk result (F.puts folder.new
-        ≡ with_puts (F.puts folder.old) (parts_from first count n bytes.now)) }
+    ensures all { OnOk result (F.seen folder.new
+        ≡ with_puts (F.seen folder.old) (parts_from first count n bytes.now)) }
     // Where one is not put, only parts before it were.
-    ensures some { OnErr result (HasFirst first count n bytes.now
-        (F.puts folder.old) (F.puts folder.new)) }
-    // The only errors are `Memory` and `Output`.
-    ensures fault { IfErr result (λ e. (e ≡ RunFault.Memory) ⊎ (e ≡ RunFault.Output)) }
-    // `Output` is returned only if the folder refused a part.
-    ensures cause { IsErrOf result RunFault.Output
-        → HasRisen (F.refusals folder.old) (F.refusals folder.new) }
-    // The folder's count of refusals never falls.
-    ensures later { F.refusals folder.old ≤ F.refusals folder.new }
+    ensures some { OnErr result (HasFirst first count n bytes.now (F.seen folder.old)
+        (F.seen folder.new)) }
+    // The error is `Memory`, or `Output` if the folder refused a part.
+    ensures fault { IfErr result (λ fault. IsNotPut fault (F.seen folder.old) (F.seen folder.new)) }
 {
     let mut done = 0;
     while done < count {

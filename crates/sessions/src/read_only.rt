@@ -1,6 +1,6 @@
 //! A store that cannot be written.
 ghost use Rattle.std.specs.Prelude.{◌≡◌, ◌<◌, false, Some, slice_get, IsTrue, IsErr, OnErr, OnOk};
-ghost use Rattle.pages.specs.Store.{Faulted, MayUnsync, SameUnsynced, Stays, Tears, Unsyncs, Writes};
+ghost use Rattle.pages.specs.Store.{Faulted, Stays};
 ghost use Rattle.pages.specs.declared.unsynced.Unsynced.TheVariants.{Nothing};
 
 use pages::{PageStore, Refusals, StoreFault};
@@ -46,19 +46,22 @@ impl<S: PageStore> PageStore for ReadOnly<S> {
     /// Reads a page of the store below, and is refused only where that fails.
     fn read(&mut self, number: u32, page: &mut [u8; 4096]) -> Result<(), StoreFault>
         requires { number < (⟦<ReadOnly<S> as PageStore>⟧.seen self.old).count }
+        // It fails only if the store below does.
         ensures passes { OnErr result
             (Faulted (S.seen self.old.store) (S.seen self.new.store)) }
+        // Of a faithful store it is the page that was last written there.
         ensures read { OnOk result
             (IsTrue (⟦<ReadOnly<S> as PageStore>⟧.seen self.old).is_faithful
             → slice_get (⟦<ReadOnly<S> as PageStore>⟧.seen self.old).pages number
             ≡ Some page.new) }
+        // No page changes.
         ensures stays { Stays (⟦<ReadOnly<S> as PageStore>⟧.seen self.old)
             (⟦<ReadOnly<S> as PageStore>⟧.seen self.new) }
-        ensures unsynced { SameUnsynced (⟦<ReadOnly<S> as PageStore>⟧.seen self.old)
-            (⟦<ReadOnly<S> as PageStore>⟧.seen self.new) }
+        // After `Ok` no fault was counted.
         ensures refuses_none { OnOk result
             ((⟦<ReadOnly<S> as PageStore>⟧.seen self.new).faults
             ≡ (⟦<ReadOnly<S> as PageStore>⟧.seen self.old).faults) }
+        // An error is counted as a fault.
         ensures cause { OnErr result
             (Faulted (⟦<ReadOnly<S> as PageStore>⟧.seen self.old)
             (⟦<ReadOnly<S> as PageStore>⟧.seen self.new)) }
@@ -68,27 +71,14 @@ impl<S: PageStore> PageStore for ReadOnly<S> {
 
     /// Refuses to write a page: no page changes.
     fn write(&mut self, _number: u32, _page: &[u8; 4096]) -> Result<(), StoreFault>
+        // It always fails.
         ensures refused { IsErr result }
+        // No page changes.
         ensures stays { Stays (⟦<ReadOnly<S> as PageStore>⟧.seen self.old)
             (⟦<ReadOnly<S> as PageStore>⟧.seen self.new) }
-        ensures written { OnOk result
-            (Writes _number _page.now (⟦<ReadOnly<S> as PageStore>⟧.seen self.old)
-            (⟦<ReadOnly<S> as PageStore>⟧.seen self.new)) }
-        ensures unsynced { OnOk result (Unsyncs _number
-            (⟦<ReadOnly<S> as PageStore>⟧.seen self.old)
-            (⟦<ReadOnly<S> as PageStore>⟧.seen self.new)) }
-        ensures refuses_none { OnOk result
-            ((⟦<ReadOnly<S> as PageStore>⟧.seen self.new).faults
-            ≡ (⟦<ReadOnly<S> as PageStore>⟧.seen self.old).faults) }
-        ensures torn { OnErr result
-            (Tears _number (⟦<ReadOnly<S> as PageStore>⟧.seen self.old)
-            (⟦<ReadOnly<S> as PageStore>⟧.seen self.new)) }
-        ensures torn_unsynced { OnErr result (MayUnsync _number
-            (⟦<ReadOnly<S> as PageStore>⟧.seen self.old)
-            (⟦<ReadOnly<S> as PageStore>⟧.seen self.new)) }
-        ensures cause { OnErr result
-            (Faulted (⟦<ReadOnly<S> as PageStore>⟧.seen self.old)
-            (⟦<ReadOnly<S> as PageStore>⟧.seen self.new)) }
+        // The error is counted as a fault.
+        ensures cause { Faulted (⟦<ReadOnly<S> as PageStore>⟧.seen self.old)
+            (⟦<ReadOnly<S> as PageStore>⟧.seen self.new) }
     {
         self.faults.count(Err(StoreFault))
     }

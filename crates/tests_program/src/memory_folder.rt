@@ -114,7 +114,6 @@ pub(crate) struct MemFolder {
     past: VecDeque<Option<Vec<[u8; 4096]>>>,
     calls: Calls,
     is_settled: bool,
-    copy_calls: u64,
     refused: FolderRefusals,
     has_copy: bool,
 }
@@ -128,7 +127,6 @@ impl MemFolder {
             past: VecDeque::new(alloc),
             calls,
             is_settled: true,
-            copy_calls: 0,
             refused: FolderRefusals::nothing(),
             has_copy: false,
         }
@@ -176,21 +174,16 @@ impl MemFolder {
 impl Folder for MemFolder {
     type Store = MemCopy;
 
-    ghost held = { λ f. Some (option_map (λ v. v.items) f.file
-        ∷ map (option_map (λ v. v.items)) f.past.items) };
+    ghost use Rattle.sessions.specs.Folder.{FolderView};
 
-    ghost is_settled = { λ f. f.is_settled };
-
-    ghost refusals = { λ f. f.refused.refusals };
-
-    ghost last_fault = { λ f. f.refused.last };
-
-    ghost copy_calls = { λ f. f.copy_calls };
-
-    ghost has_copy = { λ f. f.has_copy };
+    ghost seen = { λ f. record {
+      held = Some (option_map (λ v. v.items) f.file ∷ map (option_map (λ v. v.items)) f.past.items);
+      is_settled = f.is_settled;
+      has_copy = f.has_copy;
+      refused = f.refused;
+    } };
 
     fn copy(&mut self) -> Result<MemCopy, Fault<'static>> {
-        self.copy_calls = self.copy_calls.saturating_add(1);
         if self.calls.burns() {
             return Err(self.refused.note(Fault::Run(RunFault::Store)));
         }
@@ -222,7 +215,6 @@ impl Folder for MemFolder {
 
     fn replace(&mut self, store: MemCopy) -> Result<(), Fault<'static>> {
         self.calls = store.calls;
-        self.is_settled = false;
         if self.calls.burns() {
             return Err(self.refused.note(Fault::Run(RunFault::Store)));
         }
@@ -231,6 +223,7 @@ impl Folder for MemFolder {
             Ok(()) => {
                 self.file = Some(store.pages);
                 self.has_copy = false;
+                self.is_settled = false;
                 Ok(())
             }
             Err(refused) => {

@@ -32,9 +32,9 @@ fn name_of(alloc: Global, folder: &str, part: u64) -> Result<String, AllocError>
 }
 
 impl<'a, R: Files<File = File> + AllocGlobal> PartFolder for SystemParts<'a, R> {
-    ghost puts = { λ _. None };
+    ghost use Rattle.sessions.specs.Parts.{PartsView};
 
-    ghost refusals = { λ s. s.refusals };
+    ghost seen = { λ s. record { puts = None; refusals = s.refusals } };
 
     fn put(&mut self, part: u64, text: &[u8]) -> Result<(), RunFault> {
         let alloc = self.rt.alloc();

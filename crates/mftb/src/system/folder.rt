@@ -39,8 +39,6 @@ pub(crate) struct SystemFolder<'a, 'p, R: Files<File = File> + Clock + Eprint> {
     is_made: bool,
     /// Whether the system was asked to make each name last that was given.
     is_settled: bool,
-    /// How often a copy was asked for.
-    copy_calls: u64,
     /// What it refused: to make a copy, to make it last, or to give it the name.
     refused: FolderRefusals,
 }
@@ -159,7 +157,6 @@ impl<'a, 'p, R: Files<File = File> + Clock + Eprint> SystemFolder<'a, 'p, R> {
                 lock,
                 is_made: false,
                 is_settled: true,
-                copy_calls: 0,
                 refused: FolderRefusals::nothing(),
             }),
             Err(fault) => {
@@ -179,8 +176,8 @@ impl<'a, 'p, R: Files<File = File> + Clock + Eprint> SystemFolder<'a, 'p, R> {
     fn make_copy(&mut self) -> Result<File, Fault<'static>>
         ensures settled { self.new.is_settled ≡ self.old.is_settled }
         ensures refused { self.new.refused ≡ self.old.refused }
-        ensures copy_calls { self.new.copy_calls ≡ self.old.copy_calls }
         ensures made { OnOk result (IsTrue self.new.is_made) }
+        ensures copy { IsTrue self.old.is_made → IsTrue self.new.is_made }
         ensures named { IfErr result IsOfFolder }
     {
         let (rt, name) = (self.rt, self.names.copy.as_str());
@@ -206,20 +203,16 @@ impl<'a, 'p, R: Files<File = File> + Clock + Eprint> SystemFolder<'a, 'p, R> {
 impl<'a, 'p, R: Files<File = File> + Clock + Eprint> Folder for SystemFolder<'a, 'p, R> {
     type Store = Noted<'a, 'p, FileStore<HeldFile<'a, File>>, R>;
 
-    ghost held = { λ _. None };
+    ghost use Rattle.sessions.specs.Folder.{FolderView};
 
-    ghost is_settled = { λ s. s.is_settled };
-
-    ghost refusals = { λ s. s.refused.refusals };
-
-    ghost last_fault = { λ s. s.refused.last };
-
-    ghost copy_calls = { λ s. s.copy_calls };
-
-    ghost has_copy = { λ s. s.is_made };
+    ghost seen = { λ s. record {
+      held = None;
+      is_settled = s.is_settled;
+      has_copy = s.is_made;
+      refused = s.refused;
+    } };
 
     fn copy(&mut self) -> Result<Noted<'a, 'p, FileStore<HeldFile<'a, File>>, R>, Fault<'static>> {
-        self.copy_calls = self.copy_calls.saturating_add(1);
         let copy = match self.make_copy() {
             Ok(copy) => copy,
             Err(fault) => return Err(self.refused.note(fault)),
@@ -250,12 +243,12 @@ impl<'a, 'p, R: Files<File = File> + Clock + Eprint> Folder for SystemFolder<'a,
         _store: Noted<'a, 'p, FileStore<HeldFile<'a, File>>, R>,
     ) -> Result<(), Fault<'static>> {
         let (copy, name) = (self.names.copy.as_str(), self.names.store.as_str());
-        self.is_settled = false;
         if let Err(error) = fs::rename(self.rt, copy, name) {
             let fault = Fault::NoStore(Cause::from(error.kind()));
             return Err(self.refused.note(fault));
         }
         self.is_made = false;
+        self.is_settled = false;
         Ok(())
     }
 

@@ -6,8 +6,7 @@ use Rattle.sessions.proofs.part_files.put_parts.Given as goal
 abbrev pub invariant-loop-done : goal.invariant-loop-done
 invariant-loop-done g l = record {
   within : l.done ≤ l.count;
-  later : g.F.PartFolder.refusals l.initial.folder ≤ g.F.PartFolder.refusals l.folder;
-  puts : g.F.PartFolder.puts l.folder ≡ with_puts (g.F.PartFolder.puts l.initial.folder) (parts_from l.first l.done l.n l.bytes);
+  puts : g.F.PartFolder.seen l.folder ≡ with_puts (g.F.PartFolder.seen l.initial.folder) (parts_from l.first l.done l.n l.bytes);
 }
 
 abbrev pub decreases-loop-done : goal.decreases-loop-done

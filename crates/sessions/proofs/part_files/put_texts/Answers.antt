@@ -8,8 +8,7 @@ loop-text-preserved g c =
     let i = c.loop-text.text-index in
     record {
       next = omega (arith, c.loop-text.invariant.next);
-      later = (let was = c.loop-text.invariant.later in let now = c.put.ensures.later in omega (arith, was, now));
-      puts = put_more (g.F.PartFolder.puts c.args.folder.now) (g.F.PartFolder.puts c.put.new.self) c.args.first c.loop-text.part i (map (λ text. text.items) c.args.texts.now) r.items
+      puts = put_more (g.F.PartFolder.seen c.args.folder.now) (g.F.PartFolder.seen c.put.new.self) c.args.first c.loop-text.part i (map (λ text. text.items) c.args.texts.now) r.items
           (items_length (λ text. text.items) c.args.texts.now i c.loop-text-test.true) c.loop-text.invariant.next
-          (c.in-Ok.ensures.put ∙ items_at (λ text. text.items) c.args.texts.now i r c.loop-text.part c.as_slice.result.now (g.F.PartFolder.puts c.loop-text.folder) _ c.loop-text-test.true c.as_slice.ensures.value c.text-item.is c.loop-text.invariant.puts);
+          (c.in-Ok.ensures.put ∙ items_at (λ text. text.items) c.args.texts.now i r c.loop-text.part c.as_slice.result.now (g.F.PartFolder.seen c.loop-text.folder) _ c.loop-text-test.true c.as_slice.ensures.value c.text-item.is c.loop-text.invariant.puts);
     }

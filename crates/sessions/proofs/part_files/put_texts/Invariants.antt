@@ -5,6 +5,5 @@ use Rattle.sessions.proofs.part_files.put_texts.Given as goal
 abbrev pub invariant-loop-text : goal.invariant-loop-text
 invariant-loop-text g l = record {
   next : l.part ≡ l.first + l.text-index;
-  later : g.F.PartFolder.refusals l.initial.folder ≤ g.F.PartFolder.refusals l.folder;
-  puts : g.F.PartFolder.puts l.folder ≡ with_puts (g.F.PartFolder.puts l.initial.folder) (numbered l.first (take l.text-index (map (λ text. text.items) l.texts)));
+  puts : g.F.PartFolder.seen l.folder ≡ with_puts (g.F.PartFolder.seen l.initial.folder) (numbered l.first (take l.text-index (map (λ text. text.items) l.texts)));
 }
