@@ -1,5 +1,6 @@
 //! Fractions with a denominator above 0.
-ghost use Rattle.std.specs.Prelude.{◌≡◌, ◌<◌, ◌^◌, ℤ, pos, ◌+ℤ◌, ◌*ℤ◌, ◌<ℤ◌, unsigned_abs, IfSome};
+ghost use Rattle.std.specs.Prelude.{◌≡◌, ◌<◌, ◌^◌, ℤ, pos, ◌+ℤ◌, ◌*ℤ◌, ◌<ℤ◌, unsigned_abs, FitsSigned, IfSome};
+ghost use Rattle.std.specs.Int.{w64, w128};
 ghost use Rattle.std.specs.Ordering.{int_cmp};
 
 use crate::parts::compare_parts;
@@ -56,6 +57,55 @@ fn sign_by_root(c0: i128, c1: i128, at: Fraction) -> Ordering
     }
 }
 
+/// A number as one of 64 bits, if it is one.
+fn narrow(number: i128) -> Option<i64>
+    ensures value { IfSome result (λ narrow. narrow ≡ number) }
+    ensures range { IfSome result (λ narrow. FitsSigned w64 narrow) }
+{
+    match i64::try_from(number) {
+        Ok(narrow) => Some(narrow),
+        Err(_) => None,
+    }
+}
+
+/// The product of two numbers of 64 bits.
+fn product(a: i64, b: i64) -> i128
+    ensures value { result ≡ a *ℤ b }
+    ensures range { FitsSigned w128 result }
+{
+    a as i128 * b as i128
+}
+
+/// The product of two numbers; `None` if one has more than 64 bits.
+fn narrow_product(a: i128, b: i128) -> Option<i128>
+    ensures { IfSome result (λ value. value ≡ a *ℤ b) }
+{
+    let x = narrow(a)?;
+    let y = narrow(b)?;
+    Some(product(x, y))
+}
+
+/// c0 * den + c1 * num; `None` if one of the four has more than 64 bits, or the sum more than 127.
+fn narrow_value_at(c0: i128, c1: i128, at: Fraction) -> Option<i128>
+    ensures { IfSome result (λ value. value ≡ c0 *ℤ at.den +ℤ c1 *ℤ at.num) }
+{
+    let start = narrow_product(c0, at.den)?;
+    let growth = narrow_product(c1, at.num)?;
+    start.checked_add(growth)
+}
+
+/// The sign of c0 + c1 * s at a fraction s, by products of 128 bits or by the order of fractions.
+fn wide_sign_at(c0: i128, c1: i128, at: Fraction) -> Ordering
+    requires small { unsigned_abs c0 < 2 ^ 127 }
+    requires small_slope { unsigned_abs c1 < 2 ^ 127 }
+    ensures { result ≡ int_cmp (c0 *ℤ at.den +ℤ c1 *ℤ at.num) (pos 0) }
+{
+    match value_at(c0, c1, at) {
+        Some(value) => value.cmp(&0),
+        None => sign_by_root(c0, c1, at),
+    }
+}
+
 /// The sign of c0 + c1 * s at a fraction s: of c0 * den + c1 * num, against 0.
 pub fn sign_at(c0: i128, c1: i128, at: Fraction) -> Ordering
     // c0 is below 2^127 in size.
@@ -65,8 +115,8 @@ pub fn sign_at(c0: i128, c1: i128, at: Fraction) -> Ordering
     // The order of c0 * den + c1 * num and 0, as whole numbers without bound.
     ensures { result ≡ int_cmp (c0 *ℤ at.den +ℤ c1 *ℤ at.num) (pos 0) }
 {
-    match value_at(c0, c1, at) {
+    match narrow_value_at(c0, c1, at) {
         Some(value) => value.cmp(&0),
-        None => sign_by_root(c0, c1, at),
+        None => wide_sign_at(c0, c1, at),
     }
 }
