@@ -22,7 +22,7 @@ use Rattle.register.specs.Saving.{contents_of, KeepsTree, PutsFields}
 use Rattle.register.specs.Text.{catalogue_text}
 use Rattle.header.specs.declared.header_fields.Fields.{Fields}
 use Rattle.register.proofs.ReaderLemmas.{some_none}
-use Rattle.register.proofs.SavingLemmas.{passes_trans}
+use Rattle.tbtree.proofs.PassLemmas.{passes_trans}
 use Rattle.register.proofs.SpareLemmas.{same_spare, spares_then, spares_trans, stays_spares}
 
 not_first : (n : ℕ) → 0 < n → (0 == n) ≡ false

@@ -11,6 +11,7 @@ use Rattle.pagecache.specs.declared.fault.CacheFault.{CacheFault}
 use Rattle.pagecache.specs.declared.fault.CacheFault.TheVariants as cache
 use Rattle.register.specs.ChainReader.{fault_of}
 use Rattle.tbtree.specs.Passes.{Passes}
+use Rattle.tbtree.proofs.PassLemmas.{passes_refl, passes_trans}
 use Rattle.register.specs.ChainWriter.{Holds, IsAllowed, WriterView, IsCaused as IsCausedThere}
 use Rattle.register.proofs.EncodingLemmas.{listed_more}
 use Rattle.tbtree.specs.Nodes.{pages_of_cache}
@@ -24,30 +25,6 @@ use Rattle.register.specs.Text.{catalogue_text, features_bytes, head_text, rows_
 use Rattle.register.specs.Saving.{contents_of, features_of, HasPageZero, IsSavingStop, IsCatalogue, IsCaused, KeepsTree, Puts, Saves}
 use Rattle.register.specs.declared.fault.CatalogueFault.{CatalogueFault}
 use Rattle.register.specs.declared.fault.CatalogueFault.TheVariants.{Memory, Store, StoreFull, Damaged, Unfinished, Version, Malformed}
-
-passes_refl : (a : Cache) → Passes a a
-passes_refl a = record {
-  store = record { most = refl; faithful = refl; faults = omega arith; lost = λ l. l };
-  capacity = refl;
-  count = omega arith;
-  asked = omega (arith, clamps);
-  first = λ f h. refl;
-  unmarked = λ h u. u;
-  written = λ f h u. refl;
-}
-
-pub passes_trans : (a b c : Cache) → Passes a b → Passes b c → Passes a c
-passes_trans a b c p q =
-    let more = p.count in
-    record {
-      store = record { most = q.store.most ∙ p.store.most; faithful = q.store.faithful ∙ p.store.faithful; faults = omega (arith, p.store.faults, q.store.faults); lost = λ l. q.store.lost (p.store.lost l) };
-      capacity = q.capacity ∙ p.capacity;
-      count = omega (arith, more, q.count);
-      asked = omega (arith, clamps, p.asked, q.asked);
-      first = λ f h. q.first (p.store.faithful ∙ f) (omega (arith, more, h)) ∙ p.first f h;
-      unmarked = λ h u. q.unmarked (omega (arith, more, h)) (p.unmarked h u);
-      written = λ f h u. q.written (p.store.faithful ∙ f) (omega (arith, more, h)) (p.unmarked h u) ∙ p.written f h u;
-    }
 
 -- a text that is not written yet grows
 grown : (c : Cache) (w : WriterView) (bytes text : List ℕ) → Holds c w text → Holds c (record w { text = w.text ++ bytes }) (text ++ bytes)

@@ -14,7 +14,7 @@ use Rattle.pagecache.specs.declared.fault.CacheFault.TheVariants as cache
 use Rattle.tbnode.specs.Form.{node_of, node_by}
 use Rattle.tbtree.specs.Descent.{IsSameTree, node_in}
 use Rattle.tbtree.specs.Nodes.{Pages, pages_of_cache}
-use Rattle.tbtree.specs.Passes.{Passes, KeepsLength}
+use Rattle.tbtree.specs.Passes.{Passes}
 use Rattle.register.specs.Chain.{part_payload}
 use Rattle.register.specs.ChainSteps.{Fills, Gives, PayloadsStay}
 use Rattle.register.specs.Saved.{SparesTree}
@@ -136,11 +136,10 @@ unfolding zero_payload
 zero_kind = refl
 
 -- a page is added above page 0
-pub gives_added : (a b c : Cache) (n : ℕ) → Passes a b → KeepsLength a b → PayloadsStay a b → 0 < b.count → Adds (zero_payload Catalogue) b c → n ≡ b.count → payload_of b b.count ≡ None → (b.count ≡ b.store.count → c.count ≡ c.store.count) → Gives a n c
-gives_added a b c n p len stay some s at none more = record {
+pub gives_added : (a b c : Cache) (n : ℕ) → Passes a b → PayloadsStay a b → 0 < b.count → Adds (zero_payload Catalogue) b c → n ≡ b.count → payload_of b b.count ≡ None → Gives a n c
+gives_added a b c n p stay some s at none = record {
   above = omega (arith, at, some);
   below = (let k = s.count in omega (arith, k, at));
-  length = λ e. more (len e);
   own = λ f. record { above = omega (arith, at, some); payload = zero_payload Catalogue; is = s.payloads (p.store.faithful ∙ f) n ∙ ap (λ t. cond t (Some (zero_payload Catalogue)) (payload_of b n)) (is_page b.count n (sym at)); kind = zero_kind };
   stay = stay_trans a b c p stay (adds_stay b c (zero_payload Catalogue) none s);
 }

@@ -1,10 +1,11 @@
 -- Helpers of private functions: the steps in which a text is written to a chain of pages.
-use Rattle.std.specs.Prelude.{ℕ, ◌≡◌, ◌≢◌, ◌<◌, ◌≤◌, ◌+◌, ◌-◌, ◌^◌, min, false, List, [], ◌∷◌, ◌++◌, length, drop, All, Some, IsTrue}
+use Rattle.std.specs.Prelude.{ℕ, ◌≡◌, ◌≢◌, ◌<◌, ◌≤◌, ◌+◌, ◌-◌, ◌^◌, min, List, [], ◌∷◌, ◌++◌, length, drop, All, Some, IsTrue, Result, OnOk, IfErr}
 use Rattle.pages.specs.declared.payload.Kind.TheVariants.{Catalogue}
 use Rattle.pages.specs.declared.payload.Payload.{Payload}
-use Rattle.pagecache.specs.Cache.{Cache, SameLength, KeepsPayloads, Writes, is_changed, payload_of}
+use Rattle.pagecache.specs.Cache.{Cache, SameLength, KeepsPayloads, Writes, payload_of}
+use Rattle.pagecache.specs.declared.fault.CacheFault.{CacheFault}
 use Rattle.tbtree.specs.Passes.{Passes, KeepsLength}
-use Rattle.register.specs.ChainWriter.{Holds, IsOwn, WriterView}
+use Rattle.register.specs.ChainWriter.{Holds, IsAllowed, IsCaused, IsOwn, WriterView}
 use Rattle.register.specs.Saved.{SparesTree}
 
 -- the number of a page above page 0, in four bytes
@@ -38,16 +39,20 @@ pub record IsThere (c : Cache) (n : ℕ) : Type 0 where
 pub record Gives (old : Cache) (n : ℕ) (new : Cache) : Type 0 where
   pub above : 0 < n
   pub below : n < new.count
-  pub length : KeepsLength old new
   pub own : IsTrue old.store.is_faithful → IsOwn (payload_of new) n
   pub stay : PayloadsStay old new
 
--- page n has that payload, and no other has another; where it had it already and was not changed, it still is not; it
--- may be asked for more than once
+-- what taking a page leaves, and why it is refused
+pub record TakesPages {T : Type 0} (old new : Cache) (result : Result T CacheFault) : Type 0 where
+  pub passes : Passes old new
+  pub length : OnOk result (KeepsLength old new)
+  pub tree : SparesTree old new
+  pub only : IfErr result IsAllowed
+  pub caused : IfErr result (IsCaused old new)
+
+-- page n has that payload, and no other has another; it may be asked for more than once
 pub record Fills (n : ℕ) (w : Payload) (old new : Cache) : Type 0 where
   pub writes : Writes n w old new
-  pub kept : IsTrue old.store.is_faithful → payload_of old n ≡ Some w
-      → is_changed old n ≡ false → is_changed new n ≡ false
   pub length : SameLength old new
   pub asked : min old.asked (2 ^ 64 - 1) ≤ new.asked
 
@@ -61,11 +66,18 @@ pub record OnlyAsks (old new : Cache) : Type 0 where
 abbrev pub behind : ℕ → WriterView → WriterView
 behind n w = record w { text = drop n w.text }
 
--- the first n bytes that were not written now are
-pub record WritesParts (old : Cache) (v : WriterView) (n : ℕ) (new : Cache)
-    (w : WriterView) : Type 0 where
-  pub text : w.text ≡ v.text
-  pub holds : (text : List ℕ) → Holds old v text → Holds new (behind n w) text
+-- what writing on leaves, and why it is refused
+pub record WritesOn {T : Type 0} (old new : Cache) (w : WriterView)
+    (result : Result T CacheFault) : Type 0 where
   pub passes : Passes old new
-  pub length : KeepsLength old new
-  pub tree : (text : List ℕ) → Holds old v text → SparesTree old new
+  pub length : OnOk result (KeepsLength old new)
+  pub tree : (text : List ℕ) → Holds old w text → SparesTree old new
+  pub only : (text : List ℕ) → Holds old w text → IsTrue old.store.is_faithful
+      → IfErr result IsAllowed
+  pub caused : IfErr result (IsCaused old new)
+
+-- these bytes are put at the end of a text, and what they spell is whole
+pub record Pushes {T E : Type 0} (bytes : List ℕ) (is_whole : Type 0) (old new : WriterView)
+    (result : Result T E) : Type 0 where
+  pub pushed : OnOk result (new ≡ record old { text = old.text ++ bytes })
+  pub whole : OnOk result is_whole

@@ -2,7 +2,6 @@
 ghost use Rattle.std.specs.Prelude.{List, ◌≡◌, ◌≢◌, ◌≤◌, ◌<◌, ◌-◌, ◌↔◌, [], length, All, IsTrue, IfOk, IfErr, IfSome, OnOk, None, Some};
 ghost use Rattle.timebase.specs.Instant.{IsMoment};
 ghost use Rattle.legs.specs.Law.{IsName};
-ghost use Rattle.legs.specs.Limits.{IsLimits};
 ghost use Rattle.legs.specs.declared.head.BookHead.{BookHead};
 ghost use Rattle.register.specs.Building.{number_of, tree_of, AddsFeature, AreLawful, IsKnown, IsOf};
 ghost use Rattle.register.specs.ChainReader.{IsBroken, IsTextFault};
@@ -143,7 +142,6 @@ pub fn is_within(count: u32, fields: &Fields) -> bool
 fn is_few(tracks: &Tracks, limits: &Limits) -> bool
     ensures few { IsTrue result ↔ ((length tracks.now.names ≤ limits.now.features)
         × (tracks.now.legs ≤ limits.now.legs)) }
-    ensures limits { IsLimits limits.now }
 {
     tracks.feature_count() <= u64::from(limits.features()) && tracks.leg_count() <= limits.legs()
 }

@@ -11,9 +11,9 @@ loop-column-preserved c =
       whole = all_more IsColumn c.as_slice-columns.result.now c.column-item.result _ c.loop-column.column-index c.loop-column-test.true c.column-item.is c.loop-column.invariant.whole c.in_ok-push_column.ensures.whole;
     }
 
-pub returns-clause-whole : goal.returns-clause-whole
-returns-clause-whole c =
+pub returns : goal.returns
+returns c =
     let columns : List Column = c.as_slice-columns.result.now in
     let each : All IsColumn columns = all_taken IsColumn columns c.loop-column.column-index (omega (arith, c.loop-column.auto.column-index-end, c.loop-column-test.false)) c.loop-column.invariant.whole in
     let few : length columns < 2 ^ 64 = search rules in
-    subst HasColumns c.as_slice-columns.ensures (record { each = each; few = few })
+    record { pushed = search rules; whole = subst HasColumns c.as_slice-columns.ensures (record { each = each; few = few }) }

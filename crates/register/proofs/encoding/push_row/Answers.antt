@@ -1,4 +1,4 @@
-use Rattle.std.proofs.Common.{[], arith}
+use Rattle.std.proofs.Common.{[], arith, rules}
 use Rattle.register.specs.Text.{short_text, IsShortText}
 use Rattle.register.proofs.EncodingLemmas.{all_more, all_taken, pushed_more}
 use Rattle.register.proofs.encoding.push_row.Goals as goal
@@ -11,5 +11,5 @@ values-preserved c =
       whole = all_more IsShortText c.args.row.now c.value.result.now [] i (omega (arith, c.values-test.true, c.len-i-end.ensures)) c.value.ensures c.values.invariant.whole c.in_ok-push_text.ensures.whole;
     }
 
-pub returns-clause-whole : goal.returns-clause-whole
-returns-clause-whole c = all_taken IsShortText c.args.row.now c.values.i (omega (arith, c.values-test.false, c.len-i-end.ensures)) c.values.invariant.whole
+pub returns : goal.returns
+returns c = record { pushed = search rules; whole = all_taken IsShortText c.args.row.now c.values.i (omega (arith, c.values-test.false, c.len-i-end.ensures)) c.values.invariant.whole }

@@ -1,4 +1,4 @@
-use Rattle.std.proofs.Common.{◌≡◌, ◌≤◌, length, ap, ◌∙◌, arith}
+use Rattle.std.proofs.Common.{◌≡◌, ◌≤◌, length, ap, ◌∙◌, arith, rules}
 use Rattle.register.proofs.SpareLemmas.{stays_spares}
 use Rattle.register.proofs.WriterLemmas.{closed, last_tree}
 use Rattle.register.specs.ChainWriter.{WriterView}
@@ -15,8 +15,10 @@ returns-clause-text g c = λ text h some f.
     closed c.args.cache.now c.write_page.new.cache c.deref.result.now text c.last-last.result short c.in_ok-write_page.ensures.writes f some
     v items c.text_len.result c.first.result e c.deref.ensures.value c.last-last.ensures.last c.first.ensures.first c.text_len.ensures c.first.ensures.small h
 
-pub returns-clause-tree : goal.returns-clause-tree
-returns-clause-tree g c = λ text h. last_tree c.args.cache.now c.write_page.new.cache c.args.self.now c.last-last.result 0 _ text c.last-last.ensures.last c.last-last.ensures.some c.in_ok-write_page.ensures.writes h
+pub returns-clause-writes : goal.returns-clause-writes
+returns-clause-writes g c =
+    let tree = last_tree c.args.cache.now c.write_page.new.cache c.args.self.now c.last-last.result 0 _ c.last-last.ensures.last c.last-last.ensures.some c.in_ok-write_page.ensures.writes in
+    record { passes = search rules; length = search rules; tree = tree; only = search rules; caused = tt }
 
-pub returns-in_err-write_page-clause-tree : goal.returns-in_err-write_page-clause-tree
-returns-in_err-write_page-clause-tree g c = λ text h. stays_spares _ _ c.in_err-write_page.ensures.rests.stays
+pub returns-in_err-write_page-clause-writes : goal.returns-in_err-write_page-clause-writes
+returns-in_err-write_page-clause-writes g c = record { passes = search rules; length = search rules; tree = λ text h. stays_spares _ _ c.in_err-write_page.ensures.rests.stays; only = search rules; caused = search rules }
