@@ -98,7 +98,7 @@ def comment_above(lines: list[str], at: int, mark: str) -> list[str]:
 
 
 def fields_of(lines: list[str], indent: int) -> list[Field]:
-    """The fields of a record, each with the comment right above it."""
+    """The fields of a record, each with the comment above it: one holds for all fields up to the next comment."""
     found: list[Field] = []
     above: list[str] = []
     for line in lines[1:]:
@@ -106,7 +106,8 @@ def fields_of(lines: list[str], indent: int) -> list[Field]:
         if line.strip().startswith("--"):
             above.append(line)
         elif match and len(match[1]) == indent:
-            found.append(Field(match[2], plain(above, "--"), line))
+            shared = found[-1].comment if found and not above else ""
+            found.append(Field(match[2], plain(above, "--") or shared, line))
             above = []
         elif found and line.strip():
             found[-1].text += "\n" + line

@@ -2,14 +2,16 @@
 
 Names are resolved as the prover does: by `use` lines, by names that a file shows on, and else in the file itself. Of a
 record of call clauses only the fields that are asked for are followed; of the words of an index, which clauses are
-handed whole, only those that are said. What the kit defines is listed, and not followed.
+handed whole, only those that are said. Of a Rust type what contracts see of it is followed, and the types of its fields.
+What the kit defines is listed, and not followed.
 """
 import re
 from dataclasses import dataclass, field
 from pathlib import Path
 
 from contracts import Clause, Function
-from definitions import Definition, SpecFile, code_of, names_of
+from definitions import Definition, Names, SpecFile, code_of, names_of
+from rusttypes import BOUND, RustType, RustTypes
 
 NAME = re.compile(r"[A-Za-z_«][\w'»]*(?:-[A-Za-z_0-9][\w']*)*(?:\.[A-Za-z_0-9][\w'\-]*)*")
 SIGN = re.compile(r"[^\s\w(){}\[\].,;:'`«»]+")
@@ -17,6 +19,9 @@ WORD = re.compile(r"(?m)^  (\w+) = (λ[^;]*);")
 # The record of what contracts see of an index, in the file of the index over pages, and how texts name such a record.
 WORDS = "words"
 HOLDERS = ("g", "I", WORDS)
+GHOSTS = "Ghosts"
+# What is built in, and so imported nowhere.
+BUILT_IN = ("Unit",)
 # The clauses under which a reader has to believe what is defined: what each is called, its crate, its function and its
 # name, '' for one without a name.
 HEADLINES = (
@@ -33,7 +38,8 @@ HEADLINES = (
 
 @dataclass(frozen=True)
 class Node:
-    """What a text names: a definition of a file, a Rust type of a crate, or a word of an index."""
+    """What a text names: a definition of a file, a Rust type of a crate, what contracts see of one, or a word of an
+    index."""
 
     kind: str
     place: str
@@ -55,12 +61,18 @@ class Reading:
 
     def __init__(self, root: Path, specs: dict[str, SpecFile], crates: dict):
         self.root, self.specs, self.crates = root, specs, crates
-        self.words, self.words_path = self.find_words()
+        self.types = RustTypes(root)
         self.seen: set[Node] = set()
         self.order: list[Node] = []
         # The fields that are followed of a record of clauses, by its node.
         self.cut: dict[Node, set[str]] = {}
         self.kit: set[tuple[str, str]] = set()
+        # The ghosts of a trait that texts say, by its node.
+        self.ghosts: dict[Node, set[str]] = {}
+        self.words, self.words_path = self.find_words()
+        # The trait whose ghosts the words of an index are.
+        held = specs[self.words_path].names.names.get(GHOSTS) if self.words else None
+        self.holder = self.resolve(*held) if held else None
 
     def find_words(self) -> tuple[dict[str, str], str]:
         for path, file in self.specs.items():
@@ -87,7 +99,7 @@ class Reading:
         further = file.names.shown.get(name)
         return self.resolve(*further, depth + 1) if further and depth < 5 else None
 
-    def named(self, text: str, names, path: str | None) -> list[Node]:
+    def named(self, text: str, names: Names, path: str | None) -> list[Node]:
         """What a text names, in its order."""
         text = "\n".join(code_of(line) for line in text.split("\n"))
         found: dict[Node, None] = {}
@@ -96,8 +108,6 @@ class Reading:
             first, *rest = token.split(".")
             if rest and rest[0] in self.words and first in HOLDERS:
                 found[Node("word", self.words_path, rest[0])] = None
-            if first == WORDS:
-                continue
             node = None
             if own and own.find(first):
                 node = Node("definition", path, first)
@@ -105,12 +115,14 @@ class Reading:
                 node = self.resolve(*names.names[first])
             elif first in names.modules and rest:
                 node = self.resolve(names.modules[first], rest[0])
-            if node:
+            elif first in BUILT_IN:
+                self.kit.add(("Rattle.antt", first))
+            if node and node != Node("definition", self.words_path, WORDS):
                 found[node] = None
         self.take_signs(text, names)
         return list(found)
 
-    def take_signs(self, text: str, names) -> None:
+    def take_signs(self, text: str, names: Names) -> None:
         """Notes the signs of the kit that a text uses, such as `◌++◌`."""
         signs = {f"◌{sign}◌" for sign in SIGN.findall(text)}
         self.kit |= {names.names[sign] for sign in signs if sign in names.names}
@@ -120,8 +132,8 @@ class Reading:
 
     def under(self, node: Node) -> list[Node]:
         """What a node names itself."""
-        if node.kind == "type":
-            return []
+        if node.kind in ("type", "view"):
+            return self.under_type(node)
         file = self.specs[node.place]
         if node.kind == "word":
             return self.named(self.words[node.name], file.names, node.place)
@@ -136,11 +148,53 @@ class Reading:
         found.pop(node, None)
         return list(found)
 
+    def under_type(self, node: Node) -> list[Node]:
+        """What the declaration of a Rust type leads to; where contracts see it as something else, what they see."""
+        there = self.types.find(node.place, node.name)
+        if there is None:
+            return []
+        if node in self.ghosts:
+            names = names_of(there.path.read_text().splitlines(), "//")
+            text = "\n".join(code_of(line, "//") for line in there.ghosts(self.ghosts[node]))
+            return self.named(text, names, None)
+        if there.word == "trait":
+            return []
+        below: list[Node] = []
+        if there.view:
+            made = f"{there.view.value}\n{there.view.made}"
+            below = [*self.named(made, there.view.names, None), *self.said_ghosts(made, there.view.bounds, there)]
+        fields = there.view.fields() if there.view and node.kind == "view" else None
+        return [it for it in [*below, *self.seen_types(there, there.field_types(fields))] if it != node]
+
+    def seen_types(self, there: RustType, names: list[str]) -> list[Node]:
+        """The types of crates that a type names."""
+        found = [self.types.named_in(there.path, there.crate, name) for name in names]
+        return [self.type_node(it.crate, it.name) for it in found if it and it.word in ("struct", "enum")]
+
+    def type_node(self, crate: str, name: str) -> Node:
+        """A Rust type; where contracts see it as something else, that is all there is to say."""
+        there = self.types.find(crate, name)
+        return Node("view" if there and there.view else "type", crate, name)
+
+    def said_ghosts(self, text: str, bounds: dict[str, str], there: RustType) -> list[Node]:
+        """The traits whose ghosts a text says of its type parameters, such as `S.seen`."""
+        found: list[Node] = []
+        for name, word in re.findall(r"\b([A-Z]\w*)\.(\w+)", text):
+            trait = self.types.named_in(there.path, there.crate, bounds[name]) if name in bounds else None
+            if trait and trait.ghosts({word}):
+                found.append(Node("type", trait.crate, trait.name))
+                self.ghosts.setdefault(found[-1], set()).add(word)
+        return found
+
     def head_of(self, there: Definition) -> str:
         """The text of a record before its fields."""
         return re.split(r"(?m)\bwhere\s*$", there.text, maxsplit=1)[0]
 
     # The order
+
+    def is_declared(self, node: Node) -> bool:
+        """Whether it is what contracts see of a type that is there with its declaration, which says that too."""
+        return node.kind == "view" and Node("type", node.place, node.name) in self.seen
 
     def visit(self, node: Node) -> None:
         """Takes a node behind all that it needs."""
@@ -149,7 +203,7 @@ class Reading:
             at, is_done = todo.pop()
             if is_done:
                 self.order.append(at)
-            elif at not in self.seen:
+            elif at not in self.seen and not self.is_declared(at):
                 self.seen.add(at)
                 todo.append((at, True))
                 todo += [(below, False) for below in reversed(self.under(at)) if below not in self.seen]
@@ -185,9 +239,31 @@ class Reading:
             self.cut.setdefault(record, set()).add(name)
             self.seen.discard(record)
         names = names_of(function.path.read_text().splitlines(), "//")
-        for node in self.named(clause.text.split("{", 1)[1], names, None):
+        text = clause.text.split("{", 1)[1]
+        for node in [*self.handed(function, text), *self.named(text, names, None)]:
             self.visit(node)
         return Part(title, function, clause, self.order[start:])
+
+    def handed(self, function: Function, text: str) -> list[Node]:
+        """The types that a call takes and gives, where contracts see them as something else, and the traits that its
+        clause says something of."""
+        signature = " ".join(signature_of(function))
+        lines = function.path.read_text().splitlines()
+        owner = next((line for line in reversed(lines[: function.line]) if line.startswith("impl")), "") if function.owner else ""
+        here = RustType(function.crate, function.owner, "", function.path, "", [])
+        names = [function.owner, *re.findall(r"\b[A-Z]\w*", signature)]
+        views = [node for node in self.seen_types(here, names) if node.kind == "view"]
+        return [*dict.fromkeys(views), *self.said_ghosts(text, dict(BOUND.findall(owner + signature)), here)]
+
+
+def signature_of(function: Function) -> list[str]:
+    """The lines of a function before its clauses."""
+    found: list[str] = []
+    for line in function.head:
+        if line.strip().startswith(("//", "ensures", "requires", "decreases", "measure")):
+            break
+        found.append(line)
+    return found
 
 
 def read_headlines(root: Path, specs: dict[str, SpecFile], crates: dict) -> tuple[Reading, list[Part]]:

@@ -3,13 +3,19 @@ import re
 from collections import defaultdict
 from pathlib import Path
 
-from contracts import Crate, Function, comment_of
-from definitions import Definition, SpecFile
-from reading import Node, Part, Reading
+from contracts import Function
+from definitions import Definition, SpecFile, names_of
+from hints import Hints
+from premises import premises
+from reading import Node, Part, Reading, signature_of
+from rusttypes import RustType
 
 PLACES = {"clauses": "docs/reference/CLAUSES.md", "definitions": "docs/reference/DEFINITIONS.md", "reading": "docs/proof/READING.md"}
 MADE = "<!-- Made by tools/reference: change the sources, and run it again. -->"
-TYPE = r"(?m)^pub(?:\([a-z ]+\))? (?:struct|enum|trait|type) {}\b"
+# A comment that begins so is of what stands above it too.
+LEANS = re.compile(r"(?:they|their|its|or|and|which is so|with|there are both|the same as|the second of the two)\b")
+# What of names of the kit is asked first.
+NOTES = {"slice_index": "0 past the end", "Unit": "what always holds"}
 # The crate that has calls of others under one clause each, for the must-fail edits alone.
 BODIES = "contract_tests"
 # The call of the program, which is in no library.
@@ -113,49 +119,51 @@ def definitions_page(specs: dict[str, SpecFile]) -> str:
 # Reading
 
 
-def type_text(root: Path, crate: str, name: str, words: set[str]) -> tuple[str, str, str]:
-    """The file, the comment and the text of a Rust type; of a trait what contracts see of it, of an index only the
-    words that are said."""
-    for path in sorted((root / "crates" / crate / "src").rglob("*.rt")):
-        source = path.read_text()
-        if found := re.search(TYPE.format(name), source):
-            lines, at = source.splitlines(), source.count("\n", 0, found.start())
-            end = at
-            while not re.match(r"[})]|.*[;}]$", lines[end]) or lines[end].startswith(" "):
-                end += 1
-            text = lines[at : end + 1]
-            if " trait " in lines[at]:
-                text = seen_of(text, words)
-            return str(path.relative_to(root)), comment_of(lines, at), "\n".join(text)
-    return f"crates/{crate}/src", "", ""
-
-
-def seen_of(lines: list[str], words: set[str]) -> list[str]:
-    """What contracts see of a trait, of these words alone."""
-    kept: list[str] = []
-    for at, line in enumerate(lines):
-        found = re.match(r"    ghost (\w+)\b", line)
-        if found and found[1] in words:
-            above = at
-            while lines[above - 1].strip().startswith("///"):
-                above -= 1
-            end = at
-            while not lines[end].endswith(";"):
-                end += 1
-            kept += lines[above : end + 1]
-    return [lines[0], *kept, "}"]
-
-
-def node_part(root: Path, reading: Reading, node: Node, words: set[str]) -> str:
-    if node.kind == "type":
-        path, comment, text = type_text(root, node.place, node.name, words)
-        text = fenced(text, "rust")
+def node_part(root: Path, reading: Reading, node: Node, hints: Hints) -> str:
+    if node.kind in ("type", "view"):
+        there = reading.types.find(node.place, node.name)
+        path, comment = (str(there.path.relative_to(root)), there.comment) if there else (f"crates/{node.place}/src", "")
+        # What a view keeps to itself is no matter of contracts.
+        comment = comment.split("\n\n")[0] if node.kind == "view" else comment
+        lines = type_lines(reading, node, there) if there else []
     elif node.kind == "word":
-        path, comment, text = node.place, "What contracts see of an index over pages.", fenced(f"{node.name} = {reading.words[node.name]}", "text")
+        path, comment = node.place, f"`{node.name}` of an index over pages"
+        lines = [fenced(f"{node.name} = {reading.words[node.name]}", "text")]
     else:
-        there = reading.definition(node)
-        path, comment, text = there.path, there.comment, fenced(shown_text(reading, node), "text")
-    return "\n\n".join(filter(None, [f"### `{node.name}`", f"`{path}`", comment, text]))
+        found = reading.definition(node)
+        path, comment, lines = found.path, led(reading, found), [fenced(shown_text(reading, node), "text")]
+    return "\n\n".join([f"### {hints.head(node)}", placed(path, comment), *lines])
+
+
+def placed(path: str, comment: str) -> str:
+    """Where something stands, and what is said of it."""
+    return f"`{path}`: {comment}" if comment else f"`{path}`"
+
+
+def led(reading: Reading, there: Definition) -> str:
+    """The comment of a definition. One that leans on those above it in the file stands behind the nearest that does not;
+    one that was on the page before is not said again."""
+    if not there.comment:
+        return ""
+    definitions = [reading.definition(node) for node in reading.order if node.kind == "definition"]
+    same = next(it for it in definitions if it.comment == there.comment)
+    if same is not there:
+        return f"as `{same.name}`"
+    file = reading.specs[there.path].definitions
+    above = [it for it in file[: file.index(there)] if not LEANS.match(it.comment)]
+    return f"(after `{above[-1].name}`: {above[-1].comment}) {there.comment}" if above and LEANS.match(there.comment) else there.comment
+
+
+def type_lines(reading: Reading, node: Node, there: RustType) -> list[str]:
+    """How a Rust type is declared, and what contracts see of it; of a trait the ghosts that are said."""
+    if node.kind == "view" and there.view:
+        return [there.view.said()]
+    lines, said = there.lines, []
+    if there.word == "trait":
+        words = {word.name for word in reading.order if word.kind == "word"} if node == reading.holder else set()
+        lines = [there.lines[0], *there.ghosts(words | reading.ghosts.get(node, set())), "}"]
+        said = ["A `Ghosts I` is the record of these words for a type `I`."] if words else []
+    return [fenced("\n".join(lines), "rust"), *said, *([there.view.said()] if there.view else [])]
 
 
 def shown_text(reading: Reading, node: Node) -> str:
@@ -164,6 +172,8 @@ def shown_text(reading: Reading, node: Node) -> str:
     if node in reading.cut:
         kept = [it for it in there.fields if it.name in reading.cut[node]]
         text = reading.head_of(there) + "where\n" + "\n".join(f"  -- {it.comment}\n{it.text}" if it.comment else it.text for it in kept)
+        left = len(there.fields) - len(kept)
+        text += f"\n  -- {left} further promises: docs/reference/CLAUSES.md" if left else ""
     else:
         text = there.text
     return "\n".join([*there.modules, text])
@@ -174,7 +184,7 @@ def same_names(parts: list[Part]) -> dict[str, list[Node]]:
     by_name: dict[str, list[Node]] = defaultdict(list)
     for part in parts:
         for node in part.nodes:
-            if node not in by_name[node.name]:
+            if node.kind != "word" and node not in by_name[node.name]:
                 by_name[node.name].append(node)
     return {name: nodes for name, nodes in sorted(by_name.items()) if len(nodes) > 1}
 
@@ -184,25 +194,36 @@ def kit_names(reading: Reading) -> str:
     by_module: dict[str, set[str]] = defaultdict(set)
     for module, name in reading.kit:
         by_module[module.removeprefix("Rattle.")].add(name)
-    return "\n".join(f"- `{module}`: " + ", ".join(f"`{name}`" for name in sorted(names)) for module, names in sorted(by_module.items()))
+    said = {module: [f"`{name}` ({NOTES[name]})" if name in NOTES else f"`{name}`" for name in sorted(names)] for module, names in by_module.items()}
+    return "\n".join(f"- `{module}`: {', '.join(names)}" for module, names in sorted(said.items()))
+
+
+def clause_lines(root: Path, reading: Reading, part: Part, hints: Hints) -> list[str]:
+    """A clause under the first lines of its function, and what has to be shown before it says something."""
+    function, clause = part.function, part.clause
+    shown = "\n".join([*signature_of(function), *(f"    {line}" for line in clause.text.strip().splitlines())])
+    names = names_of(function.path.read_text().splitlines(), "//")
+    needed = premises(reading, part)
+    said = hints.meant(str(function.path.relative_to(root)), names, clause.text)
+    return [fenced(shown, "rust"), *said, *([f"It needs: {needed}."] if needed else [])]
 
 
 def reading_page(root: Path, reading: Reading, parts: list[Part]) -> str:
-    words, shown, texts = {node.name for part in parts for node in part.nodes if node.kind == "word"}, set(), []
+    hints = Hints(reading, parts)
+    texts: list[str] = []
     for part in parts:
         if part.clause is None:
             continue
-        lead = f"What `{part.function.said()}` promises. What stands under it alone is below, and then comes the clause itself."
-        texts += [f"## {part.title}", lead]
+        texts += [f"## {part.title}", f"What `{part.function.said()}` promises: what stands under it alone, and then the clause itself."]
         for node in part.nodes:
-            if node not in shown:
-                texts.append(node_part(root, reading, node, words))
-            shown.add(node)
-        texts.append(fenced(part.clause.text.strip(), "rust"))
+            texts += [node_part(root, reading, node, hints), *hints.said(node)]
+        texts += clause_lines(root, reading, part, hints)
     texts += ["## Names of the kit", "The pages of the kit say what these mean.", kit_names(reading)]
     lead = (
         "The definitions that a reader has to believe under the headline clauses, in reading order: what is needed first stands first, "
-        "and each stands once, with its file. [THEOREM](THEOREM.md) says what the clauses mean together."
+        "and each stands once, with its file. Of a Rust type stands what contracts see of its values. A name that means two things means the one "
+        "of the same crate, if nothing else is said. "
+        "[Picking up the work](../../CONTRIBUTING.md) says how to read a text, and [THEOREM](THEOREM.md) what the clauses mean together."
     )
     return page("Reading", lead, texts)
 

@@ -137,6 +137,50 @@ one = 1
 abbrev pub Runs : \u2115 \u2192 \u2115 \u2192 Type 0
 Runs old new = old \u2261 new
 """
+DB = """\
+/// A database.
+pub struct Db {
+    size: Size,
+    none: Size,
+}
+
+/// A size.
+struct Size {
+    size: u32,
+}
+
+impl Model for Size {
+    ghost use Rattle.std.specs.Prelude.{\u2115};
+
+    ghost Value = { \u2115 };
+
+    ghost view = { \u03bb a. a.size };
+}
+
+impl Model for Db {
+    ghost use Rattle.trajdb.specs.Seen.{DbView};
+
+    ghost Value = { DbView };
+
+    ghost view = { \u03bb a.
+        record { size = a.size; none = a.none } };
+}
+
+impl Db {
+    ghost use Rattle.trajdb.specs.Seen.{has_size};
+"""
+SEEN = """\
+use Rattle.std.specs.Prelude.{\u2115}
+
+-- a database
+pub record DbView : Type 0 where
+  pub size : \u2115
+  pub none : \u2115
+
+-- its size
+abbrev pub has_size : DbView \u2192 \u2115
+has_size db = db.size
+"""
 TOPS = {
     "crates/trajdb/src/lib.rt": TOP,
     "crates/trajdb/specs/Promises.antt": CALLS,
@@ -320,7 +364,56 @@ class Promises(Case):
         self.assertEqual(
             heads, ["run: ok", "`Runs`", "open: book", "`one`", "`is_open`", "`RunCall`", "Names of the kit"]
         )
-        self.assertIn("where\n  -- the book is open\n  pub book : is_open new\n```", self.made("proof/READING.md"))
+        left = "  -- 1 further promises: docs/reference/CLAUSES.md\n"
+        self.assertIn(
+            f"where\n  -- the book is open\n  pub book : is_open new\n{left}```", self.made("proof/READING.md")
+        )
+
+    def reading(self, **others):
+        """The page of what is to be read, of a repository in which some files of the database are others."""
+        self.said(**{**TOPS, **{f"crates/trajdb/{name}": text for name, text in others.items()}})
+        return self.made("proof/READING.md")
+
+    def test_the_reading_says_what_a_name_means(self):
+        use = "use Rattle.low.specs.Law.{IsLaw as Other}\nuse Rattle.low.specs.Law as law\n"
+        calls = use + CALLS.replace("is_open new", "Other \u00d7 law.IsLaw")
+        page = self.reading(**{"specs/Promises.antt": calls})
+        said = "`Other` is `IsLaw` of `crates/low/specs/Law.antt`, `law.` begins names of `crates/low/specs/Law.antt`"
+        self.assertIn(f"```\n\nHere {said}.\n", page)
+
+    def test_the_reading_says_what_a_clause_needs(self):
+        clause = "OnOk result (IsLaw \u2192 (a : \u2115) \u2192 Runs self.old a \u2192 Runs a self.new)"
+        top = TOP.replace("ensures ok { Runs self.old self.new }", f"ensures ok {{ {clause} }}")
+        page = self.reading(**{"src/lib.rt": top})
+        signature = f"```rust\npub fn run(&mut self)\n    ensures ok {{ {clause} }}\n```\n"
+        self.assertIn(f"{signature}\nIt needs: `result` is `Ok`; `IsLaw`; `Runs self.old a`.\n", page)
+
+    def test_the_reading_opens_a_name_for_what_it_needs(self):
+        runs = RUNS.replace("Runs old new = old", "Runs old new = is_open new \u2192 old")
+        self.assertIn("It needs: `is_open self.new`.\n", self.reading(**{"specs/Run.antt": runs}))
+
+    def test_the_reading_has_what_contracts_see_of_a_type(self):
+        top = TOP.replace("impl Db {\n", DB).replace(
+            "Runs self.old self.new }", "Runs (has_size self.old) (has_size self.new) }"
+        )
+        page = self.reading(**{"src/lib.rt": top, "specs/Seen.antt": SEEN})
+        self.assertIn(
+            "### `Size`\n\n`crates/trajdb/src/lib.rt`: A size.\n\nContracts see it as `\u2115`: `\u03bb a. a.size`.\n",
+            page,
+        )
+        self.assertIn(
+            "### `Db`\n\n`crates/trajdb/src/lib.rt`: A database.\n\nContracts see it as `DbView`, field by field.\n",
+            page,
+        )
+        self.assertIn(
+            "  pub size : \u2115\n  pub none : \u2115\n```\n\nNo text on this page reads `none` by itself.\n", page
+        )
+        self.assertLess(page.index("### `DbView`"), page.index("### `Db`"))
+
+    def test_a_comment_that_leans_on_the_one_above_it(self):
+        runs = RUNS.replace("-- the first", "-- or what it is to be")
+        page = self.reading(**{"specs/Run.antt": runs})
+        self.assertIn("`crates/trajdb/specs/Run.antt`: (after `is_open`: it is 1) or what it is to be\n", page)
 
     def test_a_headline_clause_that_is_not_there(self):
         said = self.said(**TOPS)
