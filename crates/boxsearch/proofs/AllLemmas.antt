@@ -10,13 +10,15 @@ use Rattle.tbtree.specs.Insert.{IsPlace, Stands}
 use Rattle.tbtree.specs.Joining.{CanTakeInTurn, leaf_by_leaf}
 use Rattle.tbtree.specs.Nodes.{pages_of_cache}
 use Rattle.boxsearch.specs.Index.{IndexView, words, content, IsSoundIndex}
-use Rattle.boxsearch.specs.Taking.{HoldsLegs, Taking, taken, ArePlacesOf, AreTurns}
+use Rattle.boxsearch.specs.Taking.{HoldsLegs, Taking, taken}
 use Rattle.boxsearch.specs.declared.turns.Turn.{Turn}
 use Rattle.tbnode.proofs.LawLemmas.{legs_are_lawful}
 use Rattle.tbtree.proofs.LawLemmas as tree
 use Rattle.tbtree.proofs.LegalLemmas.{content_lawful}
 use Rattle.tbtree.proofs.TakenOrder.{reordered, turns_taken}
 use Rattle.boxsearch.proofs.IndexLemmas.{content_is}
+use Rattle.boxsearch.proofs.TurnNumbers.{ArePlacesOf}
+use Rattle.boxsearch.proofs.TurnOrder.{AreTurns}
 
 pub holds_sound : (i : IndexView) → IsSoundIndex i → HoldsLegs i (content i)
 holds_sound i s = record {

@@ -44,19 +44,16 @@ the_fault r Q fault e h = subst (λ r. IfErr r Q) e h
 
 -- a store that is said to have failed has, and none is said to be full
 abbrev pub Said : Cache → Cache → IndexFault → Type 0
-Said old new index.Memory = Unit {0}
 Said old new index.Store = HasRisen old.store.faults new.store.faults
-Said old new (index.Damaged n) = Unit {0}
 Said old new index.StoreFull = ⊥
-Said old new index.Spent = Unit {0}
+Said old new _ = Unit {0}
 
 -- the same of an insertion, by which a store may be full
 abbrev pub SaidOfLeg : Cache → Cache → IndexFault → Type 0
-SaidOfLeg old new index.Memory = Unit {0}
 SaidOfLeg old new index.Store = HasRisen old.store.faults new.store.faults
-SaidOfLeg old new (index.Damaged n) = Unit {0}
 SaidOfLeg old new index.StoreFull = new.count ≡ new.store.most
 SaidOfLeg old new index.Spent = ⊥
+SaidOfLeg old new _ = Unit {0}
 
 -- what holds of each kind of fault holds of a fault
 pub of_each_cache : (P : CacheFault → Type 0) → P cache.NoPage → P cache.Store → ((n : ℕ) → P (cache.Damaged n)) → P cache.StoreFull → P cache.Memory → (fault : CacheFault) → P fault

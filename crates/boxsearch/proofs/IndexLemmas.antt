@@ -1,5 +1,5 @@
 -- What a reading call leaves of an index over pages.
-use Rattle.std.proofs.Common.{Bool, ◌≡◌, ◌<◌, refl, sym, ap, ◌∙◌, arith, subst, true, false, [], IsTrue, All, length, option_map, option_and_then, cond, List}
+use Rattle.std.proofs.Common.{Bool, ◌≡◌, ◌<◌, refl, sym, ap, ◌∙◌, arith, subst, true, false, [], IsTrue, All, length, option_and_then, cond, List}
 use Rattle.std.proofs.lemmas.Int.{clamps}
 use Rattle.legs.specs.Asking.{Leaves}
 use Rattle.legs.specs.Boxes.{BoxView}
@@ -8,21 +8,17 @@ use Rattle.legs.specs.Legs.{IsLeg}
 use Rattle.pagecache.specs.Cache.{Cache, IsClean, is_changed, pages_as_written, sealed_payload}
 use Rattle.pages.specs.Unsealed.{unsealed}
 use Rattle.chains.specs.Reads.{OnlyReads}
-use Rattle.tbnode.specs.Form.{node_of}
 use Rattle.tbtree.specs.Descent.{content_of, found_legs}
 use Rattle.tbtree.specs.Insert.{Stands, IsPlace}
 use Rattle.tbtree.specs.Nodes.{pages_of_cache}
 use Rattle.chains.specs.declared.spans.LeafSpan.{LeafSpan}
 use Rattle.boxsearch.specs.Beside.{with_cache}
+use Rattle.boxsearch.proofs.SameLemmas.{same_pages}
 use Rattle.boxsearch.specs.Telling.{Tells, Denies}
 use Rattle.boxsearch.specs.Index.{IndexView, words, content, found_by, legs_by, written, IsSoundIndex, IsMarked}
 
 pub content_is : (i : IndexView) → IsTrue i.cache.store.is_faithful → content i ≡ content_of (pages_of_cache i.cache) i.tree
 content_is i f = ap (λ b. cond b (content_of (pages_of_cache i.cache) i.tree) []) f
-
--- pages that are only read say what they said
-pub same_pages : (old new : Cache) → OnlyReads old new → IsTrue old.store.is_faithful → pages_of_cache new ≡ pages_of_cache old
-same_pages old new r f = λ i. record { at = λ p. option_map node_of (r.payloads f p i); count = r.count i }
 
 module _ (old : IndexView) (c : Cache) (known : List (List LeafSpan)) (r : OnlyReads old.cache c) where
   abbrev new : IndexView

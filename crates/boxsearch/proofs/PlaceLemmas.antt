@@ -1,18 +1,13 @@
 -- The places of features, with one more or one changed.
-use Rattle.std.proofs.Common.{ℕ, zero, suc, ◌≡◌, ◌≢◌, ◌≤◌, ◌<◌, ◌+◌, ◌==◌, true, false, cond, refl, ap, sym, ◌∙◌, arith, subst, ⊎_elim, eq-eqb, max, List, [], ◌∷◌, ◌++◌, length, Some, None, slice_get}
+use Rattle.std.proofs.Common.{ℕ, zero, suc, ◌≡◌, ◌≢◌, ◌≤◌, ◌<◌, ◌+◌, ◌==◌, true, false, cond, refl, ap, sym, ◌∙◌, arith, subst, ⊎_elim, eq-eqb, max, List, [], ◌∷◌, ◌++◌, length, Some, slice_get}
 use Rattle.std.proofs.lemmas.Bool.{cases_eq, cases_lt}
 use Rattle.std.proofs.lemmas.Bool.Decides.{nat_tests}
 use Rattle.std.proofs.lemmas.List.{length_push}
 use Rattle.tbtree.specs.Stands.{no_place}
 use Rattle.tbtree.specs.declared.tree.Place.{Place}
 use Rattle.boxsearch.specs.Index.{with_place}
+pub use Rattle.legs.proofs.GroupLemmas.{some_none, some_same}
 pub use Rattle.tbtree.proofs.Widening.{get-set_same, get-set_other}
-
-pub some_same : {X : Type 0} (x y : X) → Some x ≡ Some y → x ≡ y
-some_same x y e = cc
-
-pub some_none : {X : Type 0} (x : X) → Some x ≡ None → ⊥
-some_none x e = absurd cc
 
 module _ {X : Type 0} where
   pub push_last : (xs : List X) (v x : X) (i : ℕ) → i ≡ length xs → slice_get (xs ++ v ∷ []) i ≡ Some x → v ≡ x

@@ -1,14 +1,9 @@
 -- What is picked of a list, as far as a loop has come.
-use Rattle.std.proofs.Common.{ℕ, zero, suc, ◌≡◌, Bool, true, false, cond, List, [], ◌∷◌, ◌++◌, take, sym, ap, ◌∙◌, append_assoc, Some, None, slice_get, map}
+use Rattle.std.proofs.Common.{ℕ, zero, suc, ◌≡◌, Bool, true, false, cond, List, [], ◌∷◌, ◌++◌, take, sym, ap, ◌∙◌, append_assoc, Some, slice_get, map}
 use Rattle.std.specs.List.{filter}
 use Rattle.std.proofs.lemmas.List.{append-nil, map-append}
 use Rattle.std.proofs.lemmas.List.Elements.{filter-append}
-
-pub some_none : {X : Type 0} (x : X) → Some x ≡ None → ⊥
-some_none x e = cc
-
-pub some_same : {X : Type 0} (x y : X) → Some x ≡ Some y → x ≡ y
-some_same x y e = cc
+pub use Rattle.legs.proofs.GroupLemmas.{some_none, some_same}
 
 module _ {X : Type 0} where
   -- what is taken up to an element ends with it

@@ -12,12 +12,9 @@ use Rattle.pages.specs.declared.payload.Payload.{Payload}
 use Rattle.pagecache.specs.Cache.{Cache, payload_of}
 use Rattle.tbnode.specs.Form.{node_of}
 use Rattle.chains.specs.Reads.{OnlyReads}
-use Rattle.tbtree.specs.Descent.{children_met, entries_in, legs_in, node_at, hits, HasInner}
-use Rattle.tbtree.specs.Nodes.{pages_of_cache, HasLeaf}
-
-flat_same : {X Y : Type 0} (f g : X → List Y) (xs : List X) → ((x : X) → f x ≡ g x) → flat_map f xs ≡ flat_map g xs
-flat_same f g [] h = refl
-flat_same f g (x ∷ xs) h = ap (λ l. l ++ flat_map f xs) (h x) ∙ ap (λ l. g x ++ l) (flat_same f g xs h)
+use Rattle.legs.specs.Legs.{LegView}
+use Rattle.tbtree.specs.Descent.{children_met, entries_in, legs_in, node_at, hits}
+use Rattle.tbtree.specs.Nodes.{Pages, pages_of_cache}
 
 -- one piece more
 pub flat_more : {X Y : Type 0} (f : X → List Y) (xs : List X) (i j : ℕ) (x : X) (old new piece : List Y) → slice_get xs i ≡ Some x → j ≡ suc i
@@ -51,37 +48,10 @@ hits_there c p payload meets n e = ap (λ o. filter (λ leg. meets (leg_boxes.of
 pub pushed_there : {X E : Type 0} (r : Result (Unit {0}) E) (found new : List X) {piece there : List X} → piece ≡ there → OnOk r (new ≡ found ++ piece) → OnOk r (new ≡ found ++ there)
 pushed_there r found new same pushed = subst (λ l. OnOk r (new ≡ found ++ l)) same pushed
 
-module _ (a b : Cache) (reads : OnlyReads a b) (fa : IsTrue a.store.is_faithful) where
-  pub same_at : (p : ℕ) → (pages_of_cache b).at p ≡ (pages_of_cache a).at p
-  same_at p = ap (λ o. option_map node_of o) (reads.payloads fa p)
+-- pages that are only read say what they said
+pub same_pages : (old new : Cache) → OnlyReads old new → IsTrue old.store.is_faithful → pages_of_cache new ≡ pages_of_cache old
+same_pages old new r f = λ i. record { at = λ p. option_map node_of (r.payloads f p i); count = r.count i }
 
-  same_node : (p : ℕ) → node_at (pages_of_cache b) p ≡ node_at (pages_of_cache a) p
-  same_node zero = refl
-  same_node (suc p) = same_at (suc p)
-
-  pub same_children : (meets : BoxView → Bool) (p : ℕ) → children_met meets (pages_of_cache b) p ≡ children_met meets (pages_of_cache a) p
-  unfolding children_met
-  same_children meets p = ap (λ o. map (λ e. e.child) (filter (λ e. meets e.bounds) (entries_in o))) (same_node p)
-
-  pub same_hits : (meets : BoxView → Bool) (p : ℕ) → hits leg_boxes meets (pages_of_cache b) p ≡ hits leg_boxes meets (pages_of_cache a) p
-  same_hits meets p = ap (λ o. filter (λ leg. meets (leg_boxes.of leg)) (legs_in o)) (same_node p)
-
-  pub inner_after : (p k : ℕ) → HasInner (pages_of_cache a) p k → HasInner (pages_of_cache b) p k
-  inner_after p k h = record { above = h.above; page = h.page; is = same_at p ∙ h.is; level_is = h.level_is }
-
-  pub inner_before : (p k : ℕ) → HasInner (pages_of_cache b) p k → HasInner (pages_of_cache a) p k
-  inner_before p k h = record { above = h.above; page = h.page; is = sym (same_at p) ∙ h.is; level_is = h.level_is }
-
-  pub leaf_after : (p : ℕ) → HasLeaf (pages_of_cache a) p → HasLeaf (pages_of_cache b) p
-  leaf_after p h = record { above = h.above; leaf = h.leaf; is = same_at p ∙ h.is }
-
-  pub leaf_before : (p : ℕ) → HasLeaf (pages_of_cache b) p → HasLeaf (pages_of_cache a) p
-  leaf_before p h = record { above = h.above; leaf = h.leaf; is = sym (same_at p) ∙ h.is }
-
-  -- the pages of the next level
-  pub below_same : (meets : BoxView → Bool) (xs : List ℕ) → flat_map (children_met meets (pages_of_cache b)) xs ≡ flat_map (children_met meets (pages_of_cache a)) xs
-  below_same meets xs = flat_same (children_met meets (pages_of_cache b)) (children_met meets (pages_of_cache a)) xs (same_children meets)
-
-  -- the legs of some leaves
-  pub hits_same : (meets : BoxView → Bool) (xs : List ℕ) → flat_map (hits leg_boxes meets (pages_of_cache b)) xs ≡ flat_map (hits leg_boxes meets (pages_of_cache a)) xs
-  hits_same meets xs = flat_same (hits leg_boxes meets (pages_of_cache b)) (hits leg_boxes meets (pages_of_cache a)) xs (same_hits meets)
+-- what a call says of pages that were only read before is said of them as they were
+pub as_before : (old mid : Cache) → OnlyReads old mid → (P : Pages LegView BoxView → Type 0) → (IsTrue mid.store.is_faithful → P (pages_of_cache mid)) → IsTrue old.store.is_faithful → P (pages_of_cache old)
+as_before old mid reads P h fa = subst P (same_pages old mid reads fa) (h (reads.store.faithful ∙ fa))

@@ -1,5 +1,5 @@
 -- The numbers of turns are those of the order.
-use Rattle.std.proofs.Common.{ℕ, zero, suc, ◌≡◌, ◌≢◌, ◌≤◌, ◌<◌, ◌+◌, ◌-◌, ◌%◌, ◌^◌, ◌==◌, cond, true, false, min, max, refl, sym, ap, ◌∙◌, arith, ⊎_elim, eq-eqb, List, [], ◌∷◌, ◌++◌, map, length, append_assoc, get_or}
+use Rattle.std.proofs.Common.{ℕ, zero, suc, ◌≡◌, ◌≢◌, ◌≤◌, ◌<◌, ◌+◌, ◌-◌, ◌%◌, ◌^◌, ◌==◌, cond, true, false, min, max, refl, sym, ap, ◌∙◌, arith, ⊎_elim, eq-eqb, List, [], ◌∷◌, ◌++◌, map, length, append_assoc, get_or, slice_get, Some}
 use Rattle.std.specs.Prelude.{slice_set}
 use Rattle.std.specs.List.{count_by}
 use Rattle.std.proofs.Math.Nat.{suc-mod, zero-mod, mod-lt}
@@ -16,7 +16,6 @@ use Rattle.legs.specs.Legs.{LegView}
 use Rattle.legs.specs.Places.{no_leg}
 use Rattle.tbtree.specs.Order.{numbered, run_for, with_last}
 use Rattle.tbtree.specs.declared.tree.Place.{Place}
-use Rattle.boxsearch.specs.Taking.{ArePlacesOf}
 use Rattle.boxsearch.specs.Turns.{leaf_for, open_after, open_at, open_with, opened_from, turns_from}
 use Rattle.boxsearch.specs.declared.turns.Open.{Open}
 use Rattle.boxsearch.specs.declared.turns.Turn.{Turn}
@@ -26,6 +25,11 @@ use Rattle.boxsearch.proofs.TurnSteps.{length_after, length_with, opened_length}
 
 abbrev counts : ℕ → List LegView → ℕ
 counts f legs = count_by (λ z. leg_feature z == f) legs
+
+-- the places of the features of some legs
+pub record ArePlacesOf (places : List Place) (legs : List LegView) : Type 0 where
+  pub features : length places ≡ feature_count legs
+  pub counts : (f : ℕ) (place : Place) → slice_get places f ≡ Some place → place.legs ≡ count_by (λ l. leg_feature l == f) legs
 
 -- the last leaves of the features of some legs, by their numbers
 record IsEnds (most : ℕ) (ends : List Open) (last : ℕ → ℕ) (before : List LegView) : Type 0 where

@@ -1,5 +1,6 @@
 -- Turns in order take the legs leaf by leaf.
 use Rattle.std.proofs.Common.{ℕ, zero, suc, ◌≡◌, ◌≤◌, ◌<◌, ◌+◌, ◌*◌, ◌^◌, cond, nat_lt, true, false, refl, sym, ap, ◌∙◌, arith, subst, ⊎_elim, lt-ltb, le-ltb, List, [], ◌∷◌, ◌++◌, drop, map, length, get_or, All}
+use Rattle.std.specs.Prelude.{slice_index_or}
 use Rattle.std.specs.List.Sorted.{IsPermutation, IsNonDecreasingBy}
 use Rattle.std.proofs.lemmas.Bool.{cases_lt}
 use Rattle.std.proofs.lemmas.List.{append-nil, length-map}
@@ -11,14 +12,14 @@ use Rattle.legs.specs.Legs.{LegView}
 use Rattle.legs.specs.Places.{no_leg}
 use Rattle.tbtree.proofs.RisingLists.{in_order_once}
 use Rattle.tbtree.specs.Turn.{IsPast, IsRising}
+use Rattle.tbtree.specs.Joining.{leaf_by_leaf}
 use Rattle.tbtree.specs.Order.{put_in, put_all, elements, numbered}
 use Rattle.tbtree.specs.declared.tree.Place.{Place}
-use Rattle.boxsearch.specs.Runs.{numbered_legs}
-use Rattle.boxsearch.specs.Taking.{taken, ArePlacesOf, AreTurns}
+use Rattle.boxsearch.specs.Taking.{taken}
 use Rattle.boxsearch.specs.Turns.{leaf_for, open_after, opened_from, turn_number, turns_from}
 use Rattle.boxsearch.specs.declared.turns.Open.{Open}
 use Rattle.boxsearch.specs.declared.turns.Turn.{Turn}
-use Rattle.boxsearch.proofs.TurnNumbers.{numbers_are}
+use Rattle.boxsearch.proofs.TurnNumbers.{ArePlacesOf, numbers_are}
 
 -- a number and a place as one number
 abbrev weight : ℕ × ℕ → ℕ
@@ -168,6 +169,10 @@ weights_same (p ∷ ps) (q ∷ qs) h k e =
     let on = weights_same ps qs h.1 k.1 (ap (drop 1) e) in
     λ i. (a i, b i) ∷ on i
 
+-- the legs that turns take, each with the number of its leaf
+abbrev pub numbered_legs : List LegView → List Turn → List (ℕ × LegView)
+numbered_legs legs turns = map {B = ℕ × LegView} (λ turn. (turn.leaf, slice_index_or legs turn.place no_leg)) turns
+
 numbered_pairs : (legs : List LegView) (turns : List Turn) → numbered_legs legs turns ≡ map (over (λ place. get_or legs place no_leg)) (map pair turns)
 numbered_pairs legs [] = refl
 numbered_pairs legs (t ∷ turns) = ap (λ l. (t.leaf, get_or legs t.place no_leg) ∷ l) (numbered_pairs legs turns)
@@ -230,6 +235,11 @@ turns_put places most legs turns few moved rises =
 pub are_numbered : (places : List Place) (most : ℕ) (legs : List LegView) (turns : List Turn) → 0 < most → most ≤ 50 → length places + length legs < 2 ^ 32
     → IsPermutation (turns_from most (opened_from most 0 places) (length places) 0 legs) turns → IsNonDecreasingBy turn_number turns → AreNumbered places most legs turns
 are_numbered places most legs turns some fifty few moved rises before p w = turns_put places most legs turns few moved rises ∙ ap (λ l. put_all [] l) (numbers_are places most legs before some fifty p w)
+
+-- the turns are those of legs that may follow, leaf by leaf
+abbrev pub AreTurns : List Place → ℕ → List LegView → List Turn → Type 0
+AreTurns places leaf legs turns =
+    (before : List LegView) → ArePlacesOf places before → CanFollowInTurn [] before → CanFollowInTurn before legs → taken legs turns ≡ leaf_by_leaf leaf before legs
 
 pub are_turns : (places : List Place) (most : ℕ) (legs : List LegView) (turns : List Turn) → AreNumbered places most legs turns → AreTurns places most legs turns
 are_turns places most legs turns are before p i w = taken_elements legs turns ∙ ap elements (are before p w)

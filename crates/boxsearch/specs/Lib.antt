@@ -10,4 +10,3 @@ pub mod Marking
 pub mod Bounds
 pub mod Taking
 pub mod Turns
-pub mod Runs

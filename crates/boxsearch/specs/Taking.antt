@@ -1,14 +1,12 @@
 -- An index whose legs came in any order, and what legs make of it.
-use Rattle.std.specs.Prelude.{ℕ, ◌≡◌, ◌==◌, List, [], ◌++◌, map, length, slice_get, slice_index_or, Some, IsTrue, true, false, Result, OnOk, OnErr, IfErr, IsErrOf}
-use Rattle.legs.specs.Costs.{leg_feature}
-use Rattle.legs.specs.Index.{feature_count, CanFollowInTurn, HasRisen, MayRefuseLeg}
+use Rattle.std.specs.Prelude.{ℕ, ◌≡◌, List, ◌++◌, map, length, slice_get, slice_index_or, Some, IsTrue, true, false, Result, OnOk, OnErr, IfErr, IsErrOf}
+use Rattle.legs.specs.Index.{feature_count, HasRisen, MayRefuseLeg}
 use Rattle.legs.specs.Legs.{LegView}
 use Rattle.legs.specs.Places.{no_leg}
 use Rattle.legs.specs.declared.index.IndexFault.{IndexFault}
 use Rattle.legs.specs.declared.index.IndexFault.TheVariants.{Spent, Store, StoreFull}
-use Rattle.std.specs.List.{count_by}
 use Rattle.tbtree.specs.Insert.{IsPlace}
-use Rattle.tbtree.specs.Joining.{CanTakeInTurn, Holds, leaf_by_leaf}
+use Rattle.tbtree.specs.Joining.{CanTakeInTurn, Holds}
 use Rattle.tbtree.specs.Nodes.{pages_of_cache}
 use Rattle.tbtree.specs.Shape.{IsShape}
 use Rattle.tbtree.specs.declared.tree.Place.{Place}
@@ -49,16 +47,3 @@ pub record Taking (old new : IndexView) (legs : List LegView)
 -- the legs that turns take
 abbrev pub taken : List LegView → List Turn → List LegView
 taken legs turns = map (λ turn. slice_index_or legs turn.place no_leg) turns
-
--- the places of the features of some legs
-pub record ArePlacesOf (places : List Place) (legs : List LegView) : Type 0 where
-  pub features : length places ≡ feature_count legs
-  pub counts : (f : ℕ) (place : Place) → slice_get places f ≡ Some place
-      → place.legs ≡ count_by (λ l. leg_feature l == f) legs
-
--- the turns are those of legs that may follow, leaf by leaf
-abbrev pub AreTurns : List Place → ℕ → List LegView → List Turn → Type 0
-AreTurns places leaf legs turns =
-    (before : List LegView) → ArePlacesOf places before → CanFollowInTurn [] before
-    → CanFollowInTurn before legs
-    → taken legs turns ≡ leaf_by_leaf leaf before legs

@@ -6,7 +6,7 @@ use Rattle.legs.specs.Costs.{ShapeView}
 use Rattle.legs.specs.Hull.{leg_boxes}
 use Rattle.legs.specs.Legs.{LegView}
 use Rattle.legs.specs.Questions.{Question, InBox, OfFeature}
-use Rattle.chains.specs.Chains.{IsPlaceChain, chain_fault, chain_legs}
+use Rattle.chains.specs.Chains.{IsPlaceChain, IsOffPlaceChain, chain_legs}
 use Rattle.tbtree.specs.Descent.{legs_met, IsInOrder}
 use Rattle.tbtree.specs.Nodes.{Pages}
 use Rattle.tbtree.specs.declared.tree.Place.{Place}
@@ -28,11 +28,11 @@ TellsTrack nodes shape period feature (Some place) legs =
     × (legs ≡ chain_legs nodes period shape place)
 TellsTrack nodes shape period feature None legs = legs ≡ []
 
--- the page is the first one, from the place's last leaf back, that is not the chain's
+-- the page is met on the way back along the chain of a feature's place, and is not the chain's
 abbrev pub DeniesTrack : Pages LegView BoxView → ShapeView → Option PeriodView → (feature : ℕ)
     → Option Place → ℕ → Type 0
 DeniesTrack nodes shape period feature (Some place) page =
-    chain_fault nodes period shape feature place ≡ Some page
+    IsOffPlaceChain nodes period shape feature place page
 DeniesTrack nodes shape period feature None page = ⊥
 
 -- what pages say to a question, by a tree and the places of its features
@@ -41,7 +41,7 @@ Tells nodes tree places (InBox query) legs = TellsBox nodes tree query legs
 Tells nodes tree places (OfFeature feature period) legs =
     TellsTrack nodes tree.shape period feature (slice_get places feature) legs
 
--- the page is the first that is met and is not what it is to be there, or the first that is met beyond as many as there are
+-- the page is met and is not what it is to be there, or more are met than there are
 abbrev pub Denies : Pages LegView BoxView → TbTree → List Place → Question → ℕ → Type 0
 Denies nodes tree places (InBox query) page = IsOffWay query nodes tree.root tree.levels page
 Denies nodes tree places (OfFeature feature period) page =

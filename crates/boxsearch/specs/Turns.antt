@@ -2,7 +2,7 @@
 use Rattle.std.specs.Prelude.{ℕ, ◌+◌, ◌-◌, ◌*◌, ◌%◌, ◌^◌, ◌==◌, min, if◌then◌else◌, List, [], ◌∷◌, ◌++◌, length, slice_index_or, slice_set}
 use Rattle.legs.specs.Legs.{LegView}
 use Rattle.legs.specs.declared.index.IndexFault.{IndexFault}
-use Rattle.legs.specs.declared.index.IndexFault.TheVariants.{Damaged, Memory, Spent, Store, StoreFull}
+use Rattle.legs.specs.declared.index.IndexFault.TheVariants.{Memory, Spent}
 use Rattle.tbtree.specs.declared.tree.Place.{Place}
 use Rattle.boxsearch.specs.declared.turns.Open.{Open}
 use Rattle.boxsearch.specs.declared.turns.Turn.{Turn}
@@ -47,10 +47,8 @@ turns_from most ends base place (leg ∷ legs) =
 -- turns are not told for want of memory, or of legs that skip a feature
 abbrev pub IsTurnFault : IndexFault → Type 0
 IsTurnFault Memory = Unit {0}
-IsTurnFault Store = ⊥
-IsTurnFault (Damaged page) = ⊥
-IsTurnFault StoreFull = ⊥
 IsTurnFault Spent = Unit {0}
+IsTurnFault _ = ⊥
 
 -- a turn's place in the order
 abbrev pub turn_number : Turn → ℕ

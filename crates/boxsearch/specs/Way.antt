@@ -1,22 +1,24 @@
 -- Which pages are as a search expects them, on its way down from the root.
-use Rattle.std.specs.Prelude.{ℕ, suc, ◌≡◌, ◌+◌, ◌<◌, ◌≤◌, ◌⊎◌, Bool, List, Some, slice_get, take}
-use Rattle.std.specs.List.{All}
+use Rattle.std.specs.Prelude.{ℕ, suc, ◌≡◌, ◌+◌, ◌<◌, ◌≤◌, ◌++◌, ◌⊎◌, Bool, List, length, Some, slice_get, Result, IsTrue, IfErr, IfOk, OnOk}
+use Rattle.std.specs.List.{All, flat_map}
 use Rattle.legs.specs.Legs.{LegView}
 use Rattle.legs.specs.Boxes.{BoxView, boxes_meet}
+use Rattle.legs.specs.Costs.{RisesBy}
+use Rattle.pagecache.specs.Cache.{Cache, AsksOnce}
 pub use Rattle.tbtree.specs.Descent.{IsOnLevel}
 use Rattle.tbtree.specs.Descent.{pages_met, met_count}
-use Rattle.tbtree.specs.Nodes.{Pages}
+use Rattle.tbtree.specs.Faults.{IfNamed}
+use Rattle.tbtree.specs.Nodes.{Pages, pages_of_cache}
+use Rattle.tbtree.specs.declared.fault.TreeFault.{TreeFault}
+use Rattle.chains.specs.Reads.{Reads}
 
 -- the test of a search
 abbrev pub meets : BoxView → BoxView → Bool
 meets query bounds = boxes_meet bounds query
 
--- of some pages, p is the first of which P does not hold, told by its place
-pub record IsFirstNot (P : ℕ → Type 0) (pages : List ℕ) (p : ℕ) : Type 0 where
-  pub place : ℕ
-  pub is : slice_get pages place ≡ Some p
-  pub before : All P (take place pages)
-  pub fails : P p → ⊥
+-- of some pages, p is one of which P does not hold
+abbrev pub IsOneNot : (P : ℕ → Type 0) → List ℕ → ℕ → Type 0
+IsOneNot P pages p = (place : ℕ) × (slice_get pages place ≡ Some p) × (P p → ⊥)
 
 module _ (query : BoxView) (nodes : Pages LegView BoxView) (root levels : ℕ) where
   -- each page that is met is one of its level, and no more are met than there are
@@ -25,25 +27,37 @@ module _ (query : BoxView) (nodes : Pages LegView BoxView) (root levels : ℕ) w
         → All (λ p. IsOnLevel nodes k p) (pages_met (meets query) nodes root n)
     pub few : (n : ℕ) → n ≤ levels → met_count (meets query) nodes root n ≤ nodes.count
 
-  -- page p is the first, of those that are met n levels below the root, that is not one of level k; and with all of them
-  -- no more are met than there are
-  pub record IsFirstWrong (n k p : ℕ) : Type 0 where
-    pub few : met_count (meets query) nodes root (suc n) ≤ nodes.count
-    pub first : IsFirstNot (λ q. IsOnLevel nodes k q) (pages_met (meets query) nodes root n) p
-
-  -- page p is the first, of those that are met n levels below the root, that is met beyond as many as there are
-  pub record IsFirstBeyond (n p : ℕ) : Type 0 where
-    pub place : ℕ
-    pub is : slice_get (pages_met (meets query) nodes root n) place ≡ Some p
-    pub many : met_count (meets query) nodes root n + place ≡ nodes.count
-
-  -- page p is the first at which the way stops, level by level from the root down: each page that is met on a higher
-  -- level is one of its level; of its own level p is the first that is not one of it, but where with that level more are
-  -- met than there are, the first one beyond
+  -- page p is met n levels below the root, and is not one of its level; or with that level more are met than there are
   pub record IsOffWay (p : ℕ) : Type 0 where
     pub n : ℕ
     pub k : ℕ
     pub level_is : n + suc k ≡ levels
-    pub higher : (m j : ℕ) → m + suc j ≡ levels → m < n
-        → All (λ q. IsOnLevel nodes j q) (pages_met (meets query) nodes root m)
-    pub stops : IsFirstWrong n k p ⊎ IsFirstBeyond n p
+    pub off : IsOneNot
+        (λ q. IsOnLevel nodes k q × (met_count (meets query) nodes root (suc n) ≤ nodes.count))
+        (pages_met (meets query) nodes root n) p
+
+module _ {X : Type 0} (is : Pages LegView BoxView → ℕ → Type 0)
+    (gives : Pages LegView BoxView → ℕ → List X) where
+  -- a page that is as expected gives what it says, and any other one is named
+  pub record PageCall (page : ℕ) (old new : Cache) (before after : List X)
+      (result : Result (Unit {0}) TreeFault) : Type 0 where
+    pub pushed : IsTrue old.store.is_faithful
+        → OnOk result (after ≡ before ++ gives (pages_of_cache old) page)
+    pub way : IsTrue old.store.is_faithful → OnOk result (is (pages_of_cache old) page)
+    pub named : IsTrue old.store.is_faithful
+        → IfErr result (IfNamed (λ n. (n ≡ page) × (is (pages_of_cache old) page → ⊥)))
+    pub reads : Reads old new result
+    pub asked : OnOk result (AsksOnce old new)
+    pub most : new.asked ≤ old.asked + 1
+
+  -- pages that are each as expected give what they say, one after another, and one that is not is named
+  pub record LevelCall {T : Type 0} (pages : List ℕ) (old new : Cache) (items : T → List X)
+      (result : Result T TreeFault) : Type 0 where
+    pub found : IsTrue old.store.is_faithful
+        → IfOk result (λ found. items found ≡ flat_map (gives (pages_of_cache old)) pages)
+    pub way : IsTrue old.store.is_faithful → OnOk result (All (is (pages_of_cache old)) pages)
+    pub named : IsTrue old.store.is_faithful
+        → IfErr result (IfNamed (IsOneNot (is (pages_of_cache old)) pages))
+    pub reads : Reads old new result
+    pub asked : OnOk result (RisesBy old.asked new.asked (length pages))
+    pub most : new.asked ≤ old.asked + length pages

@@ -1,17 +1,16 @@
 //! The search, level by level.
 ghost use Rattle.std.specs.Prelude.{ℕ, ◌≡◌, ◌+◌, ◌<◌, ◌≤◌, List, Some, Err, true, false, length, slice_get, OnOk, IfOk, IfErr, IsTrue};
-ghost use Rattle.std.specs.List.{All, flat_map};
 ghost use Rattle.legs.specs.Costs.{RisesBy, search_cost};
 ghost use Rattle.legs.specs.Hull.{leg_boxes};
 ghost use Rattle.legs.specs.Index.{legs_in_box};
 ghost use Rattle.legs.specs.Legs.{LegView};
 ghost use Rattle.chains.specs.Reads.{OnlyReads, Reads};
 ghost use Rattle.tbtree.specs.Descent.{children_met, hits, legs_met, met_count, HasInner, IsInOrder};
-ghost use Rattle.tbtree.specs.Faults.{GivesRead, IfNamed, MayRefuseRead, RefusesRead};
+ghost use Rattle.tbtree.specs.Faults.{GivesRead, IfNamed, RefusesRead};
 ghost use Rattle.tbtree.specs.Insert.{Stands};
 ghost use Rattle.tbtree.specs.Nodes.{pages_of_cache, HasLeaf};
 ghost use Rattle.tbtree.specs.declared.fault.TreeFault.{TreeFault};
-ghost use Rattle.boxsearch.specs.Way.{meets, IsFirstNot, IsWay, IsOffWay};
+ghost use Rattle.boxsearch.specs.Way.{meets, IsWay, IsOffWay, LevelCall};
 
 use crate::nodes::{push_children, push_legs};
 use legs::{Box3, Leg};
@@ -32,20 +31,9 @@ fn next_level<S: PageStore>(
     level: u32,
     query: &Box3,
 ) -> Result<Vec<u32>, TreeFault>
-    ensures found { IsTrue cache.old.store.is_faithful
-        → IfOk result (λ below. below.items
-        ≡ flat_map (children_met (meets query.now) (pages_of_cache cache.old)) pages.now) }
-    ensures way { IsTrue cache.old.store.is_faithful
-        → OnOk result (All (λ p. HasInner (pages_of_cache cache.old) p level) pages.now) }
-    ensures only { IsTrue cache.old.store.is_faithful
-        → All (λ p. HasInner (pages_of_cache cache.old) p level) pages.now
-        → IfErr result MayRefuseRead }
-    ensures named { IsTrue cache.old.store.is_faithful
-        → IfErr result (IfNamed (IsFirstNot (λ p. HasInner (pages_of_cache cache.old) p level)
-        pages.now)) }
-    ensures reads { Reads cache.old cache.new result }
-    ensures asked { OnOk result (RisesBy cache.old.asked cache.new.asked (length pages.now)) }
-    ensures most { cache.new.asked ≤ cache.old.asked + length pages.now }
+    ensures { LevelCall (λ nodes p. HasInner nodes p level)
+        (λ nodes p. children_met (meets query.now) nodes p) pages.now cache.old cache.new
+        (λ below. below.items) result }
 {
     let mut below = Vec::new(alloc);
     for i in 0..pages.len() {
@@ -62,19 +50,9 @@ fn legs_in<S: PageStore>(
     pages: &[u32],
     query: &Box3,
 ) -> Result<Vec<Leg>, TreeFault>
-    ensures found { IsTrue cache.old.store.is_faithful
-        → IfOk result (λ found. found.items
-        ≡ flat_map (hits leg_boxes (meets query.now) (pages_of_cache cache.old)) pages.now) }
-    ensures way { IsTrue cache.old.store.is_faithful
-        → OnOk result (All (λ p. HasLeaf (pages_of_cache cache.old) p) pages.now) }
-    ensures only { IsTrue cache.old.store.is_faithful
-        → All (λ p. HasLeaf (pages_of_cache cache.old) p) pages.now → IfErr result MayRefuseRead }
-    ensures named { IsTrue cache.old.store.is_faithful
-        → IfErr result (IfNamed (IsFirstNot (λ p. HasLeaf (pages_of_cache cache.old) p)
-        pages.now)) }
-    ensures reads { Reads cache.old cache.new result }
-    ensures asked { OnOk result (RisesBy cache.old.asked cache.new.asked (length pages.now)) }
-    ensures most { cache.new.asked ≤ cache.old.asked + length pages.now }
+    ensures { LevelCall (λ nodes p. HasLeaf nodes p)
+        (λ nodes p. hits leg_boxes (meets query.now) nodes p) pages.now cache.old cache.new
+        (λ found. found.items) result }
 {
     let mut found = Vec::new(alloc);
     for i in 0..pages.len() {
@@ -112,9 +90,6 @@ fn collected<S: PageStore>(
         tree.now.levels) }
     ensures way { IsTrue cache.old.store.is_faithful
         → OnOk result (IsWay query.now (pages_of_cache cache.old) tree.now.root tree.now.levels) }
-    ensures only { IsTrue cache.old.store.is_faithful
-        → IsWay query.now (pages_of_cache cache.old) tree.now.root tree.now.levels
-        → IfErr result MayRefuseRead }
     ensures named { IsTrue cache.old.store.is_faithful
         → IfErr result (IfNamed (IsOffWay query.now (pages_of_cache cache.old) tree.now.root
         tree.now.levels)) }
@@ -167,8 +142,7 @@ pub fn search<S: PageStore>(
     // It succeeds only if every page that it meets is what the tree expects there.
     ensures way { IsTrue cache.old.store.is_faithful
         → OnOk result (IsWay query.now (pages_of_cache cache.old) tree.now.root tree.now.levels) }
-    // A page that is named is the first that is not what the tree expects, or the first beyond the
-    // count.
+    // A page that is named is met and is not what the tree expects, or met with more than there are.
     ensures named { IsTrue cache.old.store.is_faithful
         → IfErr result (IfNamed (IsOffWay query.now (pages_of_cache cache.old) tree.now.root
         tree.now.levels)) }

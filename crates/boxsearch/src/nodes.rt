@@ -1,15 +1,13 @@
 //! One page on the way down.
-ghost use Rattle.std.specs.Prelude.{◌≡◌, ◌≤◌, ◌+◌, ◌++◌, filter, map, OnOk, IfErr, IsTrue, Some};
+ghost use Rattle.std.specs.Prelude.{◌≡◌, ◌++◌, filter, map, OnOk, IfErr, Some};
 ghost use Rattle.legs.specs.Boxes.{BoxView, box_of, boxes_meet};
 ghost use Rattle.legs.specs.Hull.{leg_boxes};
 ghost use Rattle.legs.specs.Legs.{LegView};
-ghost use Rattle.pagecache.specs.Cache.{Cache, AsksOnce};
 ghost use Rattle.tbnode.specs.Form.{node_of};
-ghost use Rattle.chains.specs.Reads.{Reads};
+ghost use Rattle.chains.specs.Taking.{IsNodeFault};
 ghost use Rattle.tbtree.specs.Descent.{children_met, entries_in, hits, legs_in, HasInner};
-ghost use Rattle.tbtree.specs.Faults.{IfNamed, MayRefuseRead, RefusesRead};
-ghost use Rattle.tbtree.specs.Nodes.{pages_of_cache, AnInner, ALeaf, InnerView, LeafView, HasLeaf};
-ghost use Rattle.boxsearch.specs.Way.{meets};
+ghost use Rattle.tbtree.specs.Nodes.{AnInner, ALeaf, InnerView, LeafView, HasLeaf};
+ghost use Rattle.boxsearch.specs.Way.{meets, PageCall};
 
 use legs::{Box3, Leg};
 use pagecache::PageCache;
@@ -60,12 +58,8 @@ fn push_inner(
         (entries_in (Some (node_of payload.now))))) }
     ensures way { OnOk result ((inner : InnerView BoxView)
         × (node_of payload.now ≡ Some (AnInner inner)) × (inner.level ≡ level)) }
-    ensures only { (inner : InnerView BoxView) → node_of payload.now ≡ Some (AnInner inner)
-        → inner.level ≡ level → IfErr result MayRefuseRead }
-    ensures named { IfErr result (IfNamed (λ n. (n ≡ page)
-        × ((inner : InnerView BoxView) → node_of payload.now ≡ Some (AnInner inner)
-        → inner.level ≡ level → ⊥))) }
-    ensures caused { (old new : Cache) → IfErr result (RefusesRead old new) }
+    ensures refused { IfErr result (IsNodeFault ((inner : InnerView BoxView)
+        → node_of payload.now ≡ Some (AnInner inner) → inner.level ≡ level → ⊥) page) }
 {
     let Some(inner) = tbnode::inner(payload) else {
         return Err(TreeFault::Malformed(page));
@@ -89,11 +83,8 @@ fn push_leaf(
         (legs_in (Some (node_of payload.now)))) }
     ensures way { OnOk result ((leaf : LeafView LegView)
         × (node_of payload.now ≡ Some (ALeaf leaf))) }
-    ensures only { (leaf : LeafView LegView) → node_of payload.now ≡ Some (ALeaf leaf)
-        → IfErr result MayRefuseRead }
-    ensures named { IfErr result (IfNamed (λ n. (n ≡ page)
-        × ((leaf : LeafView LegView) → node_of payload.now ≡ Some (ALeaf leaf) → ⊥))) }
-    ensures caused { (old new : Cache) → IfErr result (RefusesRead old new) }
+    ensures refused { IfErr result (IsNodeFault ((leaf : LeafView LegView)
+        → node_of payload.now ≡ Some (ALeaf leaf) → ⊥) page) }
 {
     let Some(leaf) = tbnode::leaf(payload) else {
         return Err(TreeFault::Malformed(page));
@@ -112,19 +103,9 @@ pub(crate) fn push_children<S: PageStore>(
     query: &Box3,
     found: &mut Vec<u32>,
 ) -> Result<(), TreeFault>
-    ensures pushed { IsTrue cache.old.store.is_faithful
-        → OnOk result (found.new.items
-        ≡ found.old.items ++ children_met (meets query.now) (pages_of_cache cache.old) page) }
-    ensures way { IsTrue cache.old.store.is_faithful
-        → OnOk result (HasInner (pages_of_cache cache.old) page level) }
-    ensures only { IsTrue cache.old.store.is_faithful
-        → HasInner (pages_of_cache cache.old) page level → IfErr result MayRefuseRead }
-    ensures named { IsTrue cache.old.store.is_faithful
-        → IfErr result (IfNamed (λ n. (n ≡ page)
-        × (HasInner (pages_of_cache cache.old) page level → ⊥))) }
-    ensures reads { Reads cache.old cache.new result }
-    ensures asked { OnOk result (AsksOnce cache.old cache.new) }
-    ensures most { cache.new.asked ≤ cache.old.asked + 1 }
+    ensures { PageCall (λ nodes p. HasInner nodes p level)
+        (λ nodes p. children_met (meets query.now) nodes p) page cache.old cache.new
+        found.old.items found.new.items result }
 {
     if page == 0 {
         return Err(TreeFault::Malformed(page));
@@ -145,19 +126,9 @@ pub(crate) fn push_legs<S: PageStore>(
     query: &Box3,
     found: &mut Vec<Leg>,
 ) -> Result<(), TreeFault>
-    ensures pushed { IsTrue cache.old.store.is_faithful
-        → OnOk result (found.new.items
-        ≡ found.old.items ++ hits leg_boxes (meets query.now) (pages_of_cache cache.old) page) }
-    ensures way { IsTrue cache.old.store.is_faithful
-        → OnOk result (HasLeaf (pages_of_cache cache.old) page) }
-    ensures only { IsTrue cache.old.store.is_faithful
-        → HasLeaf (pages_of_cache cache.old) page → IfErr result MayRefuseRead }
-    ensures named { IsTrue cache.old.store.is_faithful
-        → IfErr result (IfNamed (λ n. (n ≡ page)
-        × (HasLeaf (pages_of_cache cache.old) page → ⊥))) }
-    ensures reads { Reads cache.old cache.new result }
-    ensures asked { OnOk result (AsksOnce cache.old cache.new) }
-    ensures most { cache.new.asked ≤ cache.old.asked + 1 }
+    ensures { PageCall (λ nodes p. HasLeaf nodes p)
+        (λ nodes p. hits leg_boxes (meets query.now) nodes p) page cache.old cache.new
+        found.old.items found.new.items result }
 {
     if page == 0 {
         return Err(TreeFault::Malformed(page));

@@ -12,8 +12,9 @@ use Rattle.legs.specs.Boxes.{BoxView}
 use Rattle.legs.specs.Blocks.{joined}
 use Rattle.tbtree.specs.Nodes.{Pages, ALeaf, LeafView}
 use Rattle.tbtree.specs.Stands.{owner, marks, pages_of, head_or_zero, last_or, leaf_of, LeavesStand}
-use Rattle.chains.specs.Chains.{IsLinked, IsChain, walk, legs_in, previous_of}
-use Rattle.chains.specs.Links.{Fits, IsPlaced, spot_of, is_kept, is_end, link_back}
+use Rattle.tbtree.specs.Descent.{legs_in}
+use Rattle.chains.specs.Chains.{IsChain, walk, previous_of}
+use Rattle.chains.specs.Links.{FitsLeaf, IsLinked, IsPlaced, spot_of, is_kept, is_end, link_back}
 use Rattle.chains.specs.declared.leaves.Link.{Link}
 
 -- lists in the other order, before acc
@@ -133,7 +134,7 @@ counted_onto most legs (g ∷ gs) acc h c =
 
 -- a leaf of such a row is placed as the chain has it
 placed_back : (nodes : Pages LegView BoxView) (f first most legs p : ℕ) (leaf : LeafView LegView) (rs : List (List LegView)) → IsBack nodes f first p leaf.previous rs
-    → IsPlaced leaf p (spot_of most legs first (length rs))
+    → IsPlaced leaf.previous p (spot_of most legs first (length rs))
 placed_back nodes f first most legs p leaf [] b = record { one_before = λ l. absurd (omega (arith, l)); none_before = λ _. b.0; first_is = λ _. b.1 }
 placed_back nodes f first most legs p leaf (r ∷ rs) b =
     let above = b.1.above in
@@ -153,7 +154,7 @@ module _ (nodes : Pages LegView BoxView) (period : Option PeriodView) where
       let leaf = b.0 in
       let spot = spot_of most legs first (length rs) in
       let placed = placed_back nodes f first most legs link.page leaf rs b.2 in
-      let fits : Fits leaf link spot = record { count_is = ap length b.1.legs_are ∙ c.0; next_is = b.1.next_is; feature_is = b.1.feature_is ∙ s; placed = placed } in
+      let fits : FitsLeaf leaf link spot = record { count_is = ap length b.1.legs_are ∙ c.0; next_is = b.1.next_is; feature_is = b.1.feature_is ∙ s; placed = placed } in
       let here : IsLinked nodes link spot leaf = record { above = b.1.above; is = b.1.is; fits = fits } in
       (leaf, here, λ _. is_chain f first most legs rs (link_back link.page leaf) b.2 c.1 (sym b.1.feature_is))
 

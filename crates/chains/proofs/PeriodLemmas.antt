@@ -1,5 +1,5 @@
 -- A walk back from a feature's place, up to a leaf that starts before a period.
-use Rattle.std.proofs.Common.{ℕ, zero, suc, ◌+◌, ◌≡◌, ◌<◌, ◌≤◌, Bool, true, false, cond, List, [], ◌∷◌, length, refl, sym, ap, ◌∙◌, arith, subst, Option, Some, All}
+use Rattle.std.proofs.Common.{ℕ, zero, suc, ◌+◌, ◌≡◌, ◌<◌, ◌≤◌, Bool, true, false, cond, List, [], ◌∷◌, length, refl, sym, ap, ◌∙◌, arith, subst, Option, Some, None, All}
 use Rattle.std.specs.Int.{div_ceil}
 use Rattle.std.specs.List.{filter, count_by}
 use Rattle.std.proofs.lemmas.List.Elements.{All-append, All-nil, All-same}
@@ -7,18 +7,22 @@ use Rattle.std.proofs.lemmas.List.Sums.{sum_by-cons}
 use Rattle.timebase.specs.Period.{PeriodView}
 use Rattle.legs.specs.Blocks.{groups, joined}
 use Rattle.legs.specs.Boxes.{BoxView}
-use Rattle.legs.specs.Costs.{ShapeView, reaches, track_in_bound}
+use Rattle.legs.specs.Costs.{RisesAtMost, RisesBy, ShapeView, reaches, track_in_bound}
 use Rattle.legs.specs.Index.{legs_of, live_legs_of}
 use Rattle.legs.specs.Legs.{LegView, is_live}
+use Rattle.legs.specs.Sieves.{IsSieved}
+use Rattle.legs.specs.declared.sieve.Sieve.{Sieve}
 use Rattle.pagecache.specs.Cache.{Cache}
 use Rattle.tbtree.specs.Nodes.{Pages, pages_of_cache}
 use Rattle.tbtree.specs.declared.tree.Place.{Place}
-use Rattle.chains.specs.Chains.{walk, walked, legs_in, previous_of}
+use Rattle.tbtree.specs.Descent.{legs_in}
+use Rattle.chains.specs.Chains.{chain_cost, walk, walked, previous_of}
 use Rattle.chains.specs.Links.{is_end}
-use Rattle.chains.specs.Trajectory.{HasFeature}
+use Rattle.chains.specs.Taking.{IsTaken}
+use Rattle.chains.specs.Trajectory.{AsksFor, HasFeature, kept_of}
 use Rattle.chains.proofs.BackLemmas.{IsBack, onto, unwound, unwound_onto, length_onto, count_onto, walk_blocks}
 use Rattle.legs.proofs.GroupSteps.{joined_groups, filled_groups}
-use Rattle.chains.proofs.PlaceLemmas.{place_back, block_count, legs_count}
+use Rattle.chains.proofs.PlaceLemmas.{place_back, block_count, legs_count, walked_all, whole_cost, whole_walk}
 use Rattle.chains.proofs.RiseLemmas.{Rises, page_rises}
 use Rattle.chains.proofs.TimeLemmas.{InOrder, EachReaches, in_order, stops_right, each_reaches}
 
@@ -94,3 +98,22 @@ module _ (c : Cache) (shape : ShapeView) (place : Place) (f : ℕ) (legs : List 
       let few = walked_few nodes period f place.first 0 place.last (onto gs []) back (each_reaches period gs [] rising (filled_groups shape.leaf (legs_of f legs) l) tt) in
       let same = count_onto (reaches period) gs [] in
       omega (arith, most, counted, w, n, few, same)
+
+  -- without a period or with one
+  pub kept_walk : (period : Option PeriodView) → walk (pages_of_cache c) period (div_ceil place.legs shape.leaf) place.last ≡ kept_of f period legs
+  kept_walk None = whole_walk (pages_of_cache c) shape place f legs l h
+  kept_walk (Some period) = live_walk period
+
+  pub asks_for : (period : Option PeriodView) (old new : ℕ) → (period ≡ None → RisesBy old new (chain_cost (pages_of_cache c) period shape place)) → RisesAtMost old new (chain_cost (pages_of_cache c) period shape place)
+      → AsksFor f period shape legs old new
+  asks_for None old new asked within = λ below.
+      let by = asked refl below in
+      let all = walked_all (pages_of_cache c) (div_ceil place.legs shape.leaf) place.last in
+      let cost = whole_cost (pages_of_cache c) shape place f legs l h in
+      omega (arith, by, all, cost)
+  asks_for (Some period) old new asked within = let few = few_walked period in omega (arith, within, few)
+
+-- the same lists by other names
+pub kept_by : (period : Option PeriodView) (s : Sieve) (all all' some some' : List LegView) → all ≡ all' → some' ≡ some → IsTaken period s all some → IsTaken period s all' some'
+kept_by None s all all' some some' e f h = f ∙ h ∙ e
+kept_by (Some period) s all all' some some' e f h = subst (λ a. IsSieved s period a some') e (subst (λ x. IsSieved s period all x) (sym f) h)

@@ -15,7 +15,7 @@ use Rattle.legs.specs.Legs.{LegView}
 use Rattle.tbtree.specs.Nodes.{Pages}
 use Rattle.tbtree.specs.Stands.{owner, marks, pages_of, last_or, NumbersStand}
 use Rattle.tbtree.specs.declared.tree.Place.{Place}
-use Rattle.chains.specs.Chains.{IsPlaceChain, IsChain, NamesNone, last_link, walk, walked, previous_of}
+use Rattle.chains.specs.Chains.{IsPlaceChain, IsChain, NamesNoneIfEmpty, last_link, walk, walked, previous_of}
 use Rattle.chains.specs.Trajectory.{HasFeature}
 use Rattle.chains.proofs.BackLemmas.{IsBack, Counted, StopsRight, onto, length_onto, back_of, back_none, counted_onto, is_chain, walk_blocks}
 use Rattle.legs.proofs.BlockLemmas.{all_pass}
@@ -74,7 +74,7 @@ module _ (nodes : Pages LegView BoxView) (shape : ShapeView) (place : Place) (f 
       tt
 
   -- without a leg there is no leaf
-  names_none : place.legs ≡ 0 → NamesNone place
+  names_none : NamesNoneIfEmpty place
   names_none z =
       let gs = groups shape.leaf (legs_of f legs) in
       let none : length gs ≡ 0 =
@@ -84,7 +84,7 @@ module _ (nodes : Pages LegView BoxView) (shape : ShapeView) (place : Place) (f 
       (cases_lt 0 (length gs)) in
       let n : length (onto gs []) ≡ 0 = let o = length_onto gs [] in omega (arith, o, none) in
       let b = back_none nodes f place.first 0 place.last (onto gs []) n place_back in
-      record { first = sym b.1; last = b.0 }
+      (sym b.1, b.0)
 
   -- they are a chain
   pub whole_chain : (period : Option PeriodView) → IsPlaceChain nodes period shape f place

@@ -1,11 +1,11 @@
 -- One call after another.
-use Rattle.std.proofs.Common.{◌∙◌, refl, sym, arith, inl, Result, Ok, Err}
+use Rattle.std.proofs.Common.{ℕ, ◌∙◌, refl, sym, arith, inl, Result, Ok, Err}
 use Rattle.std.proofs.lemmas.Int.{clamps}
 use Rattle.pagecache.proofs.CallerLemmas.{unsyncs-trans}
 use Rattle.pagecache.specs.Cache.{Cache}
 use Rattle.pagecache.specs.declared.fault.CacheFault.{CacheFault}
 use Rattle.pagecache.specs.declared.fault.CacheFault.TheVariants as cache
-use Rattle.tbtree.specs.Faults.{RefusesRead, RefusesReadInCache}
+use Rattle.tbtree.specs.Faults.{IfNamed, MayRefuseRead, RefusesRead, RefusesReadInCache}
 use Rattle.tbtree.specs.declared.fault.TreeFault.{TreeFault}
 use Rattle.tbtree.specs.declared.fault.TreeFault.TheVariants.{Cache as OfCache, Malformed, Spent}
 use Rattle.chains.specs.Reads.{OnlyReads, Reads}
@@ -65,6 +65,16 @@ reads_then a b c (Err e) p q = record { only = reads_trans a b c p q.only; cause
 -- and a refusal after calls that were not refused, whatever it is that each call gives
 pub reads_refused : {T U : Type 0} (a b c : Cache) (e : TreeFault) → OnlyReads a b → Reads {T = T} b c (Err e) → Reads {T = U} a c (Err e)
 reads_refused a b c e p q = record { only = reads_trans a b c p q.only; caused = caused_after a b c e p q.caused }
+
+-- where there is no page to be named, a refusal is one that good pages allow
+pub allowed_by : (old new : Cache) (P : ℕ → Type 0) (fault : TreeFault) → ((n : ℕ) → P n → ⊥) → RefusesRead old new fault → IfNamed P fault → MayRefuseRead fault
+allowed_by old new P (OfCache cache.NoPage) none caused named = caused
+allowed_by old new P (OfCache cache.Store) none caused named = tt
+allowed_by old new P (OfCache (cache.Damaged n)) none caused named = none n named
+allowed_by old new P (OfCache cache.StoreFull) none caused named = caused
+allowed_by old new P (OfCache cache.Memory) none caused named = tt
+allowed_by old new P (Malformed n) none caused named = none n named
+allowed_by old new P Spent none caused named = caused
 
 -- what a call after another may cite
 pub ruleset reading = (reads_trans, reads_refl, caused_after)

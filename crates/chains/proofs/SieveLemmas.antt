@@ -12,7 +12,7 @@ use Rattle.legs.specs.Legs.{LegView, is_live}
 use Rattle.legs.specs.Sieves.{IsSieved, leaves_none, LeavesOut, MayGo, sieved_same, sieved_self}
 use Rattle.legs.specs.declared.sieve.Sieve.{Sieve}
 use Rattle.legs.specs.declared.sieve.Sieve.TheVariants as sieve
-use Rattle.chains.specs.Keeping.{HasTaken, IsFirstLive, IsLastLive, IsTaken, PutsSome, is_wanted}
+use Rattle.chains.specs.Taking.{HasTaken, IsFirstLive, IsLastLive, IsTaken, PutsSome, is_wanted}
 use Rattle.chains.specs.Links.{is_kept}
 use Rattle.chains.proofs.KeepLemmas.{drop_at}
 use Rattle.chains.proofs.LiveLemmas.{get_taken, kept_ends, kept_single, past_taken}
@@ -157,7 +157,3 @@ all_kept (leg ∷ legs) = ap (λ l. leg ∷ l) (all_kept legs)
 
 pub whole_taken : (s : Sieve) (legs old new : List LegView) → new ≡ old ++ reverse legs → HasTaken None s (filter (is_kept None) legs) old new
 whole_taken s legs old new e = (legs, e, sym (all_kept legs))
-
--- the same lists by other names
-pub sieved_by : (s : Sieve) (period : PeriodView) (all all' some some' : List LegView) → all ≡ all' → some' ≡ some → IsSieved s period all some → IsSieved s period all' some'
-sieved_by s period all all' some some' e f h = subst (λ a. IsSieved s period a some') e (subst (λ x. IsSieved s period all x) (sym f) h)

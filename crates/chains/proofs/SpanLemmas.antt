@@ -15,8 +15,8 @@ use Rattle.legs.specs.Legs.{LegView, is_live}
 use Rattle.pagecache.specs.Cache.{Cache}
 use Rattle.tbtree.specs.Nodes.{Pages, pages_of_cache, Node, LeafView, ALeaf, AnInner}
 use Rattle.tbtree.specs.declared.tree.Place.{Place}
-use Rattle.chains.specs.Chains.{IsLinked, last_link}
-use Rattle.chains.specs.Links.{begins_before, is_end, is_kept, link_back, spot_of}
+use Rattle.chains.specs.Chains.{last_link}
+use Rattle.chains.specs.Links.{begins_before, is_end, is_kept, link_back, spot_of, IsLinked}
 use Rattle.chains.specs.Reads.{OnlyReads}
 use Rattle.chains.specs.Spans.{AreSpans, IsKnown, IsSpanOf, IsWithin, Learns, link_over, over, pass_at}
 use Rattle.chains.specs.declared.leaves.Link.{Link}
@@ -153,19 +153,16 @@ pub record EndsAt (span : LeafSpan) (period : Option PeriodView) : Type 0 where
   pub off : span.end <ℤ at.start
 
 abbrev IsOver : Passing → Type 0
-IsOver Into = ⊥
 IsOver (Over link) = Unit {0}
-IsOver End = ⊥
+IsOver _ = ⊥
 
 abbrev IsAnEnd : Passing → Type 0
-IsAnEnd Into = ⊥
-IsAnEnd (Over link) = ⊥
 IsAnEnd End = Unit {0}
+IsAnEnd _ = ⊥
 
 link_or : Passing → Link → Link
-link_or Into d = d
 link_or (Over link) d = link
-link_or End d = d
+link_or _ d = d
 
 over_same : (a b : Link) → Over a ≡ Over b → a ≡ b
 unfolding link_or
@@ -220,9 +217,7 @@ get_within (suc n) (y ∷ xs) x e = let h = get_within n xs x e in omega (arith,
 
 leaf_of : LeafView LegView → Option (Option (Node LegView BoxView)) → LeafView LegView
 leaf_of d (Some (Some (ALeaf leaf))) = leaf
-leaf_of d (Some (Some (AnInner page))) = d
-leaf_of d (Some None) = d
-leaf_of d None = d
+leaf_of d _ = d
 
 abbrev leaf_there : LeafView LegView → Option (Option (Node LegView BoxView))
 leaf_there leaf = Some (Some (ALeaf leaf))

@@ -7,30 +7,23 @@ use Rattle.legs.specs.Boxes.{BoxView}
 use Rattle.legs.specs.Legs.{LegView}
 use Rattle.legs.specs.declared.sieve.Sieve.{Sieve}
 use Rattle.tbtree.specs.Nodes.{Pages, LeafView, ALeaf}
-use Rattle.chains.specs.Chains.{IsLinked}
-use Rattle.chains.specs.Links.{is_end, is_kept, fits, link_back, spot_of}
+use Rattle.chains.specs.Links.{is_end, is_kept, link_back, spot_of, FitsLeaf, IsLinked}
 use Rattle.chains.specs.Spans.{AreSpans, pass_at}
 use Rattle.chains.specs.Taking.{Lesson, TakesLeaf, TakesPage}
 use Rattle.chains.specs.declared.leaves.Link.{Link}
-use Rattle.chains.specs.declared.leaves.Spot.{Spot}
 use Rattle.chains.specs.declared.spans.LeafSpan.{LeafSpan}
 use Rattle.chains.specs.declared.spans.Passing.TheVariants.{Over, End}
 use Rattle.chains.proofs.AgainLemmas.{there_at}
-use Rattle.chains.proofs.FaultLemmas.{fits_from, fits_to}
 use Rattle.chains.proofs.KeepLemmas.{drop_at}
 use Rattle.chains.proofs.SieveLemmas.{none_taken}
 use Rattle.chains.proofs.SpanLemmas.{IsThere, ends_at, get_within, link_over_is, off_end, off_over, passes_over, there}
-
--- what is taken of a page is linked
-pub linked_by : (nodes : Pages LegView BoxView) (link : Link) (spot : Spot) (leaf : LeafView LegView) → (link.page ≡ 0 → ⊥) → nodes.at link.page ≡ Some (Some (ALeaf leaf)) → fits leaf link spot ≡ true → IsLinked nodes link spot leaf
-linked_by nodes link spot leaf above is fit = record { above = omega (arith, above); is = is; fits = fits_to leaf link spot fit }
 
 module _ (nodes : Pages LegView BoxView) (most legs first passed left : ℕ) (spans : List LeafSpan) (link : Link) (h : AreSpans nodes most legs first (drop passed spans) (suc left) link) (found : List LegView) (s : Sieve) where
   abbrev lesson : Lesson
   lesson = record { old = spans; new = spans; passed = passed }
 
   abbrev Taken : Option PeriodView → Option Link → Type 0
-  Taken period back = TakesPage nodes link (spot_of most legs first left) period s found found lesson back
+  Taken period back = TakesPage (nodes.at link.page) link (spot_of most legs first left) period s found found lesson back
 
   here : (span : LeafSpan) → slice_get spans passed ≡ Some span → IsThere nodes most legs first span (drop (suc passed) spans) (suc left) link
   here span e = there nodes most legs first span (drop (suc passed) spans) (suc left) link (subst (λ l. AreSpans nodes most legs first l (suc left) link) (drop_at spans passed span e) h)
@@ -41,14 +34,16 @@ module _ (nodes : Pages LegView BoxView) (most legs first passed left : ℕ) (sp
   taken period back span e none link_is =
       let t = here span e in
       let same : t.rest ≡ left = let m = t.more in omega (arith, m) in
-      let above = t.linked.above in
       let long = get_within passed spans span e in
       record {
         leaf = t.leaf;
-        above = λ z. omega (arith, above, z);
+        above = t.linked.above;
         is = t.linked.is;
-        fit = ap (λ k. fits t.leaf link (spot_of most legs first k)) (sym same) ∙ fits_from t.leaf link (spot_of most legs first t.rest) t.linked.fits;
-        takes = record { legs = none_taken period s (filter (is_kept period) t.leaf.legs) found none; link = link_is };
+        takes = record {
+          fits = subst (λ k. FitsLeaf t.leaf link (spot_of most legs first k)) same t.linked.fits;
+          legs = none_taken period s (filter (is_kept period) t.leaf.legs) found none;
+          link_is = link_is;
+        };
         learns = record { same = λ _. refl; next = λ z. absurd (omega (arith, long, z)) };
       }
 
@@ -57,16 +52,14 @@ module _ (nodes : Pages LegView BoxView) (most legs first passed left : ℕ) (sp
   known_at inside = let t = there_at spans passed inside in (t.0, here t.0 t.1)
 
   pub steps_again : (period : Option PeriodView) (new : List LegView) (back : Option Link) (inside : passed < length spans) → TakesLeaf (known_at inside).1.leaf link (spot_of most legs first left) period s found new back
-      → TakesPage nodes link (spot_of most legs first left) period s found new lesson back
+      → TakesPage (nodes.at link.page) link (spot_of most legs first left) period s found new lesson back
   steps_again period new back inside takes =
       let t = (known_at inside).1 in
-      let above = t.linked.above in
       record {
         leaf = t.leaf;
-        above = λ z. omega (arith, above, z);
+        above = t.linked.above;
         is = t.linked.is;
-        fit = takes.fit;
-        takes = takes.takes;
+        takes = takes;
         learns = record { same = λ _. refl; next = λ z. absurd (omega (arith, inside, z)) };
       }
 

@@ -1,4 +1,3 @@
-pub mod Keeping
 pub mod Links
 pub mod Reads
 pub mod Chains

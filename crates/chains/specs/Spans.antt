@@ -7,8 +7,8 @@ use Rattle.legs.specs.Costs.{ShapeView}
 use Rattle.legs.specs.Legs.{LegView}
 use Rattle.tbtree.specs.Nodes.{Pages, LeafView}
 use Rattle.tbtree.specs.declared.tree.Place.{Place}
-use Rattle.chains.specs.Chains.{IsLinked, last_link}
-use Rattle.chains.specs.Links.{link_back, spot_of}
+use Rattle.chains.specs.Chains.{last_link}
+use Rattle.chains.specs.Links.{IsLinked, link_back, spot_of}
 use Rattle.chains.specs.declared.leaves.Link.{Link}
 use Rattle.chains.specs.declared.spans.LeafSpan.{LeafSpan}
 use Rattle.chains.specs.declared.spans.Passing.{Passing}

@@ -1,15 +1,15 @@
 //! One leaf on the way back along a chain that is known, so that it is read without the test of its form.
 //!
 //! What is said of it is said where its page is a leaf, as it is where what is known is right.
-ghost use Rattle.std.specs.Prelude.{◌≡◌, ◌+◌, ◌≤◌, Some, OnOk, IfOk, IfErr, IsTrue};
+ghost use Rattle.std.specs.Prelude.{◌≡◌, ◌+◌, ◌<◌, ◌≤◌, ◌↔◌, Some, OnOk, IfOk, IfErr, IsTrue};
 ghost use Rattle.legs.specs.Legs.{LegView};
-ghost use Rattle.pagecache.specs.Cache.{Cache, AsksOnce};
+ghost use Rattle.pagecache.specs.Cache.{AsksOnce};
 ghost use Rattle.tbnode.specs.Form.{OfLeaf};
-ghost use Rattle.tbtree.specs.Faults.{IsNamed, RefusesRead};
+ghost use Rattle.tbtree.specs.Faults.{IfNamed};
 ghost use Rattle.tbtree.specs.Nodes.{pages_of_cache, LeafView, ALeaf};
-ghost use Rattle.chains.specs.Links.{fits, is_end};
+ghost use Rattle.chains.specs.Links.{is_end, FitsLeaf, IsUnlinked};
 ghost use Rattle.chains.specs.Reads.{Reads};
-ghost use Rattle.chains.specs.Taking.{TakesLeaf, IsNodeFault, fault_at};
+ghost use Rattle.chains.specs.Taking.{TakesLeaf, IsNodeFault};
 
 use crate::kept::{Want, take_of};
 use crate::leaves::{Link, Spot, head_fits};
@@ -22,7 +22,7 @@ use timebase::Period;
 
 /// Whether a leaf is the one that the link leads to.
 fn fits(leaf: &UntestedLeaf<'_>, link: &Link, spot: &Spot) -> bool
-    ensures { OfLeaf leaf.now (λ view. result ≡ fits view link.now spot.now) }
+    ensures { OfLeaf leaf.now (λ view. IsTrue result ↔ FitsLeaf view link.now spot.now) }
 {
     head_fits(&leaf.head(), leaf.len(), link, spot)
 }
@@ -52,9 +52,8 @@ fn take_node(
 ) -> Result<Option<Link>, TreeFault>
     ensures taken { OfLeaf payload.now (λ leaf. IfOk result (TakesLeaf leaf link.now spot.now
         want.now.period want.now.sieve found.old.items found.new.items)) }
-    ensures named { OfLeaf payload.now (λ leaf. IfErr result
-        (IsNodeFault (fits leaf link.now spot.now) link.now.page)) }
-    ensures caused { (old new : Cache) → IfErr result (RefusesRead old new) }
+    ensures refused { IfErr result (IsNodeFault
+        (OfLeaf payload.now (λ leaf. FitsLeaf leaf link.now spot.now → ⊥)) link.now.page) }
 {
     let Some(leaf) = tbnode::untested(payload) else {
         return Err(TreeFault::Malformed(link.page));
@@ -62,7 +61,9 @@ fn take_node(
     if !fits(&leaf, link, spot) {
         return Err(TreeFault::Malformed(link.page));
     }
-    take_of(&leaf, link.page, want, found)?;
+    if !take_of(&leaf, want, found)? {
+        return Err(TreeFault::Malformed(link.page));
+    }
     let head = leaf.head();
     let back = Link {
         page: head.previous,
@@ -91,8 +92,7 @@ pub(crate) fn take_again<S: PageStore>(
         found.old.items found.new.items) }
     ensures named { IsTrue cache.old.store.is_faithful → (leaf : LeafView LegView)
         → (pages_of_cache cache.old).at link.now.page ≡ Some (Some (ALeaf leaf))
-        → IfErr result (IsNamed (pages_of_cache cache.old)
-        (fault_at (pages_of_cache cache.old) link.now spot.now)) }
+        → IfErr result (IfNamed (IsUnlinked (pages_of_cache cache.old) link.now spot.now)) }
     ensures reads { Reads cache.old cache.new result }
     ensures asked { OnOk result (AsksOnce cache.old cache.new) }
     ensures most { cache.new.asked ≤ cache.old.asked + 1 }

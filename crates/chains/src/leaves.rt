@@ -1,12 +1,13 @@
 //! One leaf on the way back along a chain.
-ghost use Rattle.std.specs.Prelude.{◌≡◌, ◌≢◌, ◌+◌, ◌-◌, ◌*◌, ◌≤◌, ◌↔◌, None, Some, min, OnOk, OnErr, IfOk, IfErr, IsTrue};
-ghost use Rattle.pagecache.specs.Cache.{Cache, AsksOnce};
+ghost use Rattle.std.specs.Prelude.{◌≡◌, ◌+◌, ◌-◌, ◌*◌, ◌<◌, ◌≤◌, ◌↔◌, Some, min, OnOk, OnErr, IfOk, IfErr, IsTrue};
+ghost use Rattle.legs.specs.Legs.{LegView};
+ghost use Rattle.pagecache.specs.Cache.{AsksOnce};
 ghost use Rattle.tbnode.specs.Form.{node_of};
-ghost use Rattle.tbtree.specs.Faults.{IsNamed, RefusesRead};
-ghost use Rattle.tbtree.specs.Nodes.{pages_of_cache};
-ghost use Rattle.chains.specs.Links.{spot_of, is_placed, head_fits, fits, fits_node, is_end};
+ghost use Rattle.tbtree.specs.Faults.{IfNamed};
+ghost use Rattle.tbtree.specs.Nodes.{pages_of_cache, LeafView, ALeaf};
+ghost use Rattle.chains.specs.Links.{spot_of, is_end, Fits, FitsLeaf, IsPlaced, IsUnlinked};
 ghost use Rattle.chains.specs.Reads.{Reads};
-ghost use Rattle.chains.specs.Taking.{TakesNode, TakesPage, IsNodeFault, fault_at};
+ghost use Rattle.chains.specs.Taking.{TakesPage, IsNodeFault};
 
 use crate::kept::{Want, take_legs};
 use crate::spans::{LeafSpan, learn};
@@ -58,7 +59,7 @@ pub(crate) fn spot_of(place: &Place, most: u64, before: u64) -> Spot
 /// Whether a leaf on a page, with that leaf before it, names one before it exactly where one is to be, and is the first
 /// one where none is.
 fn is_placed(previous: u32, page: u32, spot: &Spot) -> bool
-    ensures { result ≡ is_placed previous page spot.now }
+    ensures { IsTrue result ↔ IsPlaced previous page spot.now }
 {
     if spot.before == 0 {
         previous == 0 && page == spot.first
@@ -69,7 +70,7 @@ fn is_placed(previous: u32, page: u32, spot: &Spot) -> bool
 
 /// Whether a leaf with that head and so many legs is the one that the link leads to.
 pub(crate) fn head_fits(head: &LeafHead, count: usize, link: &Link, spot: &Spot) -> bool
-    ensures { result ≡ head_fits head.now count link.now spot.now }
+    ensures { IsTrue result ↔ Fits head.now count link.now spot.now }
 {
     head.feature == link.feature
         && count as u64 == spot.count
@@ -79,7 +80,7 @@ pub(crate) fn head_fits(head: &LeafHead, count: usize, link: &Link, spot: &Spot)
 
 /// Whether a leaf is the one that the link leads to.
 fn fits(leaf: &Leaf<'_>, link: &Link, spot: &Spot) -> bool
-    ensures { result ≡ fits leaf.now link.now spot.now }
+    ensures { IsTrue result ↔ FitsLeaf leaf.now link.now spot.now }
 {
     head_fits(&leaf.head(), leaf.len(), link, spot)
 }
@@ -106,13 +107,14 @@ fn take_node(
     spans: &mut Vec<LeafSpan>,
     passed: usize,
 ) -> Result<Option<Link>, TreeFault>
-    ensures taken { IfOk result (TakesNode (node_of payload.now) link.now spot.now want.now.period
-        want.now.sieve found.old.items found.new.items
+    requires above { 0 < link.now.page }
+    ensures taken { IfOk result (TakesPage (Some (node_of payload.now)) link.now spot.now
+        want.now.period want.now.sieve found.old.items found.new.items
         (record { old = spans.old.items; new = spans.new.items; passed = passed })) }
     ensures forgets { OnErr result (spans.new.items ≡ spans.old.items) }
-    ensures named { IfErr result
-        (IsNodeFault (fits_node (node_of payload.now) link.now spot.now) link.now.page) }
-    ensures caused { (old new : Cache) → IfErr result (RefusesRead old new) }
+    ensures refused { IfErr result (IsNodeFault ((leaf : LeafView LegView)
+        → node_of payload.now ≡ Some (ALeaf leaf) → FitsLeaf leaf link.now spot.now → ⊥)
+        link.now.page) }
 {
     let Some(leaf) = tbnode::leaf(payload) else {
         return Err(TreeFault::Malformed(link.page));
@@ -120,7 +122,9 @@ fn take_node(
     if !fits(&leaf, link, spot) {
         return Err(TreeFault::Malformed(link.page));
     }
-    take_legs(payload, link.page, want, found)?;
+    if !take_legs(payload, want, found)? {
+        return Err(TreeFault::Malformed(link.page));
+    }
     learn(spans, passed, &leaf, link.page)?;
     if is_end(&leaf, &want.period) {
         return Ok(None);
@@ -147,13 +151,12 @@ pub(crate) fn take<S: PageStore>(
     beside: &[u32],
 ) -> Result<Option<Link>, TreeFault>
     ensures taken { IsTrue cache.old.store.is_faithful
-        → IfOk result (TakesPage (pages_of_cache cache.old) link.now spot.now want.now.period
-        want.now.sieve found.old.items found.new.items
+        → IfOk result (TakesPage ((pages_of_cache cache.old).at link.now.page) link.now spot.now
+        want.now.period want.now.sieve found.old.items found.new.items
         (record { old = spans.old.items; new = spans.new.items; passed = passed })) }
     ensures forgets { OnErr result (spans.new.items ≡ spans.old.items) }
     ensures named { IsTrue cache.old.store.is_faithful
-        → IfErr result (IsNamed (pages_of_cache cache.old)
-        (fault_at (pages_of_cache cache.old) link.now spot.now)) }
+        → IfErr result (IfNamed (IsUnlinked (pages_of_cache cache.old) link.now spot.now)) }
     ensures reads { Reads cache.old cache.new result }
     ensures asked { OnOk result (AsksOnce cache.old cache.new) }
     ensures most { cache.new.asked ≤ cache.old.asked + 1 }

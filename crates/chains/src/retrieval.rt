@@ -1,22 +1,17 @@
 //! The legs of a feature.
-ghost use Rattle.std.specs.Prelude.{suc, ◌≡◌, ◌+◌, ◌-◌, ◌^◌, ◌<◌, ◌≤◌, List, Option, Some, None, [], drop, OnErr, OnOk, IfOk, IfErr, IsTrue};
-ghost use Rattle.legs.specs.Costs.{RisesBy, RisesAtMost, track_cost, track_in_bound};
-ghost use Rattle.legs.specs.Index.{legs_of, live_legs_of};
-ghost use Rattle.legs.specs.Legs.{LegView};
-ghost use Rattle.legs.specs.Sieves.{IsSieved};
+ghost use Rattle.std.specs.Prelude.{suc, ◌≡◌, ◌+◌, ◌-◌, ◌^◌, ◌<◌, ◌≤◌, ◌↔◌, Some, None, [], drop, OnErr, OnOk, IfOk, IfErr, IsTrue};
+ghost use Rattle.legs.specs.Costs.{RisesBy, RisesAtMost};
+ghost use Rattle.legs.specs.declared.sieve.Sieve.{Sieve};
 ghost use Rattle.pagecache.specs.Cache.{AsksOnce};
-ghost use Rattle.tbtree.specs.Faults.{GivesRead, IsNamed};
+ghost use Rattle.tbtree.specs.Faults.{IfNamed};
 ghost use Rattle.tbtree.specs.Nodes.{pages_of_cache};
 ghost use Rattle.tbtree.specs.Shape.{IsShape};
-ghost use Rattle.tbtree.specs.declared.tree.Place.{Place};
-ghost use Rattle.chains.specs.Chains.{IsPlaceChain, chain_fault, chain_legs, chain_cost, is_stray};
+ghost use Rattle.chains.specs.Chains.{IsPlaceChain, IsOffPlaceChain, NamesNoneIfEmpty, chain_legs, chain_cost};
 ghost use Rattle.chains.specs.Reads.{Reads};
-ghost use Rattle.chains.specs.Keeping.{HasTaken};
-ghost use Rattle.chains.specs.Links.{spot_of};
+ghost use Rattle.chains.specs.Links.{spot_of, IsUnlinked};
 ghost use Rattle.chains.specs.Spans.{AreSpans, IsKnown};
-ghost use Rattle.chains.specs.Taking.{TakesPage, fault_at};
-ghost use Rattle.chains.specs.Trajectory.{HasFeature};
-ghost use Rattle.chains.specs.declared.spans.LeafSpan.{LeafSpan};
+ghost use Rattle.chains.specs.Taking.{HasTaken, TakesPage};
+ghost use Rattle.chains.specs.Trajectory.{RetrievalCall};
 
 use crate::again::take_again;
 use crate::beside::beside;
@@ -33,11 +28,11 @@ use timebase::Period;
 /// Why the legs of a feature were not given: never that a tree is spent.
 pub type ChainFault = TreeFault;
 
-/// Whether a place without legs names a page.
-fn is_stray(place: &Place) -> bool
-    ensures { result ≡ is_stray place.now }
+/// Whether a place names no page where it has no legs.
+fn names_none_if_empty(place: &Place) -> bool
+    ensures { IsTrue result ↔ NamesNoneIfEmpty place.now }
 {
-    place.legs == 0 && (place.first != 0 || place.last != 0)
+    place.legs != 0 || (place.first == 0 && place.last == 0)
 }
 
 /// Where a walk back along a chain is: the link to the leaf, how many leaves there are before it, and how many after it
@@ -77,14 +72,14 @@ fn step<S: PageStore>(
         (drop at.now.passed spans.old.items) (suc at.now.left) at.now.link }
     requires room { at.now.passed < 2 ^ 64 - 1 }
     ensures taken { IsTrue cache.old.store.is_faithful
-        → IfOk result (TakesPage (pages_of_cache cache.old) at.now.link
+        → IfOk result (TakesPage ((pages_of_cache cache.old).at at.now.link.page) at.now.link
         (spot_of most place.now.legs place.now.first at.now.left) want.now.period
         want.now.sieve found.old.items found.new.items
         (record { old = spans.old.items; new = spans.new.items; passed = at.now.passed })) }
     ensures forgets { OnErr result (spans.new.items ≡ spans.old.items) }
     ensures named { IsTrue cache.old.store.is_faithful
-        → IfErr result (IsNamed (pages_of_cache cache.old) (fault_at (pages_of_cache cache.old)
-        at.now.link (spot_of most place.now.legs place.now.first at.now.left))) }
+        → IfErr result (IfNamed (IsUnlinked (pages_of_cache cache.old) at.now.link
+        (spot_of most place.now.legs place.now.first at.now.left))) }
     ensures reads { Reads cache.old cache.new result }
     ensures asked { want.now.period ≡ None → OnOk result (AsksOnce cache.old cache.new) }
     ensures most { cache.new.asked ≤ cache.old.asked + 1 }
@@ -125,12 +120,12 @@ fn walk_back<S: PageStore>(
         → IfOk result (λ found. HasTaken want.now.period want.now.sieve
         (chain_legs (pages_of_cache cache.old) want.now.period shape.now place.now)
         [] found.items) }
-    ensures whole { IsTrue cache.old.store.is_faithful
-        → OnOk result (chain_fault (pages_of_cache cache.old) want.now.period shape.now feature
-        place.now ≡ None) }
+    ensures chain { IsTrue cache.old.store.is_faithful
+        → OnOk result (IsPlaceChain (pages_of_cache cache.old) want.now.period shape.now feature
+        place.now) }
     ensures named { IsTrue cache.old.store.is_faithful
-        → IfErr result (IsNamed (pages_of_cache cache.old)
-        (chain_fault (pages_of_cache cache.old) want.now.period shape.now feature place.now)) }
+        → IfErr result (IfNamed (IsOffPlaceChain (pages_of_cache cache.old) want.now.period
+        shape.now feature place.now)) }
     ensures reads { Reads cache.old cache.new result }
     ensures asked { IsTrue cache.old.store.is_faithful → want.now.period ≡ None
         → OnOk result (RisesBy cache.old.asked cache.new.asked
@@ -143,7 +138,7 @@ fn walk_back<S: PageStore>(
     ensures shape { IsShape shape.now }
 {
     let most = u64::from(shape.leaf());
-    if is_stray(place) {
+    if !names_none_if_empty(place) {
         return Err(TreeFault::Malformed(0));
     }
     let mut left = place.legs.div_ceil(most);
@@ -166,6 +161,26 @@ fn walk_back<S: PageStore>(
     Ok(found)
 }
 
+/// What is wanted of a chain, in the order in which the legs were accepted.
+fn retrieve<S: PageStore>(
+    alloc: Global,
+    cache: &mut PageCache<S>,
+    shape: &Shape,
+    feature: u32,
+    place: &Place,
+    want: &Want,
+    spans: &mut Vec<LeafSpan>,
+) -> Result<Vec<Leg>, TreeFault>
+    requires known { IsTrue cache.old.store.is_faithful
+        → IsKnown (pages_of_cache cache.old) shape.now feature place.now spans.old.items }
+    ensures { RetrievalCall want.now.period want.now.sieve shape.now feature place.now cache.old
+        cache.new spans.new.items (λ found. found.items) result }
+{
+    let mut found = walk_back(alloc, cache, shape, feature, place, want, spans)?;
+    found.reverse();
+    Ok(found)
+}
+
 /// The legs of the feature at a place of a tree of that shape, in the order in which they were accepted.
 ///
 /// A leaf of another feature, with another count of legs than its place in the chain has, whose `next` is not the
@@ -183,43 +198,15 @@ pub fn trajectory<S: PageStore>(
     // What the caller knows of the chain's last leaves is true.
     requires known { IsTrue cache.old.store.is_faithful
         → IsKnown (pages_of_cache cache.old) shape.now feature place.now spans.old.items }
-
-    // Of pages that stand for a list: exactly the feature's legs; only a failed store and want of memory refuse.
-    ensures found { IsTrue cache.old.store.is_faithful → (legs : List LegView)
-        → HasFeature (pages_of_cache cache.old) shape.now place.now feature legs
-        → GivesRead result (λ found. found.items ≡ legs_of feature legs) }
-    // Over such pages it asks once for each leaf of the feature.
-    ensures asked { IsTrue cache.old.store.is_faithful → (legs : List LegView)
-        → HasFeature (pages_of_cache cache.old) shape.now place.now feature legs
-        → OnOk result (RisesBy cache.old.asked cache.new.asked
-        (track_cost feature (Some shape.now) legs)) }
-
-    // Of any pages: exactly the legs of a whole chain; all else is refused.
-    ensures chain { IsTrue cache.old.store.is_faithful
-        → OnOk result (IsPlaceChain (pages_of_cache cache.old) None shape.now feature place.now) }
-    // It returns exactly the legs of that chain, in order.
-    ensures legs { IsTrue cache.old.store.is_faithful
-        → IfOk result (λ found. found.items
-        ≡ chain_legs (pages_of_cache cache.old) None shape.now place.now) }
-    // A page that an error names is the first one, from the place's last leaf back, that is not the chain's.
-    ensures named { IsTrue cache.old.store.is_faithful
-        → IfErr result (IsNamed (pages_of_cache cache.old)
-        (chain_fault (pages_of_cache cache.old) None shape.now feature place.now)) }
-
-    // What is known of the chain's last leaves is true, after it as before it.
-    ensures learns { IsTrue cache.old.store.is_faithful
-        → IsKnown (pages_of_cache cache.old) shape.now feature place.now spans.new.items }
-
-    // Over any store; what is said of payloads, over a faithful one.
-    ensures reads { Reads cache.old cache.new result }
+    // It gives exactly the feature's legs, and asks once for each of its leaves; of any pages, those of a whole chain.
+    ensures { RetrievalCall None Sieve.All shape.now feature place.now cache.old cache.new
+        spans.new.items (λ found. found.items) result }
 {
     let want = Want {
         period: None,
         sieve: Sieve::All,
     };
-    let mut found = walk_back(alloc, cache, shape, feature, place, &want, spans)?;
-    found.reverse();
-    Ok(found)
+    retrieve(alloc, cache, shape, feature, place, &want, spans)
 }
 
 /// The legs of the feature at a place of a tree of that shape that are live in a period, in the order in which they
@@ -241,48 +228,14 @@ pub fn trajectory_in<S: PageStore>(
     // What the caller knows of the chain's last leaves is true.
     requires known { IsTrue cache.old.store.is_faithful
         → IsKnown (pages_of_cache cache.old) shape.now feature place.now spans.old.items }
-
-    // Of pages that stand for a list: what the sieve keeps of the feature's live legs; only a failed store and want
-    // of memory refuse.
-    ensures found { IsTrue cache.old.store.is_faithful → (legs : List LegView)
-        → HasFeature (pages_of_cache cache.old) shape.now place.now feature legs
-        → GivesRead result (λ found. IsSieved sieve.now period.now
-        (live_legs_of feature period.now legs) found.items) }
-    // Over such pages it asks for at most one leaf more than those with a leg that ends
-    // no earlier than the period starts.
-    ensures asked { IsTrue cache.old.store.is_faithful → (legs : List LegView)
-        → HasFeature (pages_of_cache cache.old) shape.now place.now feature legs
-        → OnOk result (RisesAtMost cache.old.asked cache.new.asked
-        (track_in_bound feature period.now (Some shape.now) legs)) }
-
-    // Of any pages: what it keeps of the live legs of a chain, as far as it is read; all else is refused.
-    ensures chain { IsTrue cache.old.store.is_faithful
-        → OnOk result (IsPlaceChain (pages_of_cache cache.old) (Some period.now) shape.now feature
-        place.now) }
-    // Of the chain's legs that are live in the period, it returns those that the sieve keeps, and
-    // perhaps others.
-    ensures legs { IsTrue cache.old.store.is_faithful
-        → IfOk result (λ found. IsSieved sieve.now period.now
-        (chain_legs (pages_of_cache cache.old) (Some period.now) shape.now place.now)
-        found.items) }
-    // A page that an error names is the first one, from the place's last leaf back, that is not the chain's.
-    ensures named { IsTrue cache.old.store.is_faithful
-        → IfErr result (IsNamed (pages_of_cache cache.old)
-        (chain_fault (pages_of_cache cache.old) (Some period.now) shape.now feature place.now)) }
-
-    // What is known of the chain's last leaves is true, after it as before it.
-    ensures learns { IsTrue cache.old.store.is_faithful
-        → IsKnown (pages_of_cache cache.old) shape.now feature place.now spans.new.items }
-
-    // Over any store; what is said of payloads, over a faithful one.
-    ensures reads { Reads cache.old cache.new result }
+    // It gives what the sieve keeps of the feature's legs that are live in the period, and asks for few of its leaves; of
+    // any pages, those of a chain, as far as it is read.
+    ensures { RetrievalCall (Some period.now) sieve.now shape.now feature place.now cache.old
+        cache.new spans.new.items (λ found. found.items) result }
 {
-    prove!(period.start() <= period.end());
     let want = Want {
         period: Some(*period),
         sieve: *sieve,
     };
-    let mut found = walk_back(alloc, cache, shape, feature, place, &want, spans)?;
-    found.reverse();
-    Ok(found)
+    retrieve(alloc, cache, shape, feature, place, &want, spans)
 }

@@ -1,13 +1,17 @@
-use Rattle.std.proofs.Common.{ℕ, ◌≡◌, ◌+◌, ◌-◌, ◌<◌, [], ◌∷◌, List, length, suc, arith, ap, subst, ◌∙◌, IsTrue}
+use Rattle.std.proofs.Common.{ℕ, ◌≡◌, ◌+◌, ◌-◌, ◌<◌, [], ◌∷◌, List, length, suc, arith, ap, subst, ◌∙◌, All, IsTrue}
+use Rattle.std.specs.Prelude.{IfErr, IfOk, OnOk}
+use Rattle.std.specs.List.{flat_map}
 use Rattle.std.proofs.lemmas.Result.{err_from_is_err_and}
-use Rattle.tbtree.specs.Descent.{pages_met, met_count, HasInner}
+use Rattle.legs.specs.Hull.{leg_boxes}
+use Rattle.tbtree.specs.Descent.{children_met, hits, pages_met, met_count, HasInner}
+use Rattle.tbtree.specs.Faults.{IfNamed}
 use Rattle.tbtree.specs.Nodes.{pages_of_cache, HasLeaf}
-use Rattle.boxsearch.specs.Way.{meets, IsFirstNot, IsOffWay}
+use Rattle.boxsearch.specs.Way.{meets, IsOneNot, IsOffWay}
 use Rattle.boxsearch.proofs.FoundLemmas.{if_ok, if_err, on_ok}
-use Rattle.chains.proofs.ReadLemmas.{reads_then, reads_trans}
+use Rattle.chains.proofs.ReadLemmas.{reads_refused, reads_then, reads_trans}
 use Rattle.tbtree.proofs.FaultLemmas.{named_then}
-use Rattle.boxsearch.proofs.LevelLemmas.{level_reads}
-use Rattle.boxsearch.proofs.WayLemmas.{FitsTo, malformed_caused, root_alone, level_down, level_legs, counted, few_on_way, many_off_way, left_on, inners_on_way, inner_off_way, leaves_on_way, leaf_off_way, inners_fit, leaves_fit, fits_more, fits_none, way_whole, malformed_is}
+use Rattle.boxsearch.proofs.SameLemmas.{as_before}
+use Rattle.boxsearch.proofs.WayLemmas.{FitsTo, malformed_caused, root_alone, level_down, level_legs, counted, inner_level, level_inner, all_fit, one_off_way, many_off_way, fits_more, way_whole, malformed_is}
 use Rattle.boxsearch.proofs.descent.collected.Given as given
 use Rattle.boxsearch.proofs.descent.collected.Goals.{After-deref, After-deref-in-loop-level-2}
 use Rattle.boxsearch.proofs.descent.collected.Goals as goal
@@ -19,21 +23,25 @@ rooted g c = root_alone c.deref.result.now c.push.new.self.items c.new-pages.res
 -- the pages of the next level are those that are met there
 next_met : (g : given.Over) (c : After-deref-in-loop-level-2 g) → IsTrue c.args.cache.now.store.is_faithful → c.in_ok-pages.pages.items ≡ pages_met (meets c.args.query.now) (pages_of_cache c.args.cache.now) c.args.tree.now.root c.loop-level.level
 next_met g c fa =
-    let reads = c.loop-level.invariant.reads in
-    level_down c.args.cache.now c.loop-level.cache reads fa c.args.query.now c.args.tree.now.root (c.loop-level.level - 1) c.loop-level.level c.deref-in-loop-level.result.now c.in_ok-pages.pages.items (omega arith) (c.deref-in-loop-level.ensures.value ∙ c.loop-level.invariant.found fa)
-    (c.in_ok-pages.ensures.found (reads.store.faithful ∙ fa))
+    level_down c.args.query.now (pages_of_cache c.args.cache.now) c.args.tree.now.root c.args.tree.now.levels (c.loop-level.level - 1) c.loop-level.level c.deref-in-loop-level.result.now c.in_ok-pages.pages.items (omega arith) (c.deref-in-loop-level.ensures.value ∙ c.loop-level.invariant.found fa)
+    (as_before c.args.cache.now c.loop-level.cache c.loop-level.invariant.reads (λ nodes. c.in_ok-pages.pages.items ≡ flat_map (children_met (meets c.args.query.now) nodes) c.deref-in-loop-level.result.now) c.in_ok-pages.ensures.found fa)
 
 -- each level down to there fits
 level_fits : (g : given.Over) (c : After-deref-in-loop-level-2 g) → IsTrue c.args.cache.now.store.is_faithful → FitsTo c.args.query.now (pages_of_cache c.args.cache.now) c.args.tree.now.root c.args.tree.now.levels c.loop-level.level
 level_fits g c fa =
     let inv = c.loop-level.invariant in
+    let query = c.args.query.now in
+    let nodes = pages_of_cache c.args.cache.now in
+    let root = c.args.tree.now.root in
+    let levels = c.args.tree.now.levels in
     let n = c.loop-level.level - 1 in
-    let k = c.args.tree.now.levels - c.loop-level.level in
+    let k = levels - c.loop-level.level in
     let some : 0 < k = omega (arith, c.loop-level-test.true) in
-    let deep : n + suc k ≡ c.args.tree.now.levels = omega (arith, c.loop-level-test.true) in
-    fits_more c.args.query.now (pages_of_cache c.args.cache.now) c.args.tree.now.root c.args.tree.now.levels n k c.loop-level.level deep (omega arith)
-    (inners_fit c.args.cache.now c.loop-level.cache inv.reads fa c.args.query.now c.args.tree.now.root n k c.deref-in-loop-level.result.now some (c.deref-in-loop-level.ensures.value ∙ inv.found fa)
-    (c.in_ok-pages.ensures.way (inv.reads.store.faithful ∙ fa)))
+    let deep : n + suc k ≡ levels = omega (arith, c.loop-level-test.true) in
+    let now = c.deref-in-loop-level.result.now in
+    fits_more query nodes root levels n k c.loop-level.level deep (omega arith)
+    (all_fit query nodes root levels (λ p. HasInner nodes p k) n k now (λ p. inner_level query nodes root levels k p some) (c.deref-in-loop-level.ensures.value ∙ inv.found fa)
+    (as_before c.args.cache.now c.loop-level.cache inv.reads (λ nodes. All (λ p. HasInner nodes p k) now) c.in_ok-pages.ensures.way fa))
     (inv.way fa)
 
 pub loop-level-preserved : goal.loop-level-preserved
@@ -67,12 +75,6 @@ loop-level-preserved g c =
       most = let spent = c.in_ok-spend-2.ensures.ok in omega (arith, c.next_level.ensures.most, inv.most, spent, one, other);
     }
 
-pub returns-in_err-spend-clause-only : goal.returns-in_err-spend-clause-only
-returns-in_err-spend-clause-only g c = λ fa way.
-    let e = c.in_err-spend.ensures.err in
-    let few = few_on_way c.args.query.now (pages_of_cache c.args.cache.now) c.args.tree.now.root c.args.tree.now.levels 0 c.deref.result.now (omega (arith, c.requires.levels)) (rooted g (goal.at.returns-in_err-spend-clause-only g c).After-deref) way in
-    absurd (omega (arith, e.0, few, c.count.ensures.value))
-
 pub returns-in_err-spend-clause-named : goal.returns-in_err-spend-clause-named
 returns-in_err-spend-clause-named g c = λ fa.
     let p = err_from_is_err_and c.from_residual-in_err-spend.result c.from_residual-in_err-spend.ensures.1 in
@@ -81,43 +83,26 @@ returns-in_err-spend-clause-named g c = λ fa.
     let levels = c.args.tree.now.levels in
     let e = c.in_err-spend.ensures.err in
     let last : 0 + suc (levels - 1) ≡ levels = omega (arith, c.requires.levels) in
-    let many : met_count (meets c.args.query.now) nodes root 0 + c.count.result ≡ nodes.count = omega (arith, c.count.ensures.value) in
+    let many : nodes.count < met_count (meets c.args.query.now) nodes root 0 + length c.deref.result.now = omega (arith, e.0, c.count.ensures.value) in
     rw (p.1, p.2) (malformed_is (IsOffWay c.args.query.now nodes root levels) _ e.1 e.3
-    (many_off_way c.args.query.now nodes root levels 0 (levels - 1) c.count.result e.1 c.deref.result.now last (rooted g (goal.at.returns-in_err-spend-clause-named g c).After-deref) (fits_none c.args.query.now nodes root levels) e.2 many))
-
-pub returns-in_err-pages-clause-only : goal.returns-in_err-pages-clause-only
-returns-in_err-pages-clause-only g c = λ fa way.
-    let p = err_from_is_err_and c.from_residual-in_err-pages.result c.from_residual-in_err-pages.ensures.1 in
-    let inv = c.loop-level.invariant in
-    let level = c.loop-level.level in
-    let levels = c.args.tree.now.levels in
-    let here = inners_on_way c.args.cache.now c.loop-level.cache inv.reads fa c.args.query.now c.args.tree.now.root levels (level - 1) (levels - level) c.deref-in-loop-level.result.now
-    (omega (arith, c.loop-level-test.true)) (omega (arith, c.loop-level-test.true)) (c.deref-in-loop-level.ensures.value ∙ inv.found fa) way in
-    rw (p.1, p.2) (c.in_err-pages.ensures.only (inv.reads.store.faithful ∙ fa) here)
+    (many_off_way c.args.query.now nodes root levels 0 (levels - 1) c.count.result e.1 c.deref.result.now last (rooted g (goal.at.returns-in_err-spend-clause-named g c).After-deref) e.2 many))
 
 pub returns-in_err-pages-clause-named : goal.returns-in_err-pages-clause-named
 returns-in_err-pages-clause-named g c = λ fa.
     let p = err_from_is_err_and c.from_residual-in_err-pages.result c.from_residual-in_err-pages.ensures.1 in
     let inv = c.loop-level.invariant in
+    let query = c.args.query.now in
+    let nodes = pages_of_cache c.args.cache.now in
+    let root = c.args.tree.now.root in
+    let levels = c.args.tree.now.levels in
     let n = c.loop-level.level - 1 in
-    let k = c.args.tree.now.levels - c.loop-level.level in
+    let k = levels - c.loop-level.level in
     let some : 0 < k = omega (arith, c.loop-level-test.true) in
-    let last : n + suc k ≡ c.args.tree.now.levels = omega (arith, c.loop-level-test.true) in
-    let so_far = left_on c.args.query.now (pages_of_cache c.args.cache.now) c.args.tree.now.root c.args.tree.now.levels n c.loop-level.level c.loop-level.left (omega arith) (inv.left fa) in
-    rw (p.1, p.2) (named_then
-    (IsFirstNot (λ q. HasInner (pages_of_cache c.loop-level.cache) q k) c.deref-in-loop-level.result.now)
-    (IsOffWay c.args.query.now (pages_of_cache c.args.cache.now) c.args.tree.now.root c.args.tree.now.levels)
-    (λ q h. inner_off_way c.args.cache.now c.loop-level.cache inv.reads fa c.args.query.now c.args.tree.now.root c.args.tree.now.levels n k c.loop-level.left q c.deref-in-loop-level.result.now some last (c.deref-in-loop-level.ensures.value ∙ inv.found fa) (inv.way fa) so_far h)
-    _
-    (c.in_err-pages.ensures.named (inv.reads.store.faithful ∙ fa)))
-
-pub returns-in_err-spend-2-clause-only : goal.returns-in_err-spend-2-clause-only
-returns-in_err-spend-2-clause-only g c = λ fa way.
-    let met = next_met g (goal.at.returns-in_err-spend-2-clause-only g c).After-deref-in-loop-level-2 fa in
-    let few = few_on_way c.args.query.now (pages_of_cache c.args.cache.now) c.args.tree.now.root c.args.tree.now.levels c.loop-level.level c.deref-in-loop-level-2.result.now (omega (arith, c.loop-level-test.true)) (c.deref-in-loop-level-2.ensures.value ∙ met) way in
-    let e = c.in_err-spend-2.ensures.err in
-    let so_far = c.loop-level.invariant.left fa in
-    absurd (omega (arith, e.0, few, so_far))
+    let last : n + suc k ≡ levels = omega (arith, c.loop-level-test.true) in
+    let now = c.deref-in-loop-level.result.now in
+    rw (p.1, p.2) (named_then (IsOneNot (λ q. HasInner nodes q k) now) (IsOffWay query nodes root levels)
+    (λ q h. one_off_way query nodes root levels (λ q. HasInner nodes q k) n k q now last (c.deref-in-loop-level.ensures.value ∙ inv.found fa) (λ q. level_inner query nodes root levels k q some) h) _
+    (as_before c.args.cache.now c.loop-level.cache inv.reads (λ nodes. IfNamed (IsOneNot (λ q. HasInner nodes q k) now) c.in_err-pages.field-0.0) c.in_err-pages.ensures.named fa))
 
 pub returns-in_err-spend-2-clause-named : goal.returns-in_err-spend-2-clause-named
 returns-in_err-spend-2-clause-named g c = λ fa.
@@ -130,61 +115,56 @@ returns-in_err-spend-2-clause-named g c = λ fa.
     let so_far = c.loop-level.invariant.left fa in
     let k = c.args.tree.now.levels - level - 1 in
     let last : level + suc k ≡ c.args.tree.now.levels = omega (arith, c.loop-level-test.true) in
-    let many : met_count (meets query) nodes c.args.tree.now.root level + c.loop-level.left ≡ nodes.count = omega (arith, so_far) in
+    let many : nodes.count < met_count (meets query) nodes c.args.tree.now.root level + length c.deref-in-loop-level-2.result.now = omega (arith, so_far, e.0) in
     rw (p.1, p.2) (malformed_is (IsOffWay query nodes c.args.tree.now.root c.args.tree.now.levels) _ e.1 e.3
-    (many_off_way query nodes c.args.tree.now.root c.args.tree.now.levels level k c.loop-level.left e.1 c.deref-in-loop-level-2.result.now last (c.deref-in-loop-level-2.ensures.value ∙ next_met g before fa) (level_fits g before fa) e.2 many))
+    (many_off_way query nodes c.args.tree.now.root c.args.tree.now.levels level k c.loop-level.left e.1 c.deref-in-loop-level-2.result.now last (c.deref-in-loop-level-2.ensures.value ∙ next_met g before fa) e.2 many))
 
 pub returns-clause-found : goal.returns-clause-found
 returns-clause-found g c = λ fa.
     let old = c.args.cache.now in
     let inv = c.loop-level.invariant in
-    let level = c.loop-level.level in
+    let query = c.args.query.now in
     let levels = c.args.tree.now.levels in
-    let last : levels ≡ suc (level - 1) = omega (arith, c.loop-level-test.false, c.requires.levels) in
+    let now = c.deref-2.result.now in
+    let last : levels ≡ suc (c.loop-level.level - 1) = omega (arith, c.loop-level-test.false, c.requires.levels) in
     if_ok c.legs_in.result _ _
-    (λ found h. level_legs old c.loop-level.cache inv.reads fa c.args.query.now c.args.tree.now.root (level - 1) levels c.deref-2.result.now found.items last (c.deref-2.ensures.value ∙ inv.found fa) h)
-    (c.legs_in.ensures.found (inv.reads.store.faithful ∙ fa))
+    (λ found h. level_legs query (pages_of_cache old) c.args.tree.now.root levels (c.loop-level.level - 1) now found.items last (c.deref-2.ensures.value ∙ inv.found fa) h)
+    (as_before old c.loop-level.cache inv.reads (λ nodes. IfOk c.legs_in.result (λ found. found.items ≡ flat_map (hits leg_boxes (meets query) nodes) now)) c.legs_in.ensures.found fa)
 
 pub returns-clause-way : goal.returns-clause-way
 returns-clause-way g c = λ fa.
+    let old = c.args.cache.now in
     let inv = c.loop-level.invariant in
+    let query = c.args.query.now in
+    let nodes = pages_of_cache old in
+    let root = c.args.tree.now.root in
     let levels = c.args.tree.now.levels in
+    let now = c.deref-2.result.now in
     let n = c.loop-level.level - 1 in
     let last : levels ≡ suc n = omega (arith, c.loop-level-test.false, c.requires.levels) in
     let deep : n + 1 ≡ levels = omega (arith, last) in
     let here : c.loop-level.level ≡ levels = omega (arith, c.loop-level-test.false, c.requires.levels) in
     on_ok c.legs_in.result
     (λ all.
-    let leaves = leaves_fit c.args.cache.now c.loop-level.cache inv.reads fa c.args.query.now c.args.tree.now.root n c.deref-2.result.now (c.deref-2.ensures.value ∙ inv.found fa) all in
-    way_whole c.args.query.now (pages_of_cache c.args.cache.now) c.args.tree.now.root levels c.loop-level.left c.loop-level.level here
-    (fits_more c.args.query.now (pages_of_cache c.args.cache.now) c.args.tree.now.root levels n 0 levels deep last leaves (inv.way fa)) (inv.left fa))
-    (c.legs_in.ensures.way (inv.reads.store.faithful ∙ fa))
-
-pub returns-clause-only : goal.returns-clause-only
-returns-clause-only g c = λ fa way.
-    let inv = c.loop-level.invariant in
-    let level = c.loop-level.level in
-    let levels = c.args.tree.now.levels in
-    let last : level - 1 + 1 ≡ levels = omega (arith, c.loop-level-test.false, c.requires.levels) in
-    let here = leaves_on_way c.args.cache.now c.loop-level.cache inv.reads fa c.args.query.now c.args.tree.now.root levels (level - 1) c.deref-2.result.now last (c.deref-2.ensures.value ∙ inv.found fa) way in
-    c.legs_in.ensures.only (inv.reads.store.faithful ∙ fa) here
+    let leaves = all_fit query nodes root levels (λ p. HasLeaf nodes p) n 0 now (λ p h. h) (c.deref-2.ensures.value ∙ inv.found fa) all in
+    way_whole query nodes root levels c.loop-level.left c.loop-level.level here (fits_more query nodes root levels n 0 levels deep last leaves (inv.way fa)) (inv.left fa))
+    (as_before old c.loop-level.cache inv.reads (λ nodes. OnOk c.legs_in.result (All (λ p. HasLeaf nodes p) now)) c.legs_in.ensures.way fa)
 
 pub returns-clause-named : goal.returns-clause-named
 returns-clause-named g c = λ fa.
+    let old = c.args.cache.now in
     let inv = c.loop-level.invariant in
     let query = c.args.query.now in
+    let nodes = pages_of_cache old in
+    let root = c.args.tree.now.root in
     let levels = c.args.tree.now.levels in
+    let now = c.deref-2.result.now in
     let n = c.loop-level.level - 1 in
     let last : n + 1 ≡ levels = omega (arith, c.loop-level-test.false, c.requires.levels) in
-    let so_far = left_on query (pages_of_cache c.args.cache.now) c.args.tree.now.root levels n c.loop-level.level c.loop-level.left (omega arith) (inv.left fa) in
     if_err c.legs_in.result _ _
-    (λ fault h. named_then
-    (IsFirstNot (λ q. HasLeaf (pages_of_cache c.loop-level.cache) q) c.deref-2.result.now)
-    (IsOffWay query (pages_of_cache c.args.cache.now) c.args.tree.now.root levels)
-    (λ q k. leaf_off_way c.args.cache.now c.loop-level.cache inv.reads fa query c.args.tree.now.root levels n c.loop-level.left q c.deref-2.result.now last (c.deref-2.ensures.value ∙ inv.found fa) (inv.way fa) so_far k)
-    fault
-    h)
-    (c.legs_in.ensures.named (inv.reads.store.faithful ∙ fa))
+    (λ fault h. named_then (IsOneNot (λ q. HasLeaf nodes q) now) (IsOffWay query nodes root levels)
+    (λ q k. one_off_way query nodes root levels (λ q. HasLeaf nodes q) n 0 q now last (c.deref-2.ensures.value ∙ inv.found fa) (λ q h. h) k) fault h)
+    (as_before old c.loop-level.cache inv.reads (λ nodes. IfErr c.legs_in.result (IfNamed (IsOneNot (λ q. HasLeaf nodes q) now))) c.legs_in.ensures.named fa)
 
 pub returns-clause-asked : goal.returns-clause-asked
 returns-clause-asked g c = λ fa.
@@ -198,7 +178,8 @@ returns-clause-asked g c = λ fa.
 
 pub returns-in_err-pages-clause-reads : goal.returns-in_err-pages-clause-reads
 returns-in_err-pages-clause-reads g c =
-    level_reads c.args.cache.now c.loop-level.cache c.next_level.new.cache c.from_residual-in_err-pages.result c.in_err-pages.field-0.0 (err_from_is_err_and c.from_residual-in_err-pages.result c.from_residual-in_err-pages.ensures.1) c.loop-level.invariant.reads c.next_level.ensures.reads.only c.in_err-pages.ensures.reads.caused
+    let p = err_from_is_err_and c.from_residual-in_err-pages.result c.from_residual-in_err-pages.ensures.1 in
+    rw (p.1, p.2) (reads_refused c.args.cache.now c.loop-level.cache c.next_level.new.cache c.in_err-pages.field-0.0 c.loop-level.invariant.reads c.in_err-pages.ensures.reads)
 
 pub returns-in_err-spend-2-clause-reads : goal.returns-in_err-spend-2-clause-reads
 returns-in_err-spend-2-clause-reads g c =

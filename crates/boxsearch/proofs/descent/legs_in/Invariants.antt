@@ -1,19 +1,10 @@
-use Rattle.std.proofs.Common.{◌≡◌, ◌+◌, ◌-◌, ◌^◌, ◌≤◌, ◌<◌, length, take}
-use Rattle.std.specs.Prelude.{IsTrue}
-use Rattle.std.specs.List.{All, flat_map}
-use Rattle.legs.specs.Hull.{leg_boxes}
-use Rattle.chains.specs.Reads.{OnlyReads}
-use Rattle.tbtree.specs.Descent.{hits}
-use Rattle.tbtree.specs.Nodes.{pages_of_cache, HasLeaf}
 use Rattle.boxsearch.specs.Way.{meets}
+use Rattle.legs.specs.Hull.{leg_boxes}
+use Rattle.tbtree.specs.Descent.{hits}
+use Rattle.tbtree.specs.Nodes.{HasLeaf}
+use Rattle.boxsearch.proofs.LevelLemmas.{IsSoFar}
 use Rattle.boxsearch.proofs.descent.legs_in.Given as goal
 
 abbrev pub invariant-loop-i : goal.invariant-loop-i
-invariant-loop-i g l = record {
-  within : l.i ≤ length l.pages;
-  reads : OnlyReads l.initial.cache l.cache;
-  found : IsTrue l.initial.cache.store.is_faithful → l.found.items ≡ flat_map (hits leg_boxes (meets l.query) (pages_of_cache l.initial.cache)) (take l.i l.pages);
-  way : IsTrue l.initial.cache.store.is_faithful → All (λ p. HasLeaf (pages_of_cache l.initial.cache) p) (take l.i l.pages);
-  asked : l.cache.asked < 2 ^ 64 - 1 → l.cache.asked ≡ l.initial.cache.asked + l.i;
-  most : l.cache.asked ≤ l.initial.cache.asked + l.i;
-}
+invariant-loop-i g l =
+    IsSoFar (λ nodes p. HasLeaf nodes p) (λ nodes p. hits leg_boxes (meets l.query) nodes p) l.pages l.initial.cache l.i l.cache l.found.items

@@ -1,50 +1,19 @@
-use Rattle.std.proofs.Common.{arith, get_or, ap, ◌∙◌, subst, All}
-use Rattle.std.proofs.lemmas.List.{take_all}
-use Rattle.std.specs.List.{flat_map}
+use Rattle.std.proofs.Common.{refl}
 use Rattle.std.proofs.lemmas.Result.{err_from_is_err_and}
 use Rattle.boxsearch.specs.Way.{meets}
 use Rattle.tbtree.specs.Descent.{children_met, HasInner}
-use Rattle.tbtree.specs.Nodes.{pages_of_cache}
-use Rattle.chains.proofs.ReadLemmas.{reads_trans}
-use Rattle.boxsearch.proofs.LevelLemmas.{level_asked, level_found, level_named, level_only, level_reads, level_way}
-use Rattle.boxsearch.proofs.SameLemmas.{same_children, inner_after, inner_before}
+use Rattle.boxsearch.proofs.LevelLemmas.{level_read, page_read, page_refused}
 use Rattle.boxsearch.proofs.descent.next_level.Goals as goal
 
 pub loop-i-preserved : goal.loop-i-preserved
 loop-i-preserved g c =
-    let inv = c.loop-i.invariant in
-    record {
-      within = omega (arith, c.loop-i-test.true);
-      reads = reads_trans c.args.cache.now c.loop-i.cache c.push_children.new.cache inv.reads c.push_children.ensures.reads.only;
-      found = level_found c.args.cache.now c.loop-i.cache c.loop-i.invariant.reads c.args.pages.now c.loop-i.i c.loop-i-test.true (children_met (meets c.args.query.now) (pages_of_cache c.args.cache.now)) (children_met (meets c.args.query.now) (pages_of_cache c.loop-i.cache)) c.loop-i.below.items c.push_children.new.found.items (λ fa. same_children c.args.cache.now c.loop-i.cache inv.reads fa (meets c.args.query.now) (get_or c.args.pages.now c.loop-i.i 0)) c.in_ok-push_children.ensures.pushed inv.found;
-      way = level_way c.args.cache.now c.loop-i.cache c.loop-i.invariant.reads c.args.pages.now c.loop-i.i c.loop-i-test.true (λ p. HasInner (pages_of_cache c.args.cache.now) p c.args.level) (λ p. HasInner (pages_of_cache c.loop-i.cache) p c.args.level) (λ fa. inner_before c.args.cache.now c.loop-i.cache c.loop-i.invariant.reads fa (get_or c.args.pages.now c.loop-i.i 0) c.args.level) c.in_ok-push_children.ensures.way inv.way;
-      asked = level_asked c.args.cache.now.asked c.loop-i.cache.asked c.push_children.new.cache.asked c.loop-i.i inv.asked c.in_ok-push_children.ensures.asked;
-      most = omega (arith, c.push_children.ensures.most, inv.most);
-    }
+    page_read (λ nodes p. HasInner nodes p c.args.level) (λ nodes p. children_met (meets c.args.query.now) nodes p) c.args.pages.now c.args.cache.now c.loop-i.i c.loop-i.cache c.loop-i.below.items c.loop-i.invariant c.loop-i-test.true c.push_children.new.cache c.push_children.new.found.items _ c.in_ok-push_children.ensures
 
-pub returns-in_err-push_children-clause-only : goal.returns-in_err-push_children-clause-only
-returns-in_err-push_children-clause-only g c =
+pub returns-in_err-push_children : goal.returns-in_err-push_children
+returns-in_err-push_children g c =
     let p = err_from_is_err_and c.from_residual.result c.from_residual.ensures.1 in
-    rw (p.1, p.2) (level_only c.args.cache.now c.loop-i.cache c.loop-i.invariant.reads c.args.pages.now c.loop-i.i c.loop-i-test.true (λ p. HasInner (pages_of_cache c.args.cache.now) p c.args.level) (λ p. HasInner (pages_of_cache c.loop-i.cache) p c.args.level) (λ fa. inner_after c.args.cache.now c.loop-i.cache c.loop-i.invariant.reads fa (get_or c.args.pages.now c.loop-i.i 0) c.args.level) c.in_err-push_children.ensures.only)
+    rw (p.1, p.2) (page_refused (λ nodes p. HasInner nodes p c.args.level) (λ nodes p. children_met (meets c.args.query.now) nodes p) c.args.pages.now c.args.cache.now c.loop-i.i c.loop-i.cache c.loop-i.below.items c.loop-i.invariant c.loop-i-test.true c.push_children.new.cache c.push_children.new.found.items (λ v. v.items) _ c.in_err-push_children.ensures)
 
-pub returns-in_err-push_children-clause-named : goal.returns-in_err-push_children-clause-named
-returns-in_err-push_children-clause-named g c =
-    let p = err_from_is_err_and c.from_residual.result c.from_residual.ensures.1 in
-    rw (p.1, p.2) (level_named c.args.cache.now c.loop-i.cache c.loop-i.invariant.reads c.args.pages.now c.loop-i.i c.loop-i-test.true (λ p. HasInner (pages_of_cache c.args.cache.now) p c.args.level) (λ p. HasInner (pages_of_cache c.loop-i.cache) p c.args.level) (λ fa. inner_after c.args.cache.now c.loop-i.cache c.loop-i.invariant.reads fa (get_or c.args.pages.now c.loop-i.i 0) c.args.level) c.in_err-push_children.field-0.0 c.in_err-push_children.ensures.named c.loop-i.invariant.way)
-
-pub returns-in_err-push_children-clause-reads : goal.returns-in_err-push_children-clause-reads
-returns-in_err-push_children-clause-reads g c =
-    level_reads c.args.cache.now c.loop-i.cache c.push_children.new.cache c.from_residual.result c.in_err-push_children.field-0.0 (err_from_is_err_and c.from_residual.result c.from_residual.ensures.1) c.loop-i.invariant.reads c.push_children.ensures.reads.only c.in_err-push_children.ensures.reads.caused
-
-pub returns-clause-found : goal.returns-clause-found
-returns-clause-found g c = λ fa.
-    c.loop-i.invariant.found fa ∙ ap (flat_map (children_met (meets c.args.query.now) (pages_of_cache c.args.cache.now))) (take_all c.loop-i.i c.args.pages.now c.loop-i-test.false)
-
-pub returns-clause-way : goal.returns-clause-way
-returns-clause-way g c = λ fa.
-    subst (All (λ p. HasInner (pages_of_cache c.args.cache.now) p c.args.level)) (take_all c.loop-i.i c.args.pages.now c.loop-i-test.false) (c.loop-i.invariant.way fa)
-
-pub returns-clause-asked : goal.returns-clause-asked
-returns-clause-asked g c = λ below.
-    let rose = c.loop-i.invariant.asked below in
-    omega (arith, rose, c.loop-i.invariant.within, c.loop-i-test.false)
+pub returns : goal.returns
+returns g c =
+    level_read (λ nodes p. HasInner nodes p c.args.level) (λ nodes p. children_met (meets c.args.query.now) nodes p) c.args.pages.now c.args.cache.now c.loop-i.i c.loop-i.cache c.loop-i.below.items c.loop-i.invariant (λ v. v.items) _ c.loop-i-test.false refl

@@ -7,10 +7,11 @@ use Rattle.tbtree.specs.Descent.{legs_met, Descends}
 use Rattle.tbtree.specs.Insert.{Stands}
 use Rattle.tbtree.specs.Nodes.{pages_of_cache}
 use Rattle.tbtree.proofs.LawLemmas.{descends}
-use Rattle.boxsearch.specs.Way.{meets}
+use Rattle.chains.proofs.ReadLemmas.{allowed_by}
+use Rattle.boxsearch.specs.Way.{meets, IsOffWay}
 use Rattle.boxsearch.proofs.FoundLemmas.{way_of, none_found, none_asked, in_order, cost_is}
 use Rattle.boxsearch.proofs.PruningLemmas.{pruning}
-use Rattle.boxsearch.proofs.WayLemmas.{way_none}
+use Rattle.boxsearch.proofs.WayLemmas.{way_none, way_off}
 use Rattle.boxsearch.proofs.descent.search.Given as given
 use Rattle.boxsearch.proofs.descent.search.Goals.{After-leaf}
 use Rattle.boxsearch.proofs.descent.search.Goals as goal
@@ -35,7 +36,12 @@ returns-then-tree-eq0-clause-way g c = λ fa.
 pub returns-in_err-found-clause-found : goal.returns-in_err-found-clause-found
 returns-in_err-found-clause-found g c = λ ns fa legs pages s.
     let p = err_from_is_err_and c.from_residual.result c.from_residual.ensures.1 in
-    rw (p.1, p.2) (c.in_err-found.ensures.only fa (way_of c.args.query.now (pages_of_cache c.args.cache.now) c.args.tree.now legs (descends_to g (goal.at.returns-in_err-found-clause-found g c).After-leaf legs pages s)))
+    let query = c.args.query.now in
+    let nodes = pages_of_cache c.args.cache.now in
+    let tree = c.args.tree.now in
+    rw (p.1, p.2) (allowed_by c.args.cache.now c.collected.new.cache (IsOffWay query nodes tree.root tree.levels) _
+    (way_off query nodes tree.root tree.levels (way_of query nodes tree legs (descends_to g (goal.at.returns-in_err-found-clause-found g c).After-leaf legs pages s)))
+    c.in_err-found.ensures.reads.caused (c.in_err-found.ensures.named fa))
 
 pub returns-clause-met : goal.returns-clause-met
 returns-clause-met g c = λ fa.

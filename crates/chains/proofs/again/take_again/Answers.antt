@@ -1,8 +1,5 @@
 use Rattle.std.proofs.Common.{rules}
 use Rattle.chains.proofs.again.take_again.Goals as goal
 
-pub returns-clause-reads : goal.returns-clause-reads
-returns-clause-reads g c = record { only = search rules; caused = c.take_node.ensures.caused c.args.cache.now c.page.follows.lender-at-none }
-
 pub returns-in-Err-clause-reads : goal.returns-in-Err-clause-reads
 returns-in-Err-clause-reads g c = record { only = search rules; caused = search rules }

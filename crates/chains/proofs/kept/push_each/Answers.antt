@@ -1,10 +1,16 @@
-use Rattle.std.proofs.Common.{arith, sym, ap, ◌∙◌, ◌-◌, ◌≡◌, ◌++◌, ◌∷◌, [], suc, drop, append_assoc}
+use Rattle.std.proofs.Common.{arith, refl, sym, ap, ◌∙◌, ◌-◌, ◌≡◌, ◌++◌, ◌∷◌, [], suc, drop, append_assoc}
 use Rattle.std.specs.Prelude.{reverse}
+use Rattle.std.proofs.lemmas.Bool.{true≢false}
 use Rattle.std.proofs.lemmas.List.{reverse-append}
-use Rattle.std.proofs.lemmas.Result.{err_from_is_err_and}
 use Rattle.chains.proofs.AgainLemmas.{there_at}
 use Rattle.chains.proofs.KeepLemmas.{drop_at}
 use Rattle.chains.proofs.kept.push_each.Goals as goal
+
+pub returns-then-not-branch : goal.returns-then-not-branch
+returns-then-not-branch c = λ view e.
+    let inv = c.legs.invariant view e in
+    let t = there_at view.legs (c.legs.i - 1) (omega (arith, c.legs-test.true, inv.0)) in
+    absurd (true≢false (sym (c.in_ok-push_leg.ensures view e t.0 t.1).0 ∙ c.if-not-branch.true))
 
 pub legs-preserved : goal.legs-preserved
 legs-preserved c = λ view e.
@@ -15,17 +21,11 @@ legs-preserved c = λ view e.
     let base = c.args.found.now.items in
     let rest = drop (suc i) view.legs in (
       omega (arith, inv.0),
-      c.in_ok-push_leg.ensures.pushed view e t.0 t.1
+      (c.in_ok-push_leg.ensures view e t.0 t.1).1
           ∙ ap (λ l. l ++ t.0 ∷ []) (inv.1 ∙ ap (λ j. base ++ reverse (drop j view.legs)) next)
           ∙ append_assoc base (reverse rest) (t.0 ∷ [])
           ∙ ap (λ l. base ++ l) (sym (reverse-append (t.0 ∷ []) rest) ∙ ap reverse (sym (drop_at view.legs i t.0 t.1))),
     )
 
-pub returns-in_err-push_leg-clause-caused : goal.returns-in_err-push_leg-clause-caused
-returns-in_err-push_leg-clause-caused c = λ old new.
-    let p = err_from_is_err_and c.from_residual.result c.from_residual.ensures.1 in
-    rw (p.1, p.2) (c.in_err-push_leg.ensures.caused old new)
-
-pub returns-clause-pushed : goal.returns-clause-pushed
-returns-clause-pushed c = λ view e.
-    (c.legs.invariant view e).1 ∙ ap (λ i. c.args.found.now.items ++ reverse (drop i view.legs)) (let z : c.legs.i ≡ 0 = omega (arith, c.legs-test.false) in z)
+pub returns : goal.returns
+returns c = λ view e. (refl, (c.legs.invariant view e).1 ∙ ap (λ i. c.args.found.now.items ++ reverse (drop i view.legs)) (let z : c.legs.i ≡ 0 = omega (arith, c.legs-test.false) in z))

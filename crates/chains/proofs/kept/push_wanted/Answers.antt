@@ -1,9 +1,9 @@
-use Rattle.std.proofs.Common.{arith, sym, subst, ◌∙◌, ◌≡◌, ◌-◌, suc, drop, take}
+use Rattle.std.proofs.Common.{arith, refl, sym, subst, ◌∙◌, ◌≡◌, ◌-◌, suc, drop, take}
 use Rattle.std.specs.Prelude.{filter}
-use Rattle.std.proofs.lemmas.Result.{err_from_is_err_and}
+use Rattle.std.proofs.lemmas.Bool.{true≢false}
 use Rattle.legs.specs.Legs.{IsLeg, is_live}
 use Rattle.tbnode.proofs.LawLemmas.{legs_are_lawful}
-use Rattle.chains.specs.Keeping.{PutsSome}
+use Rattle.chains.specs.Taking.{PutsSome}
 use Rattle.chains.proofs.AgainLemmas.{there_at}
 use Rattle.chains.proofs.LiveLemmas.{all_at}
 use Rattle.chains.proofs.SieveLemmas.{puts_by, puts_first, puts_on}
@@ -16,8 +16,14 @@ legs-init c = record {
   put = λ view e h. puts_first c.args.sieve.now c.args.period.now view.legs c.args.found.now.items c.args.ends.1;
 }
 
-pub legs-preserved-in-Continue-1 : goal.legs-preserved-in-Continue-1
-legs-preserved-in-Continue-1 c =
+pub returns-then-not-branch : goal.returns-then-not-branch
+returns-then-not-branch c = λ view e h.
+    let inv = c.legs.invariant in
+    let t = there_at view.legs (c.legs.i - 1) (omega (arith, c.legs-test.true, inv.to, h)) in
+    absurd (true≢false (sym (c.in_ok-push_leg.ensures view e t.0 t.1).0 ∙ c.if-not-branch.true))
+
+pub legs-preserved-else-not-branch : goal.legs-preserved-else-not-branch
+legs-preserved-else-not-branch c =
     let inv = c.legs.invariant in
     let i = c.legs.i - 1 in
     let period = c.args.period.now in
@@ -30,14 +36,9 @@ legs-preserved-in-Continue-1 c =
           let next : c.legs.i ≡ suc i = omega (arith, c.legs-test.true) in
           puts_on c.args.sieve.now period view.legs i c.args.ends.1 t.0 before c.legs.found.items c.push_leg.new.found.items (omega (arith, c.legs-test.true, inv.to)) t.1
           (sym (c.is_wanted.ensures view e t.0 t.1) ∙ c.if-is_wanted.true)
-          (c.in_ok-push_leg.ensures.pushed view e t.0 t.1)
+          (c.in_ok-push_leg.ensures view e t.0 t.1).1
           (subst (λ j. PutsSome c.args.sieve.now period (filter (is_live period) (drop j (take c.args.ends.1 view.legs))) before c.legs.found.items) next (inv.put view e h));
     }
-
-pub returns-in_err-push_leg-clause-caused : goal.returns-in_err-push_leg-clause-caused
-returns-in_err-push_leg-clause-caused c = λ old new.
-    let p = err_from_is_err_and c.from_residual.result c.from_residual.ensures.1 in
-    rw (p.1, p.2) (c.in_err-push_leg.ensures.caused old new)
 
 pub legs-preserved : goal.legs-preserved
 legs-preserved c =
@@ -57,8 +58,8 @@ legs-preserved c =
           (subst (λ j. PutsSome c.args.sieve.now period (filter (is_live period) (drop j (take c.args.ends.1 view.legs))) before c.legs.found.items) next (inv.put view e h));
     }
 
-pub returns-clause-pushed : goal.returns-clause-pushed
-returns-clause-pushed c = λ view e h.
+pub returns : goal.returns
+returns c = λ view e h.
     let inv = c.legs.invariant in
     let end : c.legs.i ≡ suc c.args.ends.0 = omega (arith, c.legs-test.false, inv.from) in
-    subst (λ j. PutsSome c.args.sieve.now c.args.period.now (filter (is_live c.args.period.now) (drop j (take c.args.ends.1 view.legs))) c.args.found.now.items c.legs.found.items) end (inv.put view e h)
+    (refl, subst (λ j. PutsSome c.args.sieve.now c.args.period.now (filter (is_live c.args.period.now) (drop j (take c.args.ends.1 view.legs))) c.args.found.now.items c.legs.found.items) end (inv.put view e h))

@@ -2,7 +2,7 @@ use Rattle.std.proofs.Common.{◌<◌, ◌≤◌, drop, take, length}
 use Rattle.std.specs.Prelude.{filter}
 use Rattle.legs.specs.Legs.{is_live}
 use Rattle.tbnode.specs.Form.{OfLeaf}
-use Rattle.chains.specs.Keeping.{PutsSome}
+use Rattle.chains.specs.Taking.{PutsSome}
 use Rattle.chains.proofs.kept.push_wanted.Given as goal
 
 abbrev pub decreases-legs : goal.decreases-legs

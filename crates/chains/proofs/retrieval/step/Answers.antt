@@ -1,11 +1,11 @@
 use Rattle.std.proofs.Common.{◌<◌, suc, length, slice_get, sym, ◌∙◌, ap, arith, subst}
 use Rattle.std.specs.Prelude.{IfErr}
 use Rattle.std.proofs.lemmas.Result.{IfOk-weaker}
-use Rattle.tbtree.specs.Faults.{IsNamed}
+use Rattle.tbtree.specs.Faults.{IfNamed}
 use Rattle.tbtree.specs.Nodes.{pages_of_cache}
-use Rattle.chains.specs.Links.{spot_of}
+use Rattle.chains.specs.Links.{spot_of, IsUnlinked}
 use Rattle.chains.specs.Spans.{pass_at}
-use Rattle.chains.specs.Taking.{TakesLeaf, TakesPage, fault_at}
+use Rattle.chains.specs.Taking.{TakesLeaf, TakesPage}
 use Rattle.chains.proofs.SpanLemmas.{ends_at, passes_over}
 use Rattle.chains.proofs.WalkLemmas.{known_at, steps_again, steps_end, steps_over}
 use Rattle.legs.proofs.GroupLemmas.{some_none}
@@ -31,7 +31,7 @@ returns-then-at-len-clause-taken g c = λ fa.
     let sieve = c.args.want.now.sieve in
     let inside : at.passed < length spans = omega (arith, c.if-at-len.true, c.len.ensures) in
     let leaf = (known_at nodes c.args.most c.args.place.now.legs c.args.place.now.first at.passed at.left spans at.link (c.requires.known fa) old sieve inside).1 in
-    IfOk-weaker c.take_again.result (TakesLeaf leaf.leaf at.link c.spot_of-spot.result period sieve old new) (TakesPage nodes at.link spot period sieve old new (record { old = spans; new = spans; passed = at.passed }))
+    IfOk-weaker c.take_again.result (TakesLeaf leaf.leaf at.link c.spot_of-spot.result period sieve old new) (TakesPage (nodes.at at.link.page) at.link spot period sieve old new (record { old = spans; new = spans; passed = at.passed }))
     (λ back t. steps_again nodes c.args.most c.args.place.now.legs c.args.place.now.first at.passed at.left spans at.link (c.requires.known fa) old sieve period new back inside
     (subst (λ s. TakesLeaf leaf.leaf at.link s period sieve old new back) c.spot_of-spot.ensures t))
     (c.take_again.ensures.taken fa leaf.leaf leaf.linked.is)
@@ -43,7 +43,7 @@ returns-then-at-len-clause-named g c = λ fa.
     let spans = c.args.spans.now.items in
     let inside : at.passed < length spans = omega (arith, c.if-at-len.true, c.len.ensures) in
     let leaf = (known_at nodes c.args.most c.args.place.now.legs c.args.place.now.first at.passed at.left spans at.link (c.requires.known fa) c.args.found.now.items c.args.want.now.sieve inside).1 in
-    subst (λ s. IfErr c.take_again.result (IsNamed nodes (fault_at nodes at.link s))) c.spot_of-spot.ensures (c.take_again.ensures.named fa leaf.leaf leaf.linked.is)
+    subst (λ s. IfErr c.take_again.result (IfNamed (IsUnlinked nodes at.link s))) c.spot_of-spot.ensures (c.take_again.ensures.named fa leaf.leaf leaf.linked.is)
 
 pub returns-in-End-clause-asked : goal.returns-in-End-clause-asked
 returns-in-End-clause-asked g c = λ none.

@@ -1,18 +1,19 @@
-use Rattle.std.proofs.Common.{ℕ, true, false, IsTrue, rules, ◌≡◌, ◌+◌, ◌-◌, suc, arith, ap, subst, sym, ◌∙◌, drop, Some, None}
+use Rattle.std.proofs.Common.{ℕ, true, false, IsTrue, rules, ◌≡◌, ◌+◌, ◌-◌, suc, arith, ap, subst, sym, ◌∙◌, drop, inl, inr, Some, None}
 use Rattle.std.proofs.lemmas.Result.{err_from_is_err_and}
-use Rattle.tbtree.specs.Nodes.{Pages, pages_of_cache}
 use Rattle.std.specs.Int.{div_ceil}
-use Rattle.chains.specs.Chains.{fault_from, last_link, walk, walked}
-use Rattle.chains.specs.Spans.{AreSpans, IsKnown}
-use Rattle.chains.proofs.SpanLemmas.{IsOnWay, all_known, past_read, spans_last}
-use Rattle.chains.proofs.WalkLemmas.{linked_by}
-use Rattle.chains.specs.Links.{fits, is_end, link_back, spot_of}
-use Rattle.chains.specs.Taking.{fault_at, TakesPage}
-use Rattle.chains.specs.declared.leaves.Link.{Link}
 use Rattle.legs.specs.Boxes.{BoxView}
 use Rattle.legs.specs.Legs.{LegView}
+use Rattle.tbtree.specs.Nodes.{Pages, pages_of_cache}
+use Rattle.tbtree.proofs.FaultLemmas.{named_then}
+use Rattle.chains.specs.Chains.{IsChain, IsOffChain, IsOffPlaceChain, last_link, walk, walked}
+use Rattle.chains.specs.Links.{FitsLeaf, IsLinked, IsUnlinked, is_end, link_back, spot_of}
+use Rattle.chains.specs.Spans.{AreSpans, IsKnown}
+use Rattle.chains.specs.Taking.{TakesLeaf, TakesPage}
+use Rattle.chains.specs.declared.leaves.Link.{Link}
+use Rattle.chains.specs.declared.leaves.Spot.{Spot}
 use Rattle.chains.proofs.ReadLemmas.{reads_refused, reads_trans}
-use Rattle.chains.proofs.StepLemmas.{IsFound, found_all, same_at, goes_on, ends, found_on, found_end, asked_on, asked_end, fault_on, fault_end, fault_stops, fault_before, named_after, one_more}
+use Rattle.chains.proofs.SpanLemmas.{IsOnWay, all_known, past_read, spans_last}
+use Rattle.chains.proofs.StepLemmas.{IsFound, found_all, same_at, goes_on, ends, true_false, found_on, found_end, asked_on, asked_end, unlinked_before, one_more}
 use Rattle.chains.proofs.retrieval.walk_back.Given as given
 use Rattle.chains.proofs.retrieval.walk_back.Goals.{In_ok-back}
 use Rattle.chains.proofs.retrieval.walk_back.Goals as goal
@@ -24,12 +25,15 @@ module _ (g : given.Over) (c : In_ok-back g) where
   abbrev rest : ℕ
   rest = c.leaves.left - 1
 
+  abbrev spot : Spot
+  spot = spot_of c.args.shape.now.leaf c.args.place.now.legs c.args.place.now.first rest
+
   less : c.leaves.left ≡ suc rest
   less = omega (arith, c.leaves-test.true)
 
   module _ (fa : IsTrue c.args.cache.now.store.is_faithful) where
     -- the leaf is taken of the pages as they were
-    taken : TakesPage nodes c.leaves.link (spot_of c.args.shape.now.leaf c.args.place.now.legs c.args.place.now.first rest) c.args.want.now.period c.args.want.now.sieve c.leaves.found.items c.step.new.found.items
+    taken : TakesPage (nodes.at c.leaves.link.page) c.leaves.link spot c.args.want.now.period c.args.want.now.sieve c.leaves.found.items c.step.new.found.items
         (record { old = c.leaves.spans.items; new = c.step.new.spans.items; passed = c.leaves.passed }) c.in_ok-back.field-0
     taken =
         let t = c.in_ok-back.ensures.taken (c.leaves.invariant.reads.store.faithful ∙ fa) in
@@ -38,17 +42,24 @@ module _ (g : given.Over) (c : In_ok-back g) where
           leaf = t.leaf;
           above = t.above;
           is = sym (same_at c.args.cache.now c.leaves.cache c.leaves.invariant.reads fa c.leaves.link.page) ∙ t.is;
-          fit = ap (λ m. fits t.leaf c.leaves.link (spot_of m c.args.place.now.legs c.args.place.now.first rest)) (sym most) ∙ t.fit;
-          takes = t.takes;
+          takes = subst (λ m. TakesLeaf t.leaf c.leaves.link (spot_of m c.args.place.now.legs c.args.place.now.first rest) c.args.want.now.period c.args.want.now.sieve c.leaves.found.items c.step.new.found.items c.in_ok-back.field-0) most t.takes;
           learns = t.learns;
         }
 
+    linked : IsLinked nodes c.leaves.link spot taken.leaf
+    linked = record { above = taken.above; is = taken.is; fits = taken.takes.fits }
+
+    -- where the leaf is the last one that is read, or the chain goes on before it, it is a chain
+    chain : (is_end c.args.want.now.period taken.leaf.legs ≡ false → IsChain nodes c.args.want.now.period c.args.shape.now.leaf c.args.place.now.legs c.args.place.now.first rest (link_back c.leaves.link.page taken.leaf))
+        → IsChain nodes c.args.want.now.period c.args.shape.now.leaf c.args.place.now.legs c.args.place.now.first c.leaves.left c.leaves.link
+    chain h = subst (λ n. IsChain nodes c.args.want.now.period c.args.shape.now.leaf c.args.place.now.legs c.args.place.now.first n c.leaves.link) (sym less) (taken.leaf, linked, h)
+
     -- the way goes on to the leaf before it, or ends with it
     on : (back : Link) → c.in_ok-back.field-0 ≡ Some back → (is_end c.args.want.now.period taken.leaf.legs ≡ false) × (back ≡ link_back c.leaves.link.page taken.leaf)
-    on back is = goes_on (is_end c.args.want.now.period taken.leaf.legs) back (link_back c.leaves.link.page taken.leaf) (sym is ∙ taken.takes.link)
+    on back is = goes_on (is_end c.args.want.now.period taken.leaf.legs) back (link_back c.leaves.link.page taken.leaf) (sym is ∙ taken.takes.link_is)
 
     last : c.in_ok-back.field-0 ≡ None → is_end c.args.want.now.period taken.leaf.legs ≡ true
-    last is = ends (is_end c.args.want.now.period taken.leaf.legs) (link_back c.leaves.link.page taken.leaf) (sym is ∙ taken.takes.link)
+    last is = ends (is_end c.args.want.now.period taken.leaf.legs) (link_back c.leaves.link.page taken.leaf) (sym is ∙ taken.takes.link_is)
 
     -- and it is on the way that is known
     past : IsOnWay nodes c.args.shape.now.leaf c.args.place.now.legs c.args.place.now.first (div_ceil c.args.place.now.legs c.args.shape.now.leaf) (last_link c.args.feature c.args.place.now) (suc c.leaves.passed) c.step.new.spans.items rest (link_back c.leaves.link.page taken.leaf)
@@ -57,7 +68,7 @@ module _ (g : given.Over) (c : In_ok-back g) where
         let first = c.args.place.now.first in
         let leaf = c.args.shape.now.leaf in
         past_read nodes leaf legs first (div_ceil legs leaf) (last_link c.args.feature c.args.place.now) c.leaves.passed c.leaves.spans.items c.step.new.spans.items c.leaves.left rest c.leaves.link taken.leaf (c.leaves.invariant.way fa) less
-        (linked_by nodes c.leaves.link (spot_of leaf legs first rest) taken.leaf taken.above taken.is taken.fit) taken.learns
+        linked taken.learns
 
 pub leaves-preserved : goal.leaves-preserved
 leaves-preserved g c =
@@ -83,11 +94,13 @@ leaves-preserved g c =
           let whole = walk nodes period blocks place.last in
           subst (λ b. IsFound nodes period c.args.want.now.sieve rest b.page whole c.step.new.found.items) (sym s.1)
           (found_on nodes period link t.leaf t.is rest n less c.args.want.now.sieve c.leaves.found.items c.step.new.found.items whole s.0 t.takes.legs (inv.found fa));
-      fault = λ fa.
-          let t = taken g at fa in
+      chain = λ fa h.
           let s = on g at fa c.in-Some.back c.in-Some.is in
-          ap (λ b. fault_from nodes period shape.leaf place.legs place.first rest b) s.1
-          ∙ sym (fault_on nodes period link t.leaf t.is rest n less shape.leaf place.legs place.first t.above t.fit s.0) ∙ inv.fault fa;
+          inv.chain fa (chain g at fa (λ _. subst (λ b. IsChain nodes period shape.leaf place.legs place.first rest b) s.1 h));
+      off = λ fa page h.
+          let s = on g at fa c.in-Some.back c.in-Some.is in
+          inv.off fa page (subst (λ n. IsOffChain nodes period shape.leaf place.legs place.first n link page) (sym less)
+          (inr ((taken g at fa).leaf, linked g at fa, s.0, subst (λ b. IsOffChain nodes period shape.leaf place.legs place.first rest b page) s.1 h)));
       asked = λ fa none l.
           let t = taken g at fa in
           let s = on g at fa c.in-Some.back c.in-Some.is in
@@ -117,11 +130,11 @@ returns-in_err-back-clause-named g c = λ fa.
     let inv = c.leaves.invariant in
     let less : c.leaves.left ≡ suc rest = omega (arith, c.leaves-test.true) in
     let most : c.from-most.result ≡ shape.leaf = search rules in
-    let spot : spot_of c.from-most.result place.legs place.first rest ≡ spot_of shape.leaf place.legs place.first rest = ap (λ m. spot_of m place.legs place.first rest) most in
-    let same = ap (λ s. fault_at (pages_of_cache old) link s) (sym spot) ∙ fault_before old c.leaves.cache link (spot_of c.from-most.result place.legs place.first rest) inv.reads fa in
-    rw (p.1, p.2) (named_after old c.leaves.cache _ _ _ inv.reads fa
-    (λ q s. sym (inv.fault fa) ∙ fault_stops (pages_of_cache old) c.args.want.now.period shape.leaf place.legs place.first rest c.leaves.left link q less (same ∙ s))
-    (c.in_err-back.ensures.named (inv.reads.store.faithful ∙ fa)))
+    let nodes = pages_of_cache old in
+    rw (p.1, p.2) (named_then _ (IsOffPlaceChain nodes c.args.want.now.period shape c.args.feature place)
+    (λ page u. inv.off fa page (subst (λ n. IsOffChain nodes c.args.want.now.period shape.leaf place.legs place.first n link page) (sym less)
+    (inl (subst (λ m. IsUnlinked nodes link (spot_of m place.legs place.first rest) page) most (unlinked_before old c.leaves.cache link (spot_of c.from-most.result place.legs place.first rest) page inv.reads fa u)))))
+    _ (c.in_err-back.ensures.named (inv.reads.store.faithful ∙ fa)))
 
 pub returns-in_default-clause-found : goal.returns-in_default-clause-found
 returns-in_default-clause-found g c = λ fa.
@@ -129,13 +142,15 @@ returns-in_default-clause-found g c = λ fa.
     let t = taken g at fa in
     found_end (pages_of_cache c.args.cache.now) c.args.want.now.period c.leaves.link t.leaf t.is (c.leaves.left - 1) c.leaves.left (less g at) c.args.want.now.sieve c.leaves.found.items c.step.new.found.items _ (last g at fa c.in_default.is) t.takes.legs (c.leaves.invariant.found fa)
 
-pub returns-in_default-clause-whole : goal.returns-in_default-clause-whole
-returns-in_default-clause-whole g c = λ fa.
-    let at = (goal.at.returns-in_default-clause-whole g c).In_ok-back in
-    let place = c.args.place.now in
-    let t = taken g at fa in
-    sym (c.leaves.invariant.fault fa)
-    ∙ fault_end (pages_of_cache c.args.cache.now) c.args.want.now.period c.leaves.link t.leaf t.is (c.leaves.left - 1) c.leaves.left (less g at) c.args.shape.now.leaf place.legs place.first t.above t.fit (last g at fa c.in_default.is)
+pub returns-in_default-clause-chain : goal.returns-in_default-clause-chain
+returns-in_default-clause-chain g c = λ fa.
+    let at = (goal.at.returns-in_default-clause-chain g c).In_ok-back in
+    c.leaves.invariant.chain fa (chain g at fa (λ z. absurd (true_false (sym (last g at fa c.in_default.is) ∙ z))))
+
+pub returns-clause-chain : goal.returns-clause-chain
+returns-clause-chain g c = λ fa.
+    let end : 0 ≡ c.leaves.left = omega (arith, c.leaves-test.false) in
+    c.leaves.invariant.chain fa (subst (λ n. IsChain (pages_of_cache c.args.cache.now) c.args.want.now.period c.args.shape.now.leaf c.args.place.now.legs c.args.place.now.first n c.leaves.link) end tt)
 
 pub returns-in_default-clause-asked : goal.returns-in_default-clause-asked
 returns-in_default-clause-asked g c = λ fa none below.

@@ -6,12 +6,11 @@ use Rattle.legs.specs.Legs.{LegView}
 use Rattle.legs.specs.declared.index.IndexFault.{IndexFault}
 use Rattle.legs.specs.declared.index.IndexFault.TheVariants as index
 use Rattle.boxsearch.specs.Index.{IndexView, content, words}
-use Rattle.boxsearch.specs.Taking.{AreTurns}
 use Rattle.boxsearch.specs.Turns.{IsTurnFault}
 use Rattle.boxsearch.specs.declared.turns.Turn.{Turn}
 use Rattle.boxsearch.proofs.AllLemmas.{all_added, all_refusals}
 use Rattle.boxsearch.proofs.TurnSteps.{none_skipped}
-use Rattle.boxsearch.proofs.TurnOrder.{AreNumbered, are_numbered, are_turns, turns_within}
+use Rattle.boxsearch.proofs.TurnOrder.{AreTurns, AreNumbered, are_numbered, are_turns, turns_within}
 use Rattle.boxsearch.proofs.listed.TreeIndexLegIndex.add_all.Given as given
 use Rattle.boxsearch.proofs.listed.TreeIndexLegIndex.add_all.Goals as goal
 

@@ -4,6 +4,7 @@ use Rattle.std.specs.Prelude.{MatchResult}
 use Rattle.legs.specs.Asking.{Denies}
 use Rattle.legs.specs.Questions.{OfFeature}
 use Rattle.legs.specs.Index.{legs_of}
+use Rattle.legs.specs.declared.sieve.Sieve.TheVariants as sieve
 use Rattle.chains.proofs.SpanLemmas.{known_lasts}
 use Rattle.boxsearch.specs.Index.{words, tells}
 use Rattle.boxsearch.proofs.AskedLemmas.{asked_found, asked_known, asked_knows, asked_leaves, asked_place, asked_refusals, asked_rises}
@@ -41,7 +42,7 @@ pub returns-clause-told : goal.returns-clause-told
 returns-clause-told g c =
     let f = c.args.feature in
     of_same (λ i r. MatchResult r (λ legs. tells i (OfFeature f None) legs.items) (λ fault. Denies words i (OfFeature f None) fault)) c.self.view_is c.answer.ensures
-    (track_told (seen_of c.self.view_is) c.trajectory.new.cache f None c.in-Some.place (asked_place c.self.view_is f c.place.ensures c.in-Some.is) (λ legs. legs.items) c.trajectory.result c.trajectory.ensures.chain c.trajectory.ensures.legs c.trajectory.ensures.named c.trajectory.ensures.reads.caused)
+    (track_told (seen_of c.self.view_is) c.trajectory.new.cache f sieve.All c.in-Some.place (asked_place c.self.view_is f c.place.ensures c.in-Some.is) c.trajectory.new.spans.items (λ legs. legs.items) c.trajectory.result c.trajectory.ensures)
 
 pub trajectory-requires : goal.trajectory-requires
 trajectory-requires g c =

@@ -20,7 +20,7 @@ returns-in_default-clause-found g c = λ s.
     (c.new.ensures.items ∙ sym (ap (filter (is_live c.args.period.now)) (absent c.args.self.now c.args.feature s (sym c.place.ensures ∙ c.in_default.is))))
 
 pub returns-in_default-clause-told : goal.returns-in_default-clause-told
-returns-in_default-clause-told g c = none_sieved c.args.self.now c.args.self.now.cache c.args.feature c.args.period.now c.args.sieve.now c.new.result.items (sym c.place.ensures ∙ c.in_default.is) c.new.ensures.items
+returns-in_default-clause-told g c = none_sieved c.args.self.now c.args.feature c.args.period.now c.args.sieve.now c.new.result.items (sym c.place.ensures ∙ c.in_default.is) c.new.ensures.items
 
 pub trajectory_in-requires : goal.trajectory_in-requires
 trajectory_in-requires g c =
@@ -53,4 +53,4 @@ returns-clause-told g c =
     let period = c.args.period.now in
     let sieve = c.args.sieve.now in
     of_same (λ i r. MatchResult r (λ legs. TellsSieved words i f period sieve legs.items) (λ fault. Denies words i (OfFeature f (Some period)) fault)) c.self.view_is c.answer.ensures
-    (track_sieved (seen_of c.self.view_is) c.trajectory_in.new.cache f period sieve c.in-Some.place (asked_place c.self.view_is f c.place.ensures c.in-Some.is) (λ legs. legs.items) c.trajectory_in.result c.trajectory_in.ensures.chain c.trajectory_in.ensures.legs c.trajectory_in.ensures.named c.trajectory_in.ensures.reads.caused)
+    (track_sieved (seen_of c.self.view_is) c.trajectory_in.new.cache f sieve c.in-Some.place (asked_place c.self.view_is f c.place.ensures c.in-Some.is) c.trajectory_in.new.spans.items (λ legs. legs.items) period c.trajectory_in.result c.trajectory_in.ensures)
