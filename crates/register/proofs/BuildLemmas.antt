@@ -16,7 +16,7 @@ use Rattle.legs.specs.Tracks.{TracksView}
 use Rattle.legs.specs.declared.head.BookHead.{BookHead}
 use Rattle.legs.specs.declared.tracks.Track.{Track}
 use Rattle.tbtree.specs.declared.tree.Place.{Place}
-use Rattle.register.specs.Building.{capped, with_track, AddsFeature, AreLawful, IsKnown, IsOf}
+use Rattle.register.specs.Restoring.{capped, with_track, AddsFeature, AreLawful, IsKnown, IsOf}
 use Rattle.register.specs.Lasting.{tracks_of, IsLawfulFeature}
 use Rattle.register.specs.Saved.{dimensions_of, head_of, CatalogueView}
 use Rattle.timebase.specs.Instant.{IsMoment}

@@ -9,7 +9,7 @@ use Rattle.mfcsv.specs.declared.Column.{Column}
 use Rattle.tbnode.specs.Parts.{signed_bytes}
 use Rattle.std.proofs.lemmas.Int.{to_z-of_z}
 use Rattle.std.proofs.Math.Facts.{Fits-of_z}
-use Rattle.register.specs.Text.{short_text, column_text, columns_text, contents_text, catalogue_text, feature_text, features_bytes, head_text, kept_text, lists_text, row_text, rows_text, space_text, AreContents, AreLists, HasColumns, HasFeatures, HasRows, IsColumn, IsFeature, IsHead, FitsKept, IsNumber, IsRow, IsShortText, IsSigned, IsSpace, IsWhole}
+use Rattle.register.specs.Text.{short_text, column_text, columns_text, contents_text, catalogue_text, feature_text, features_bytes, head_text, kept_text, lists_text, row_text, rows_text, space_text, AreContents, AreLists, AreCounted, IsColumn, IsFeature, IsHead, FitsKept, IsNumber, IsRow, IsShortText, IsSigned, IsSpace, IsWhole}
 use Rattle.register.specs.declared.contents.Lists.{Lists}
 use Rattle.register.specs.declared.contents.Space.{Space}
 use Rattle.register.specs.declared.contents.CatalogueHead.{CatalogueHead}
@@ -116,15 +116,15 @@ module _ {V : Type 0} (text : V → List ℕ) (ok : V → Type 0) (free : IsFree
       let x = numbers_free n bits fits (length xs) (length ys) (flat_map text xs ++ s) (flat_map text ys ++ t) a b e' in
       list_free text ok free xs ys s t h k x.0 x.1
 
-pub columns_free : IsFree columns_text HasColumns
+pub columns_free : IsFree columns_text (AreCounted IsColumn 64)
 columns_free a b s t h k e = counted_free column_text IsColumn column_free 8 64 refl a b s t h.each k.each h.few k.few e
 
-pub features_free : IsFree features_bytes HasFeatures
+pub features_free : IsFree features_bytes (AreCounted IsFeature 32)
 features_free a b s t h k e = counted_free feature_text IsFeature feature_free 4 32 refl a b s t h.each k.each h.few k.few e
 
 pub space_free : IsFree space_text IsSpace
 space_free a b s t h k e =
-    pair_free short_text columns_text IsShortText HasColumns short_free columns_free (λ (v : Space). v.crs) (λ (v : Space). v.columns)
+    pair_free short_text columns_text IsShortText (AreCounted IsColumn 64) short_free columns_free (λ (v : Space). v.crs) (λ (v : Space). v.columns)
     (λ v w p q i. record { crs = p i; columns = q i }) a b s t (h.crs, h.columns) (k.crs, k.columns) e
 
 pub head_free : IsFree head_text IsHead
@@ -132,12 +132,12 @@ head_free a b s t h k e =
     pair_free signed_bytes space_text IsSigned IsSpace signed_free space_free (λ (v : CatalogueHead). v.base) (λ (v : CatalogueHead). v.space)
     (λ v w p q i. record { base = p i; space = q i }) a b s t (h.base, h.space) (k.base, k.space) e
 
-pub rows_free : (columns : ℕ) → IsFree rows_text (HasRows columns)
+pub rows_free : (columns : ℕ) → IsFree rows_text (AreCounted (IsRow columns) 32)
 rows_free columns a b s t h k e = counted_free row_text (IsRow columns) (row_free columns) 4 32 refl a b s t h.each k.each h.few k.few e
 
 pub lists_free : (columns : ℕ) → IsFree lists_text (AreLists columns)
 lists_free columns a b s t h k e =
-    pair_free features_bytes rows_text HasFeatures (HasRows columns) features_free (rows_free columns) (λ (v : Lists). v.features) (λ (v : Lists). v.rows)
+    pair_free features_bytes rows_text (AreCounted IsFeature 32) (AreCounted (IsRow columns) 32) features_free (rows_free columns) (λ (v : Lists). v.features) (λ (v : Lists). v.rows)
     (λ v w p q i. record { features = p i; rows = q i }) a b s t (h.features, h.rows) (k.features, k.rows) e
 
 pub contents_free : IsFree contents_text AreContents

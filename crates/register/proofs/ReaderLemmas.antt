@@ -1,5 +1,5 @@
 -- The text that is left in a chain of pages.
-use Rattle.std.proofs.Common.{ℕ, suc, ◌≡◌, ◌-◌, ◌<◌, ◌≤◌, ◌==◌, min, Bool, true, false, cond, List, [], ◌++◌, drop, length, refl, sym, ap, ◌∙◌, arith, subst, ⊎_elim, IsTrue, Option, Some, None, option_map, option_and_then, Result, Ok, Err, OnOk}
+use Rattle.std.proofs.Common.{ℕ, suc, ◌≡◌, ◌-◌, ◌<◌, ◌≤◌, ◌==◌, min, Bool, true, false, cond, List, [], ◌++◌, drop, length, refl, sym, ap, ◌∙◌, arith, subst, IsTrue, Option, Some, None, option_map, option_and_then, Result, Ok, Err, OnOk}
 use Rattle.std.specs.Prelude.{IfErr, IfOk, IsErrAnd}
 use Rattle.std.specs.Int.{div_ceil}
 use Rattle.std.proofs.lemmas.Grind.{div_ceil_times}
@@ -12,9 +12,9 @@ use Rattle.pagecache.specs.declared.fault.CacheFault.TheVariants as cache
 use Rattle.chains.specs.Reads.{OnlyReads}
 pub use Rattle.chains.proofs.ReadLemmas.{reads_trans}
 use Rattle.register.specs.Chain.{most_used, is_part, next_in, text_in, chain_text, text_at}
-use Rattle.register.specs.ChainReader.{ReaderView, fault_of, rest_of, IsBroken, IsPageFault, IsReadFault, IsTextFault, ReadsInto, ReadsValue, Shows, TakesPart}
+use Rattle.register.specs.ChainReader.{ReaderView, fault_of, rest_of, IsBroken, IsPageFault, IsReadFault, IsTextFault, Makes, ReadsInto, ReadsPages, ReadsValue, Shows, TakesPart}
 use Rattle.register.specs.declared.fault.CatalogueFault.{CatalogueFault}
-use Rattle.register.specs.declared.fault.CatalogueFault.TheVariants.{Memory, Store, StoreFull, Damaged, Unfinished, Version, Malformed}
+use Rattle.register.specs.declared.fault.CatalogueFault.TheVariants.{Memory, Store, Damaged, Malformed}
 
 pub some_none : {X : Type 0} (x : X) → Some x ≡ None → ⊥
 some_none x e = absurd cc
@@ -44,26 +44,24 @@ module _ {X Y : Type 0} where
   map_same f g (Some x) h = ap Some (h x)
 
 module _ (at : ℕ → Option Payload) where
+  abbrev taken_by : ℕ → Payload → Option (List ℕ)
+  taken_by left p = cond (is_part (min most_used left) p) (option_map (λ t. text_in (min most_used left) p ++ t) (text_at at (left - most_used) (next_in p))) None
+
+  text_next : (left next : ℕ) → 0 < left → text_at at left next ≡ option_and_then (taken_by left) (at next)
+  unfolding text_at
+  text_next left next h = ap (λ n. chain_text at n left next) (pages_down left h)
+
   text_step : (left next : ℕ) (payload : Payload) → 0 < left → at next ≡ Some payload → is_part (min most_used left) payload ≡ true
       → text_at at left next ≡ option_map (λ t. text_in (min most_used left) payload ++ t) (text_at at (left - most_used) (next_in payload))
-  unfolding text_at
   text_step left next payload h here form =
-      ap (λ n. chain_text at n left next) (pages_down left h)
-      ∙ ap (λ o. option_and_then (λ p. cond (is_part (min most_used left) p) (option_map (λ t. text_in (min most_used left) p ++ t) (chain_text at (div_ceil (left - most_used) most_used) (left - most_used) (next_in p))) None) o) here
-      ∙ ap (λ b. cond b (option_map (λ t. text_in (min most_used left) payload ++ t) (chain_text at (div_ceil (left - most_used) most_used) (left - most_used) (next_in payload))) None) form
+      text_next left next h ∙ ap (option_and_then (taken_by left)) here ∙ ap (λ b. cond b (option_map (λ t. text_in (min most_used left) payload ++ t) (text_at at (left - most_used) (next_in payload))) None) form
 
   text_broken : (left next : ℕ) (payload : Payload) → 0 < left → at next ≡ Some payload → is_part (min most_used left) payload ≡ false → text_at at left next ≡ None
-  unfolding text_at
   text_broken left next payload h here form =
-      ap (λ n. chain_text at n left next) (pages_down left h)
-      ∙ ap (λ o. option_and_then (λ p. cond (is_part (min most_used left) p) (option_map (λ t. text_in (min most_used left) p ++ t) (chain_text at (div_ceil (left - most_used) most_used) (left - most_used) (next_in p))) None) o) here
-      ∙ ap (λ b. cond b (option_map (λ t. text_in (min most_used left) payload ++ t) (chain_text at (div_ceil (left - most_used) most_used) (left - most_used) (next_in payload))) None) form
+      text_next left next h ∙ ap (option_and_then (taken_by left)) here ∙ ap (λ b. cond b (option_map (λ t. text_in (min most_used left) payload ++ t) (text_at at (left - most_used) (next_in payload))) None) form
 
   text_none : (left next : ℕ) → 0 < left → at next ≡ None → text_at at left next ≡ None
-  unfolding text_at
-  text_none left next h here =
-      ap (λ n. chain_text at n left next) (pages_down left h)
-      ∙ ap (λ o. option_and_then (λ p. cond (is_part (min most_used left) p) (option_map (λ t. text_in (min most_used left) p ++ t) (chain_text at (div_ceil (left - most_used) most_used) (left - most_used) (next_in p))) None) o) here
+  text_none left next h here = text_next left next h ∙ ap (option_and_then (taken_by left)) here
 
   -- at the end of the text no page more is named
   pub text_end : (next : ℕ) → text_at at 0 next ≡ cond (next == 0) (Some []) None
@@ -138,28 +136,20 @@ the_error P r e is h = subst (λ r. IfErr r P) is h
 
 -- a page that is broken has no payload, or one of another form
 pub page_broken : (payload : Payload) (old : ReaderView) (e : CatalogueFault) → IsPageFault payload old e → IsBroken e → is_part (min most_used old.left) payload ≡ false
-page_broken payload old Memory h b = absurd b
-page_broken payload old Store h b = absurd b
-page_broken payload old StoreFull h b = absurd b
 page_broken payload old (Damaged n) h b = absurd h
-page_broken payload old Unfinished h b = absurd b
-page_broken payload old Version h b = absurd b
 page_broken payload old Malformed h b = h
+page_broken payload old _ h b = absurd b
 
 -- a page that is not read for a fault of its own has no payload
 pub refused_none : (at : ℕ → Option Payload) (n : ℕ) (a b : Cache) (e : CacheFault) → IsRefused n e a b → IsBroken (fault_of e) → Shows a at → at n ≡ None
 refused_none at n a b cache.NoPage h k shows = shows.same n ∙ h.1 shows.faithful
-refused_none at n a b cache.Store h k shows = absurd k
 refused_none at n a b (cache.Damaged m) h k shows = shows.same n ∙ h.1 shows.faithful
-refused_none at n a b cache.StoreFull h k shows = absurd k
-refused_none at n a b cache.Memory h k shows = absurd k
+refused_none at n a b _ h k shows = absurd k
 
 pub refused_read : (n : ℕ) (a b : Cache) (e : CacheFault) → IsRefused n e a b → IsReadFault a b (fault_of e)
 refused_read n a b cache.NoPage h = tt
-refused_read n a b cache.Store h = h
 refused_read n a b (cache.Damaged m) h = tt
-refused_read n a b cache.StoreFull h = h
-refused_read n a b cache.Memory h = tt
+refused_read n a b _ h = h
 
 -- the next page is read
 module _ (a : Cache) (old : ReaderView) (n : ℕ) (named : n ≡ old.next) (some : 0 < old.left) (at : ℕ → Option Payload) (shows : Shows a at) where
@@ -219,54 +209,39 @@ if_err_and P r e is h = on_err_and (λ r. IfErr r P) r e is h
 
 -- a fault of a later reading
 pub later_fault : (a b c : Cache) (e : CatalogueFault) → OnlyReads a b → IsReadFault b c e → IsReadFault a c e
-later_fault a b c Memory reads h = tt
 later_fault a b c Store reads h = let faults = reads.store.faults in omega (arith, faults, h)
-later_fault a b c StoreFull reads h = h
-later_fault a b c (Damaged n) reads h = tt
-later_fault a b c Unfinished reads h = h
-later_fault a b c Version reads h = h
-later_fault a b c Malformed reads h = tt
+later_fault a b c _ reads h = h
 
 -- one of bytes that are read
 pub text_read : (a b : Cache) (e : CatalogueFault) → IsTextFault e → IsReadFault a b e
 text_read a b Memory h = tt
-text_read a b Store h = absurd h
-text_read a b StoreFull h = absurd h
-text_read a b (Damaged n) h = absurd h
-text_read a b Unfinished h = absurd h
-text_read a b Version h = absurd h
 text_read a b Malformed h = tt
+text_read a b _ h = absurd h
 
 -- and one of a page that is taken in
 pub page_read : (payload : Payload) (a b : Cache) (r : ReaderView) (e : CatalogueFault) → IsPageFault payload r e → IsReadFault a b e
 page_read payload a b r Memory h = tt
-page_read payload a b r Store h = absurd h
-page_read payload a b r StoreFull h = absurd h
-page_read payload a b r (Damaged n) h = absurd h
-page_read payload a b r Unfinished h = absurd h
-page_read payload a b r Version h = absurd h
 page_read payload a b r Malformed h = tt
+page_read payload a b r _ h = absurd h
 
 -- a refusal that is passed on
 pub refused : {V : Type 0} {text : V → List ℕ} {ok : V → Type 0} {a b : Cache} {s t : ReaderView} {r : Result V CatalogueFault} {e : CatalogueFault} → IsErrAnd r (λ f. f ≡ e) → ReadsValue a b s t text ok (Err e) → ReadsValue a b s t text ok r
 refused {text = text} {ok = ok} {a = a} {b = b} {s = s} {t = t} {r = r} {e = e} is p = on_err_and (λ r. ReadsValue a b s t text ok r) r e is p
 
--- what is refused is not there, wherever it was to be put
-module _ {V T : Type 0} {text : V → List ℕ} {ok is_put : V → Type 0} {a b : Cache} {s t : ReaderView} {e : CatalogueFault} where
-  pub from_into : ReadsInto {T = T} a b s t text ok is_put (Err e) → ReadsValue a b s t text ok (Err e)
-  from_into p = record { takes = λ at shows. record { taken = tt; lacks = (p.takes at shows).lacks }; reads = p.reads; caused = p.caused }
-
-  pub into_refused : {r : Result T CatalogueFault} → IsErrAnd r (λ f. f ≡ e) → ReadsValue a b s t text ok (Err e) → ReadsInto a b s t text ok is_put r
-  into_refused {r} is p = on_err_and (λ r. ReadsInto a b s t text ok is_put r) r e is (record {
-    takes = λ at shows. record { taken = tt; lacks = (p.takes at shows).lacks };
-    reads = p.reads;
-    caused = p.caused;
-  })
+-- a list that is refused is not put anywhere
+pub into_refused : {X : Type 0} {text : List X → List ℕ} {ok is_put : List X → Type 0} {a b : Cache} {s t : ReaderView} {e : CatalogueFault} {r : Result (Unit {0}) CatalogueFault}
+    → IsErrAnd r (λ f. f ≡ e) → ReadsValue a b s t text ok (Err e) → ReadsInto a b s t text ok is_put r
+into_refused {text = text} {ok = ok} {is_put = is_put} {a = a} {b = b} {s = s} {t = t} {e = e} {r = r} is p = on_err_and (λ r. ReadsInto a b s t text ok is_put r) r e is (record { value = []; put = tt; read = p })
 
 -- what is read is put somewhere
-pub into_read : {V T : Type 0} {text : V → List ℕ} {ok is_put : V → Type 0} {a b : Cache} {s t : ReaderView} {v : V} {y : T} → is_put v → ReadsValue a b s t text ok (Ok v) → ReadsInto a b s t text ok is_put (Ok y)
-into_read {v = v} put p = record {
-  takes = λ at shows. let one = (p.takes at shows).taken in record { taken = (v, put, one.0, one.1); lacks = tt };
-  reads = p.reads;
-  caused = tt;
-}
+pub into_read : {V : Type 0} {text : V → List ℕ} {ok is_put : V → Type 0} {a b : Cache} {s t : ReaderView} {v : V} → is_put v → ReadsValue a b s t text ok (Ok v) → ReadsInto a b s t text ok is_put (Ok tt)
+into_read {v = v} put p = record { value = v; put = put; read = p }
+
+-- nothing is made of what is refused
+pub makes_refused : {T : Type 0} {is : T → Type 0} {none : Type 0} {r : Result T CatalogueFault} (e : CatalogueFault) → IsErrAnd r (λ f. f ≡ e) → (IsBroken e → none) → IsTextFault e → Makes is none r
+makes_refused {is = is} {none = none} {r = r} e same broken fault = on_err_and (λ r. Makes is none r) r e same (record { is = tt; broken = broken; fault = fault })
+
+-- nothing is read of pages that are refused
+pub pages_refused : {T : Type 0} {a b : Cache} {is : (ℕ → Option Payload) → T → Type 0} {none : (ℕ → Option Payload) → Type 0} {r : Result T CatalogueFault} (e : CatalogueFault)
+    → IsErrAnd r (λ f. f ≡ e) → ((at : ℕ → Option Payload) → Shows a at → IsBroken e → none at) → OnlyReads a b → IsReadFault a b e → ReadsPages a b is none r
+pages_refused {a = a} {b = b} {is = is} {none = none} {r = r} e same broken reads caused = on_err_and (λ r. ReadsPages a b is none r) r e same (record { is = tt; broken = broken; reads = reads; caused = caused })

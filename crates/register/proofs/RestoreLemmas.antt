@@ -1,25 +1,28 @@
 -- What page 0 and the text say is told apart, and makes a catalogue that is kept.
-use Rattle.std.proofs.Common.{ℕ, ◌≡◌, ◌++◌, [], List, if◌then◌else◌, refl, sym, ap, ◌∙◌, arith, subst, Option, Some}
+use Rattle.std.proofs.Common.{ℕ, ◌≡◌, ◌++◌, [], nat_lt, true, cond, List, refl, sym, ap, ◌∙◌, arith, subst, IsTrue, Option, Some, None, Result, Ok, Err}
+use Rattle.std.specs.Prelude.{IsErrAnd}
+use Rattle.std.proofs.lemmas.Bool.Decides.{nat_tests}
 use Rattle.byteorder.specs.Endian.{big_bytes}
 use Rattle.legs.specs.Limits.{IsLimits}
 use Rattle.pages.specs.declared.payload.Payload.{Payload}
 use Rattle.tbtree.specs.Shape.{IsShape}
 use Rattle.tbtree.specs.declared.tree.Place.{Place}
 use Rattle.tbtree.specs.declared.tree.TbTree.{TbTree}
-use Rattle.register.specs.Building.{tree_of, IsOf}
+use Rattle.register.specs.Restoring.{tree_of, IsOf, HoldsContents, IsRest, ReadsStore, SaysFields}
 use Rattle.header.specs.Fields.{fields_bytes, FitsFields, HasFields}
-use Rattle.register.specs.Lasting.{payload_fault, IsKept, IsStop, IsWithin}
-use Rattle.register.specs.Restoring.{HoldsContents, IsRest, SaysFields}
+use Rattle.register.specs.Lasting.{first_fault, payload_fault, ComesFirst, IsBehindFirst, IsKept, IsReadingFault, IsStop, IsWithin}
 use Rattle.register.specs.Saved.{fields_for, CatalogueView}
 use Rattle.register.specs.Saving.{contents_of}
 use Rattle.register.specs.Text.{catalogue_text, IsWhole}
 use Rattle.register.specs.declared.contents.Contents.{Contents}
 use Rattle.header.specs.declared.header_fields.Fields.{Fields}
-use Rattle.pagecache.specs.Cache.{Cache}
+use Rattle.pagecache.specs.Cache.{payload_of, Cache}
+use Rattle.chains.specs.Reads.{OnlyReads}
 use Rattle.register.specs.ChainReader.{IsBroken, IsReadFault}
 use Rattle.register.specs.declared.fault.CatalogueFault.{CatalogueFault}
 use Rattle.register.specs.declared.fault.CatalogueFault.TheVariants.{Memory, StoreFull, Damaged, Unfinished, Version, Malformed}
 use Rattle.register.specs.declared.fault.CatalogueFault.TheVariants as fault
+use Rattle.register.proofs.ReaderLemmas.{goes_on, on_err_and}
 use Rattle.register.proofs.PrefixLemmas.{numbers_free, whole_free}
 
 some_same : {X : Type 0} {x y : X} → Some x ≡ Some y → x ≡ y
@@ -118,11 +121,9 @@ module _ (at : ℕ → Option Payload) (count : ℕ) (c : CatalogueView) (tree :
 pub broken_of : (old new : Cache) (e : CatalogueFault) → IsReadFault old new e → (IsStop e → ⊥) → IsBroken e
 broken_of old new Memory h not = absurd (not tt)
 broken_of old new fault.Store h not = absurd (not tt)
-broken_of old new StoreFull h not = absurd h
 broken_of old new (Damaged n) h not = tt
-broken_of old new Unfinished h not = absurd h
-broken_of old new Version h not = absurd h
 broken_of old new Malformed h not = tt
+broken_of old new _ h not = absurd h
 
 -- a text says no lawful catalogue, where what was read of it is none
 pub no_rest : (at : ℕ → Option Payload) (count : ℕ) (fields : Fields) (contents : Option Contents) → HoldsContents at count fields.first fields.length contents
@@ -135,3 +136,37 @@ pub no_kept : (at : ℕ → Option Payload) (count : ℕ) (fields : Fields) → 
     → (c : CatalogueView) (tree : TbTree) (places : List Place) → IsKept at count c tree places → ⊥
 no_kept at count fields says none c tree places k =
     none c places (subst (λ f. IsRest at count f c places) (fields_same count (at 0) (fields_kept at count c tree places k) fields (kept_fields at count c tree places k) says) (kept_rest at count c tree places k))
+
+-- what is refused behind page 0 says neither its state nor its version
+behind_first : (a b : Cache) (e : CatalogueFault) → IsReadFault a b e → IsBehindFirst e
+behind_first a b Unfinished h = h
+behind_first a b Version h = h
+behind_first a b _ h = tt
+
+-- page 0 has no fault where it says fields
+none_first : (count : ℕ) (first : Option Payload) (fields : Fields) → SaysFields count first fields → first_fault count first ≡ None
+none_first count first fields says =
+    let some : nat_lt 0 count ≡ true = (let h = says.some in grind (arith, nat_tests, h)) in
+    ap (λ b. cond b (payload_fault first) (Some Malformed)) some ∙ ap payload_fault says.is ∙ says.says.finished
+
+-- the store failed where that is said
+reading_fault : (a b c : Cache) (e : CatalogueFault) → OnlyReads a b → IsReadFault b c e → IsReadingFault a.store c.store e
+reading_fault a b c fault.Store reads h = let faults = reads.store.faults in omega (arith, faults, h)
+reading_fault a b c StoreFull reads h = h
+reading_fault a b c _ reads h = tt
+
+module _ {T : Type 0} {is : T → Type 0} {nothing : Type 0} {r : Result T CatalogueFault} (e : CatalogueFault) (same : IsErrAnd r (λ f. f ≡ e)) {a b : Cache} where
+  -- where page 0 is refused, so is what is to be read behind it
+  pub first_refused : {none : Type 0} → ReadsStore {T = Fields} a b (SaysFields a.count (payload_of a 0)) none (Err e) → (none → nothing) → ReadsStore a b is nothing r
+  first_refused p says = on_err_and (λ r. ReadsStore a b is nothing r) r e same (record { kept = tt; first = p.first; broken = λ f not. says (p.broken f not); reads = p.reads; caused = p.caused })
+
+  -- or what stands behind it
+  pub rest_refused : {fields : Fields} {none : Type 0} {c : Cache} → ReadsStore a b (SaysFields a.count (payload_of a 0)) none (Ok fields) → OnlyReads b c → IsReadFault b c e
+      → (IsTrue a.store.is_faithful → IsBroken e → nothing) → ReadsStore a c is nothing r
+  rest_refused {fields} {c = c} p reads caused broken = on_err_and (λ r. ReadsStore a c is nothing r) r e same (record {
+    kept = tt;
+    first = λ f. subst (λ o. ComesFirst o e) (sym (none_first a.count (payload_of a 0) fields (p.kept f))) (behind_first b c e caused);
+    broken = λ f not. broken f (broken_of b c e caused not);
+    reads = goes_on p.reads reads;
+    caused = reading_fault a b c e p.reads caused;
+  })

@@ -7,9 +7,8 @@ use Rattle.mfcsv.specs.declared.Dimension.TheVariants.{Two, Three}
 use Rattle.pages.specs.declared.payload.Payload.{Payload}
 use Rattle.tbtree.specs.declared.tree.Place.{Place}
 use Rattle.tbtree.specs.declared.tree.TbTree.{TbTree}
-use Rattle.register.specs.Building.{number_of, tree_of, IsOf}
+use Rattle.register.specs.Restoring.{number_of, tree_of, IsOf, IsRest}
 use Rattle.register.specs.Lasting.{tracks_of, IsKept, IsLawfulCatalogue, IsSame}
-use Rattle.register.specs.Restoring.{IsRest}
 use Rattle.register.specs.Saved.{dimensions_of, head_of, CatalogueView}
 use Rattle.register.specs.Saving.{contents_of, features_of}
 use Rattle.register.specs.declared.contents.Contents.{Contents}

@@ -18,11 +18,12 @@ use Rattle.register.specs.ChainWriter.{HasText}
 use Rattle.header.specs.Fields.{FitsFields, HasFields}
 use Rattle.register.specs.Lasting.{Says}
 use Rattle.register.specs.Saved.{fields_for, CatalogueView, KeepsFront, SparesTree}
-use Rattle.register.specs.Saving.{contents_of, KeepsTree, PutsFields}
+use Rattle.register.specs.Saving.{contents_of, PutsFields, PutsText, WritesAll}
 use Rattle.register.specs.Text.{catalogue_text}
+use Rattle.register.specs.declared.fault.CatalogueFault.{CatalogueFault}
 use Rattle.header.specs.declared.header_fields.Fields.{Fields}
 use Rattle.register.proofs.ReaderLemmas.{some_none}
-use Rattle.register.proofs.SavingLemmas.{passes_trans}
+use Rattle.tbtree.proofs.PassLemmas.{passes_trans}
 use Rattle.register.proofs.SpareLemmas.{same_spare, spares_then, spares_trans, stays_spares}
 
 not_first : (n : ℕ) → 0 < n → (0 == n) ≡ false
@@ -43,12 +44,10 @@ reads_pass a b r = record {
   written = λ f some u. r.written f 0 some u;
 }
 
--- so a text is kept once it is written
-pub kept_written : (a x d : Cache) → KeepsTree a x → OnlyReads x d → KeepsTree a d
-kept_written a x d kept reads = record {
-  passes = passes_trans a x d kept.passes (reads_pass x d reads);
-  tree = spares_trans a x d kept.passes kept.tree (reads_spare x d reads);
-}
+-- a text that was put into pages is there once all is written
+module _ {k : CatalogueView} {places : List Place} {a x d : Cache} where
+  pub put_written : {r : Result (ℕ × ℕ) CatalogueFault} {w : Result (Unit {0}) CatalogueFault} → PutsText k places a x r → WritesAll x d w → Passes a d × SparesTree a d
+  put_written p w = (passes_trans a x d p.passes (reads_pass x d w.reads), spares_trans a x d p.passes p.tree (reads_spare x d w.reads))
 
 pub not_zero : (n : ℕ) → 1 ≤ n → 0 ≢ n
 not_zero n h e = omega (arith, h, e)
@@ -97,9 +96,9 @@ module _ {c d : Cache} {fields : Fields} (puts : PutsFields fields c d) where
     }
 
     -- page 0 says where the text is, and the text is there
-    pub says : (catalogue : CatalogueView) (tree t : TbTree) (places ps : List Place) (first length : ℕ) → fields ≡ fields_for catalogue.limits catalogue.head t first length → FitsFields fields × IsShape fields.shape × IsLimits fields.limits → tree ≡ t → places ≡ ps
+    pub says : (catalogue : CatalogueView) (tree t : TbTree) (places ps : List Place) (first length : ℕ) → fields ≡ fields_for catalogue.limits catalogue.head t first length → tree ≡ t → places ≡ ps
         → HasText c length first (catalogue_text (contents_of catalogue ps)) → div_ceil length most_used ≤ c.count → Says (payload_of d) d.count catalogue tree places
-    says catalogue tree t places ps first length are fits same same_places text few =
+    says catalogue tree t places ps first length are same same_places text few =
         let e : fields ≡ fields_for catalogue.limits catalogue.head tree first length = are ∙ ap (λ t. fields_for catalogue.limits catalogue.head t first length) (sym same) in
         let n = puts_count in
         record {
@@ -108,16 +107,16 @@ module _ {c d : Cache} {fields : Fields} (puts : PutsFields fields c d) where
           payload = puts.now;
           is = now_is fc;
           fields = subst (λ f. HasFields puts.now f) e puts.has;
-          fits = subst FitsFields e fits.0;
-          shape = subst (λ (f : Fields). IsShape f.shape) e fits.1;
-          limits = subst (λ (f : Fields). IsLimits f.limits) e fits.2;
+          fits = subst FitsFields e puts.fits;
+          shape = subst (λ (f : Fields). IsShape f.shape) e puts.shape;
+          limits = subst (λ (f : Fields). IsLimits f.limits) e puts.limits;
           few = omega (arith, few, n);
           text = text (payload_of d) (other fc) ∙ ap (λ l. Some (catalogue_text (contents_of catalogue l))) (sym same_places);
         }
 
 -- whatever is answered, the pages that are none of a catalogue's say what they said
-pub all_spare : {T E : Type 0} {a b x : Cache} (d : Cache) (fields : Fields) (r : Result T E) → OnlyReads a b → KeepsTree b x → OnOk r (PutsFields fields x d) → OnErr r (Rests x d) → SparesTree a d
-all_spare {a = a} {b = b} {x = x} d fields r reads kept puts rests = spares_then a x d (kept.passes.store.faithful ∙ reads.store.faithful) (spares_then a b x reads.store.faithful (reads_spare a b reads) kept.tree) (last r puts rests) where
+pub all_spare : {T E : Type 0} {a b x : Cache} (d : Cache) (fields : Fields) (r : Result T E) → OnlyReads a b → Passes b x → SparesTree b x → OnOk r (PutsFields fields x d) → OnErr r (Rests x d) → SparesTree a d
+all_spare {a = a} {b = b} {x = x} d fields r reads passes tree puts rests = spares_then a x d (passes.store.faithful ∙ reads.store.faithful) (spares_then a b x reads.store.faithful (reads_spare a b reads) tree) (last r puts rests) where
   last : {T E : Type 0} (r : Result T E) → OnOk r (PutsFields fields x d) → OnErr r (Rests x d) → SparesTree x d
   last (Ok v) puts rests = puts_spare puts
   last (Err e) puts rests = stays_spares x d rests.stays

@@ -6,7 +6,8 @@ use Rattle.std.proofs.lemmas.List.{append_assoc, append-nil, length_push}
 use Rattle.std.proofs.lemmas.List.Elements.{All-push}
 use Rattle.pagecache.specs.Cache.{Cache}
 use Rattle.chains.specs.Reads.{OnlyReads}
-use Rattle.register.specs.ChainReader.{ReaderView, rest_of, ReadsValue, Shows, TakesInto}
+use Rattle.register.specs.ChainReader.{ReaderView, rest_of, ReadsValue, Shows}
+use Rattle.register.specs.Text.{AreMany}
 use Rattle.pages.specs.declared.payload.Payload.{Payload}
 use Rattle.register.specs.declared.fault.CatalogueFault.{CatalogueFault}
 use Rattle.register.specs.declared.fault.CatalogueFault.TheVariants.{Malformed}
@@ -71,7 +72,8 @@ module _ {A B V : Type 0} {text : V → List ℕ} {ok : V → Type 0} {first : A
   -- where the first of the two is refused, so is the value
   pub first_refused : {a b : Cache} {s t : ReaderView} {r : Result V CatalogueFault} {e : CatalogueFault} → IsErrAnd r (λ f. f ≡ e) → ReadsValue a b s t first is_first (Err e) → ReadsValue a b s t text ok r
   first_refused {a} {b} {s} {t} {r} {e} h p = on_err_and (λ r. ReadsValue a b s t text ok r) r e h (record {
-    takes = λ at shows. record { taken = tt; lacks = λ k. no_first (rest_of at s) ((p.takes at shows).lacks k) };
+    taken = tt;
+    lacks = λ at shows k. no_first (rest_of at s) (p.lacks at shows k);
     reads = p.reads;
     caused = p.caused;
   })
@@ -79,10 +81,8 @@ module _ {A B V : Type 0} {text : V → List ℕ} {ok : V → Type 0} {first : A
   -- or where it was read and no such value has it
   pub first_unfit : {a b : Cache} {s t : ReaderView} {x : A} → ((v : V) → ok v → x ≡ pair.left v → ⊥) → ReadsValue a b s t first is_first (Ok x) → ReadsValue a b s t text ok (Err Malformed)
   first_unfit {a} {b} {s} {t} {x} unlike p = record {
-    takes = λ at shows. let one = (p.takes at shows).taken in record {
-      taken = tt;
-      lacks = λ _ v t' k e. unlike v k (behind x (rest_of at t) one.0 v t' k (sym one.1 ∙ e)).0;
-    };
+    taken = tt;
+    lacks = λ at shows _ v t' k e. let one = p.taken at shows in unlike v k (behind x (rest_of at t) one.0 v t' k (sym one.1 ∙ e)).0;
     reads = p.reads;
     caused = tt;
   }
@@ -91,10 +91,8 @@ module _ {A B V : Type 0} {text : V → List ℕ} {ok : V → Type 0} {first : A
   pub second_refused : {a b c : Cache} {s t u : ReaderView} {r : Result V CatalogueFault} {x : A} {e : CatalogueFault} → IsErrAnd r (λ f. f ≡ e)
       → ReadsValue a b s t first is_first (Ok x) → ReadsValue b c t u second (is_second x) (Err e) → ReadsValue a c s u text ok r
   second_refused {a} {b} {c} {s} {t} {u} {r} {x} {e} h p q = on_err_and (λ r. ReadsValue a c s u text ok r) r e h (record {
-    takes = λ at shows. let one = (p.takes at shows).taken in record {
-      taken = tt;
-      lacks = λ k. no_second x (rest_of at s) (rest_of at t) one.0 one.1 ((q.takes at (still_shows p.reads shows)).lacks k);
-    };
+    taken = tt;
+    lacks = λ at shows k. let one = p.taken at shows in no_second x (rest_of at s) (rest_of at t) one.0 one.1 (q.lacks at (still_shows p.reads shows) k);
     reads = goes_on p.reads q.reads;
     caused = later_fault a b c e p.reads q.caused;
   })
@@ -103,13 +101,14 @@ module _ {A B V : Type 0} {text : V → List ℕ} {ok : V → Type 0} {first : A
   pub both_read : {a b c : Cache} {s t u : ReaderView} {v : V} {x : A} → (is_first x → is_second x (pair.right v) → ok v × (x ≡ pair.left v))
       → ReadsValue a b s t first is_first (Ok x) → ReadsValue b c t u second (is_second x) (Ok (pair.right v)) → ReadsValue a c s u text ok (Ok v)
   both_read {a} {b} {c} {s} {t} {u} {v} {x} makes p q = record {
-    takes = λ at shows.
-        let one = (p.takes at shows).taken in
-        let two = (q.takes at (still_shows p.reads shows)).taken in
+    taken = λ at shows.
+        let one = p.taken at shows in
+        let two = q.taken at (still_shows p.reads shows) in
         let made = makes one.0 two.0 in
         let text_is = ap (λ x. first x ++ second (pair.right v)) made.1 ∙ sym (pair.whole v) in
         let both = taken_both (first x) (second (pair.right v)) (rest_of at s) (rest_of at t) (rest_of at u) one.1 two.1 in
-        record { taken = (made.0, both ∙ ap (λ l. option_map (λ t. l ++ t) (rest_of at u)) text_is); lacks = tt };
+        (made.0, both ∙ ap (λ l. option_map (λ t. l ++ t) (rest_of at u)) text_is);
+    lacks = tt;
     reads = goes_on p.reads q.reads;
     caused = tt;
   }
@@ -128,8 +127,7 @@ goes_with {a = a} {b = b} {s = s} {t = t} {text = text} {r = r} is same h = subs
 
 -- so many values of a list are taken, one behind another
 pub record AreTaken {V : Type 0} (text : V → List ℕ) (ok : V → Type 0) (xs : List V) (n : ℕ) (old new : Option (List ℕ)) : Type 0 where
-  pub each : All ok xs
-  pub many : length xs ≡ n
+  pub are : AreMany ok n xs
   pub taken : old ≡ option_map (λ t. flat_map text xs ++ t) new
 
 -- and a reader has taken them
@@ -138,47 +136,42 @@ pub record HasRead {V : Type 0} (a b : Cache) (s t : ReaderView) (text : V → L
   pub taken : (at : ℕ → Option Payload) → Shows a at → AreTaken text ok xs n (rest_of at s) (rest_of at t)
 
 module _ {V : Type 0} {text : V → List ℕ} {ok : V → Type 0} (free : IsFree text ok) {a b : Cache} {s t : ReaderView} {xs : List V} {n : ℕ} where
-  -- one more is put behind them
-  pub one_put : {T : Type 0} {c : Cache} {u : ReaderView} {ys : List V} {y : T} → HasRead a b s t text ok xs n → OnlyReads b c
-      → ((at : ℕ → Option Payload) → Shows b at → TakesInto text ok (λ x. ys ≡ xs ++ x ∷ []) (rest_of at t) (rest_of at u) (Ok y)) → HasRead a c s u text ok ys (n + 1)
-  one_put {u = u} p reads takes = record {
-    reads = goes_on p.reads reads;
+  -- one more that was read is put behind them
+  pub one_read : {c : Cache} {u : ReaderView} {ys : List V} {x : V} → ys ≡ xs ++ x ∷ [] → HasRead a b s t text ok xs n → ReadsValue b c t u text ok (Ok x) → HasRead a c s u text ok ys (n + 1)
+  one_read {u = u} {x = x} items p q = record {
+    reads = goes_on p.reads q.reads;
     taken = λ at shows.
         let before = p.taken at shows in
-        let one = (takes at (still_shows p.reads shows)).taken in
-        let text_is = ap (λ l. option_map (λ t. flat_map text l ++ t) (rest_of at u)) (sym one.1) in
+        let one = q.taken at (still_shows p.reads shows) in
+        let text_is = ap (λ l. option_map (λ t. flat_map text l ++ t) (rest_of at u)) (sym items) in
         record {
-          each = subst (λ l. All ok l) (sym one.1) (All-push ok xs one.0 before.each one.2);
-          many = ap length one.1 ∙ length_push xs one.0 ∙ ap (λ n. n + 1) before.many;
-          taken = more_taken text ok free xs one.0 (rest_of at s) (rest_of at t) (rest_of at u) before.taken one.3 ∙ text_is;
+          are = record {
+            each = subst (λ l. All ok l) (sym items) (All-push ok xs x before.are.each one.0);
+            many = ap length items ∙ length_push xs x ∙ ap (λ n. n + 1) before.are.many;
+          };
+          taken = more_taken text ok free xs x (rest_of at s) (rest_of at t) (rest_of at u) before.taken one.1 ∙ text_is;
         };
   }
 
-  -- one more that was read
-  pub one_read : {c : Cache} {u : ReaderView} {ys : List V} {x : V} → ys ≡ xs ++ x ∷ [] → HasRead a b s t text ok xs n → ReadsValue b c t u text ok (Ok x) → HasRead a c s u text ok ys (n + 1)
-  one_read {x = x} items p q =
-      one_put {T = V} {y = x} p q.reads (λ at shows. let one = (q.takes at shows).taken in record { taken = (x, items, one.0, one.1); lacks = tt })
-
   -- one is refused before there are so many
-  pub list_refused : {c : Cache} {u : ReaderView} {count : ℕ} {are : List V → Type 0} {r : Result (List V) CatalogueFault} {e : CatalogueFault} → ((l : List V) → are l → All ok l × (length l ≡ count)) → n < count
-      → IsErrAnd r (λ f. f ≡ e) → HasRead a b s t text ok xs n → ReadsValue b c t u text ok (Err e) → ReadsValue a c s u (λ l. flat_map text l) are r
-  list_refused {c} {u} {are = are} {r = r} {e = e} parts less is p q = on_err_and (λ r. ReadsValue a c s u (λ l. flat_map text l) are r) r e is (record {
-    takes = λ at shows. let before = p.taken at shows in record {
-      taken = tt;
-      lacks = λ k l t' h found.
-          let many = (parts l h).1 in
-          let own = before.many in
-          split_at text ok free xs (rest_of at t) l t' before.each (parts l h).0 (omega (arith, less, many, own)) (sym before.taken ∙ found) ((q.takes at (still_shows p.reads shows)).lacks k);
-    };
+  pub list_refused : {c : Cache} {u : ReaderView} {count : ℕ} {r : Result (List V) CatalogueFault} {e : CatalogueFault} → n < count → IsErrAnd r (λ f. f ≡ e)
+      → HasRead a b s t text ok xs n → ReadsValue b c t u text ok (Err e) → ReadsValue a c s u (λ l. flat_map text l) (AreMany ok count) r
+  list_refused {c} {u} {count} {r} {e} less is p q = on_err_and (λ r. ReadsValue a c s u (λ l. flat_map text l) (AreMany ok count) r) r e is (record {
+    taken = tt;
+    lacks = λ at shows k l t' h found.
+        let before = p.taken at shows in
+        let many = h.many in
+        let own = before.are.many in
+        split_at text ok free xs (rest_of at t) l t' before.are.each h.each (omega (arith, less, many, own)) (sym before.taken ∙ found) (q.lacks at (still_shows p.reads shows) k);
     reads = goes_on p.reads q.reads;
     caused = later_fault a b c e p.reads q.caused;
   })
 
   -- there are so many
-  pub list_read : {count : ℕ} {are : List V → Type 0} {ys : List V} → ((l : List V) → All ok l → length l ≡ count → are l) → n ≡ count → ys ≡ xs
-      → HasRead a b s t text ok xs n → ReadsValue a b s t (λ l. flat_map text l) are (Ok ys)
-  list_read {are = are} makes many same p = subst (λ l. ReadsValue a b s t (λ l. flat_map text l) are (Ok l)) (sym same) (record {
-    takes = λ at shows. let all = p.taken at shows in record { taken = (makes xs all.each (all.many ∙ many), all.taken); lacks = tt };
+  pub list_read : {count : ℕ} {ys : List V} → n ≡ count → ys ≡ xs → HasRead a b s t text ok xs n → ReadsValue a b s t (λ l. flat_map text l) (AreMany ok count) (Ok ys)
+  list_read {count} many same p = subst (λ l. ReadsValue a b s t (λ l. flat_map text l) (AreMany ok count) (Ok l)) (sym same) (record {
+    taken = λ at shows. let all = p.taken at shows in (subst (λ n. AreMany ok n xs) many all.are, all.taken);
+    lacks = tt;
     reads = p.reads;
     caused = tt;
   })

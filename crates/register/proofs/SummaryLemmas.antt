@@ -9,13 +9,11 @@ use Rattle.legs.specs.declared.head.BookHead.{BookHead}
 use Rattle.tbtree.specs.declared.tree.Place.{Place}
 use Rattle.tbtree.specs.declared.tree.TbTree.{TbTree}
 use Rattle.header.specs.declared.header_fields.Fields.{Fields}
-use Rattle.register.specs.Building.{IsOf}
+use Rattle.register.specs.Restoring.{IsOf, HoldsContents, IsRest, SaysFields, before_rows, before_text, IsBeforeRows, Summarizes}
 use Rattle.register.specs.ChainReader.{ReaderView, rest_of, IsBroken, ReadsValue, Shows}
 use Rattle.register.specs.Lasting.{IsKept}
-use Rattle.register.specs.Restoring.{HoldsContents, IsRest, SaysFields}
 use Rattle.register.specs.Saved.{dimensions_of, head_of, CatalogueView}
-use Rattle.register.specs.Summary.{before_rows, before_text, IsBeforeRows, Summarizes}
-use Rattle.register.specs.Text.{body_text, catalogue_text, contents_text, features_bytes, flag_of, head_text, leg_sum, rows_text, HasFeatures, IsHead, IsNumber, IsWhole}
+use Rattle.register.specs.Text.{body_text, catalogue_text, contents_text, features_bytes, flag_of, head_text, leg_sum, rows_text, AreCounted, IsFeature, IsHead, IsNumber, IsWhole}
 use Rattle.register.specs.declared.contents.Contents.{Contents}
 use Rattle.register.specs.declared.contents.Feature.{Feature}
 use Rattle.register.specs.declared.fault.CatalogueFault.{CatalogueFault}
@@ -35,12 +33,12 @@ kept_behind at count fields says c tree places k =
     subst (λ f. IsRest at count f c places) (fields_same count (at 0) (fields_kept at count c tree places k) fields (kept_fields at count c tree places k) says) (kept_rest at count c tree places k)
 
 -- a head, and features
-abbrev pub before_pair : IsPair before_text IsBeforeRows head_text IsHead features_bytes (λ _. HasFeatures)
+abbrev pub before_pair : IsPair before_text IsBeforeRows head_text IsHead features_bytes (λ _. AreCounted IsFeature 32)
 before_pair = record { left = λ v. v.head; right = λ v. v.features; free = head_free; parts = λ v k. (k.head, k.features); whole = λ v. refl }
 
 before_free : IsFree before_text IsBeforeRows
 before_free a b s t h k e =
-    pair_free head_text features_bytes IsHead HasFeatures head_free features_free (λ (v : BeforeRows). v.head) (λ (v : BeforeRows). v.features)
+    pair_free head_text features_bytes IsHead (AreCounted IsFeature 32) head_free features_free (λ (v : BeforeRows). v.head) (λ (v : BeforeRows). v.features)
     (λ v w p q i. record { head = p i; features = q i }) a b s t (h.head, h.features) (k.head, k.features) e
 
 -- behind its first byte a whole text has its body
@@ -67,22 +65,22 @@ before_same b k mid (Some s) h whole e is =
 -- the first byte was read, and a whole text stands from it on
 module _ {a b : Cache} {s t : ReaderView} {n : ℕ} (at : ℕ → Option Payload) (shows : Shows a at) (flag : ReadsValue a b s t (λ n. n ∷ []) (IsNumber 8) (Ok n)) where
   at_body : (contents : Option Contents) → rest_of at s ≡ Some (catalogue_text contents) → (n ≡ flag_of contents) × (rest_of at t ≡ Some (body_text contents))
-  at_body contents is = behind_flag n (rest_of at s) (rest_of at t) contents (flag.takes at shows).taken.1 is
+  at_body contents is = behind_flag n (rest_of at s) (rest_of at t) contents (flag.taken at shows).1 is
 
   pub before_said : {d : Cache} {u : ReaderView} {before : BeforeRows} → n ≡ 1 → ReadsValue b d t u before_text IsBeforeRows (Ok before) → (contents : Option Contents) → IsWhole contents → rest_of at s ≡ Some (catalogue_text contents) → Some before ≡ option_map before_rows contents
   before_said one read None whole is = absurd (let f = (at_body None is).0 in omega (arith, one, f))
   before_said {u = u} {before = before} one read (Some k) whole is =
-      let taken = (read.takes at (still_shows flag.reads shows)).taken in
+      let taken = read.taken at (still_shows flag.reads shows) in
       ap Some (before_same before k (rest_of at t) (rest_of at u) taken.0 whole taken.1 (at_body (Some k) is).1)
 
   pub no_before : {d : Cache} {u : ReaderView} {e : CatalogueFault} → n ≡ 1 → ReadsValue b d t u before_text IsBeforeRows (Err e) → IsBroken e → (contents : Option Contents) → IsWhole contents → rest_of at s ≡ Some (catalogue_text contents) → ⊥
   no_before one read broken None whole is = absurd (let f = (at_body None is).0 in omega (arith, one, f))
   no_before one read broken (Some k) whole is =
-      (read.takes at (still_shows flag.reads shows)).lacks broken (before_rows k) (rows_text k.lists.rows) (fits_before k whole) ((at_body (Some k) is).1 ∙ ap Some (with_rows k))
+      read.lacks at (still_shows flag.reads shows) broken (before_rows k) (rows_text k.lists.rows) (fits_before k whole) ((at_body (Some k) is).1 ∙ ap Some (with_rows k))
 
 -- where the first byte is not read, no whole text stands there
 pub no_text : {a b : Cache} {s t : ReaderView} {e : CatalogueFault} (at : ℕ → Option Payload) → Shows a at → ReadsValue a b s t (λ n. n ∷ []) (IsNumber 8) (Err e) → IsBroken e → (contents : Option Contents) → rest_of at s ≢ Some (catalogue_text contents)
-no_text at shows flag broken contents is = (flag.takes at shows).lacks broken (flag_of contents) (body_text contents) (flag_fits contents) is
+no_text at shows flag broken contents is = flag.lacks at shows broken (flag_of contents) (body_text contents) (flag_fits contents) is
 
 -- a reader that begins has the whole text before it
 pub begins : (at : ℕ → Option Payload) (count first length : ℕ) (contents : Option Contents) (reader : ReaderView) → reader ≡ record { next = first; left = length; bytes = [] } → HoldsContents at count first length contents → rest_of at reader ≡ Some (catalogue_text contents)

@@ -9,7 +9,7 @@ use Rattle.pages.specs.declared.payload.Payload.{Payload}
 use Rattle.tbnode.specs.Parts.{part}
 use Rattle.register.specs.Chain.{most_used, is_catalogue, is_part, next_in, text_in, chain_text, text_at}
 use Rattle.register.specs.ChainReader.{ReaderView, rest_of}
-use Rattle.register.specs.Text.{body_text, catalogue_text, flag_of, IsBody, IsNumber, IsRead, IsWhole}
+use Rattle.register.specs.Text.{body_text, catalogue_text, flag_of, IsNumber, IsRead, IsWhole}
 use Rattle.register.specs.declared.contents.Contents.{Contents}
 use Rattle.register.proofs.ReaderLemmas.{some_none, some_same, text_end}
 use Rattle.register.proofs.PrefixLemmas.{whole_free}
@@ -91,10 +91,14 @@ module _ (at : ℕ → Option Payload) where
         last : (next : ℕ) → option_map (λ t. r.bytes ++ t) (text_at at 0 next) ≡ Some [] → next ≡ 0
         last next e = named next (next == 0) refl (sym (ap (option_map (λ t. r.bytes ++ t)) (text_end at next)) ∙ e)
 
+-- what stands behind the first byte of a text
+abbrev pub IsBody : ℕ → ℕ → Option Contents → Type 0
+IsBody most flag contents = IsRead most contents × (flag_of contents ≡ flag)
+
 -- where the contents are not there, nor is the whole
 pub no_body : (most : ℕ) (old : Option (List ℕ)) → ((c : Contents) (t : List ℕ) → IsRead most (Some c) → old ≢ Some (body_text (Some c) ++ t)) → Lacks body_text (IsBody most 1) old
-no_body most old h None t k e = absurd (let f = k.flag_is in omega (arith, f))
-no_body most old h (Some c) t k e = h c t k.read e
+no_body most old h None t k e = absurd (let f = k.1 in omega (arith, f))
+no_body most old h (Some c) t k e = h c t k.0 e
 
 -- the byte that says whether it is there fits into eight bits
 pub flag_fits : (v : Option Contents) → IsNumber 8 (flag_of v)
@@ -107,7 +111,7 @@ catalogue_pair most = record {
   left = flag_of;
   right = λ v. v;
   free = λ a b s t h k e. (ap (λ l. get_or l 0 0) e, ap (drop 1) e);
-  parts = λ v k. (flag_fits v, record { read = k; flag_is = refl });
+  parts = λ v k. (flag_fits v, (k, refl));
   whole = λ v. refl;
 }
 

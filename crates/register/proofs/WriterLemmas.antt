@@ -11,13 +11,21 @@ use Rattle.indexmap.specs.IndexSet.{insert_key}
 use Rattle.pages.specs.declared.payload.Kind.TheVariants.{Catalogue}
 use Rattle.pages.specs.declared.payload.Payload.{Payload}
 use Rattle.pagecache.specs.Cache.{Cache, payload_of}
-use Rattle.tbtree.specs.Passes.{Passes}
+use Rattle.tbtree.specs.Passes.{KeepsLength, Passes}
 use Rattle.register.proofs.SpareLemmas.{is_page, no_page, fills_spares, spares_trans, stays_spares}
 use Rattle.register.proofs.ChainLemmas.{pages_of, text_is_at, written_length}
 use Rattle.register.specs.Chain.{most_used, part_payload, text_at}
-use Rattle.register.specs.ChainSteps.{Fills, Gives, IsNumber, IsPutBehind, OnlyAsks}
+use Rattle.register.specs.ChainWriter.{behind, Fills, Gives, IsNumber, IsPutBehind, OnlyAsks, AreWritten, HasText, Holds, HoldsText, IsOwn, WriterView}
 use Rattle.register.specs.Saved.{SparesTree}
-use Rattle.register.specs.ChainWriter.{AreWritten, HasText, Holds, HoldsText, IsOwn, WriterView}
+
+-- the first n bytes that were not written now are
+pub record WritesParts (old : Cache) (v : WriterView) (n : ℕ) (new : Cache)
+    (w : WriterView) : Type 0 where
+  pub text : w.text ≡ v.text
+  pub holds : (text : List ℕ) → Holds old v text → Holds new (behind n w) text
+  pub passes : Passes old new
+  pub length : KeepsLength old new
+  pub tree : (text : List ℕ) → Holds old v text → SparesTree old new
 
 -- a number that none of a list reaches is none of them
 pub not_among : (page n : ℕ) (ks : List ℕ) → n ≤ page → All (λ p. p < n) ks → list_any (nat_eq page) ks ≡ false
@@ -149,9 +157,9 @@ module _ (a b d : Cache) (v : WriterView) (l page done k : ℕ) (ks items bytes 
       (subst (λ t. Fills l (part_payload page t) b d) part_is lends)
       (subst (λ ks. All (λ p. p < a.count) ks → IsPutBehind ks page keys) pages puts) (cut done 4040 v.text) len (omega (arith, y, more)) h)
 
-  pub part_tree : {T E : Type 0} (r : Result T E) (text : List ℕ) → 0 < length v.pages → SparesTree a b → OnOk r (Fills l (part_payload page (take k (drop done bytes))) b d) → OnErr r (OnlyAsks b d)
-      → Holds a (record v { text = drop done v.text }) text → SparesTree a d
-  part_tree r text some tree lends rests h = tree_step a b d (record v { text = drop done v.text }) l page (take k (drop done bytes)) gives passes at r text some tree lends rests h
+  pub part_tree : {T E : Type 0} (r : Result T E) → 0 < length v.pages → SparesTree a b → OnOk r (Fills l (part_payload page (take k (drop done bytes))) b d) → OnErr r (OnlyAsks b d)
+      → (text : List ℕ) → Holds a (record v { text = drop done v.text }) text → SparesTree a d
+  part_tree r some tree lends rests text h = tree_step a b d (record v { text = drop done v.text }) l page (take k (drop done bytes)) gives passes at r text some tree lends rests h
 
 among_below : (xs : List ℕ) (q n : ℕ) → All (λ p. p < n) xs → list_any (nat_eq q) xs ≡ true → q < n
 among_below xs q n all e = ⊎_elim (λ lt. lt) (λ ge. absurd (false≢true (sym (not_among q n xs ge all) ∙ e))) (cases_lt q n)
@@ -194,7 +202,7 @@ written_there at new (p ∷ p2 ∷ pages) written same above w =
 -- the last page is written, and no page comes after it
 module _ (a d : Cache) (rest text : List ℕ) (l : ℕ) (short : length rest ≤ 4040) (lends : Fills l (part_payload 0 rest) a d) (f : IsTrue a.store.is_faithful) (some : 0 < length text) where
   closed_pages : (pages : List ℕ) (earlier len first : ℕ) → l ≡ get_or pages (length pages - 1) 0 → first ≡ get_or pages 0 0 → len ≡ 4040 * (length pages - 1) + length rest → All IsNumber pages
-      → HoldsText (payload_of a) a.count (record { pages = pages; earlier = earlier; text = rest }) text → HasText d len first text × (len ≡ length text) × (0 < first) × (first < d.count) × (div_ceil len most_used ≤ d.count)
+      → HoldsText (payload_of a) a.count (record { pages = pages; earlier = earlier; text = rest }) text → HasText d len first text × (div_ceil len most_used ≤ d.count)
   closed_pages [] earlier len first at from size numbers h = absurd h.parts
   closed_pages (p ∷ pages) earlier len first at from size numbers h =
       let other : (q : ℕ) (x : Payload) → q ≢ l → payload_of a q ≡ Some x → payload_of d q ≡ Some x =
@@ -208,30 +216,25 @@ module _ (a d : Cache) (rest text : List ℕ) (l : ℕ) (short : length rest ≤
       let k = written_length (payload_of a) p pages h.written h.parts in
       let left : 0 < length rest = ⊎_elim (λ lt. h.left lt) (λ ge. omega (arith, ge, n, some)) (cases_lt 0 (length h.written)) in
       let is_len : len ≡ length text = omega (arith, n, k, size, step) in
-      let below : p < a.count = All-head (λ p. p < a.count) p pages h.below in
       let count = lends.writes.count in
       let size_is : len ≡ 4040 * length pages + length rest = omega (arith, size, step) in
       let pages_are : div_ceil len most_used ≡ suc (length pages) = ap (λ m. div_ceil m 4040) size_is ∙ pages_of (length pages) (length rest) left short in
       let few : length (p ∷ pages) ≤ a.count = few_below (p ∷ pages) a.count h.apart h.below in
-      let all_above : All (λ p. 0 < p) (p ∷ pages) = All-weaker IsNumber (λ p. 0 < p) (λ p o. o.above) (p ∷ pages) numbers in
-      let number : IsNumber p = All-head IsNumber p pages numbers in (
+      let all_above : All (λ p. 0 < p) (p ∷ pages) = All-weaker IsNumber (λ p. 0 < p) (λ p o. o.above) (p ∷ pages) numbers in (
         λ at others. ap (λ m. text_at at m first) is_len ∙ ap (λ m. text_at at (length text) m) from
             ∙ text_is_at at p pages h.written rest text h.all (written_there (payload_of d) at (p ∷ pages) h.written others all_above parts) (others _ (all_above (length pages) 0 (omega arith)) ∙ last) left short (All-weaker IsNumber (λ p. p < 2 ^ 32) (λ p o. o.small) pages (All-tail IsNumber p pages numbers)),
-        is_len,
-        subst (λ m. 0 < m) (sym from) number.above,
-        subst (λ m. m < d.count) (sym from) (omega (arith, below, count)),
         subst (λ m. m ≤ d.count) (sym pages_are) (omega (arith, few, count)),
       )
 
   pub closed : (w : WriterView) (bytes : List ℕ) (len first : ℕ) → bytes ≡ w.text → rest ≡ bytes → l ≡ get_or w.pages (length w.pages - 1) 0 → first ≡ get_or w.pages 0 0 → len ≡ 4040 * (length w.pages - 1) + length w.text → All IsNumber w.pages
-      → Holds a w text → HasText d len first text × (len ≡ length text) × (0 < first) × (first < d.count) × (div_ceil len most_used ≤ d.count)
+      → Holds a w text → HasText d len first text × (div_ceil len most_used ≤ d.count)
   closed w bytes len first e lent at from size numbers h =
       let same : w.text ≡ rest = sym e ∙ sym lent in
       closed_pages w.pages w.earlier len first at from (size ∙ ap (λ t. 4040 * (length w.pages - 1) + length t) same) numbers
       (subst (λ t. HoldsText (payload_of a) a.count (record { pages = w.pages; earlier = w.earlier; text = t }) text) same (h f))
 
 -- so is a page that is the last one
-pub last_tree : (a d : Cache) (w : WriterView) (l next : ℕ) (bytes text : List ℕ) → l ≡ get_or w.pages (length w.pages - 1) 0 → 0 < length w.pages → Fills l (part_payload next bytes) a d → Holds a w text → SparesTree a d
-last_tree a d w l next bytes text at some lends h = λ f.
+pub last_tree : (a d : Cache) (w : WriterView) (l next : ℕ) (bytes : List ℕ) → l ≡ get_or w.pages (length w.pages - 1) 0 → 0 < length w.pages → Fills l (part_payload next bytes) a d → (text : List ℕ) → Holds a w text → SparesTree a d
+last_tree a d w l next bytes at some lends text h = λ f.
     let o : IsOwn (payload_of a) l = subst (IsOwn (payload_of a)) (sym at) ((h f).own (length w.pages - 1) 0 (omega (arith, some))) in
     fills_spares a d l next bytes o.payload o.kind (λ _. o.is) lends f

@@ -1,5 +1,5 @@
 -- Helpers of private functions: a text that is being read from a chain of pages.
-use Rattle.std.specs.Prelude.{ℕ, ◌≡◌, ◌≢◌, ◌<◌, ◌≤◌, ◌-◌, min, true, false, List, [], ◌++◌, length, Option, Some, option_map, Result, IfOk, IfErr, IsTrue, OnOk}
+use Rattle.std.specs.Prelude.{ℕ, ◌≡◌, ◌≢◌, ◌<◌, ◌-◌, min, true, false, List, ◌++◌, length, Option, Some, None, option_map, Result, Ok, Err, IfOk, IfErr, IfSome, IsTrue, OnOk}
 use Rattle.pages.specs.Store.{Faulted}
 use Rattle.pagecache.specs.Cache.{payload_of, Cache}
 use Rattle.pagecache.specs.declared.fault.CacheFault.{CacheFault}
@@ -8,7 +8,7 @@ use Rattle.pages.specs.declared.payload.Payload.{Payload}
 use Rattle.chains.specs.Reads.{OnlyReads}
 use Rattle.register.specs.Chain.{most_used, is_part, next_in, text_in, text_at}
 use Rattle.register.specs.declared.fault.CatalogueFault.{CatalogueFault}
-use Rattle.register.specs.declared.fault.CatalogueFault.TheVariants.{Memory, Store, StoreFull, Damaged, Unfinished, Version, Malformed}
+use Rattle.register.specs.declared.fault.CatalogueFault.TheVariants.{Memory, Store, StoreFull, Damaged, Malformed}
 
 -- the page of the chain that comes next, 0 for none; how many bytes of the text stand there and in
 -- the pages behind it; and the bytes that were read and are not taken yet
@@ -38,21 +38,15 @@ fault_of cache.Memory = Memory
 abbrev pub IsReadFault : Cache → Cache → CatalogueFault → Type 0
 IsReadFault old new Memory = Unit {0}
 IsReadFault old new Store = Faulted old.store new.store
-IsReadFault old new StoreFull = ⊥
 IsReadFault old new (Damaged page) = Unit {0}
-IsReadFault old new Unfinished = ⊥
-IsReadFault old new Version = ⊥
 IsReadFault old new Malformed = Unit {0}
+IsReadFault old new _ = ⊥
 
 -- a fault of the pages, and of the text in them
 abbrev pub IsBroken : CatalogueFault → Type 0
-IsBroken Memory = ⊥
-IsBroken Store = ⊥
-IsBroken StoreFull = ⊥
 IsBroken (Damaged page) = Unit {0}
-IsBroken Unfinished = ⊥
-IsBroken Version = ⊥
 IsBroken Malformed = Unit {0}
+IsBroken _ = ⊥
 
 -- the next page of the chain is taken in
 pub record TakesPart (payload : Payload) (old new : ReaderView) : Type 0 where
@@ -64,75 +58,76 @@ pub record TakesPart (payload : Payload) (old new : ReaderView) : Type 0 where
 -- or it has not the form of one, or memory ran out
 abbrev pub IsPageFault : Payload → ReaderView → CatalogueFault → Type 0
 IsPageFault payload old Memory = Unit {0}
-IsPageFault payload old Store = ⊥
-IsPageFault payload old StoreFull = ⊥
-IsPageFault payload old (Damaged page) = ⊥
-IsPageFault payload old Unfinished = ⊥
-IsPageFault payload old Version = ⊥
 IsPageFault payload old Malformed = is_part (min most_used old.left) payload ≡ false
+IsPageFault payload old _ = ⊥
 
 -- bytes are no text, or memory ran out
 abbrev pub IsTextFault : CatalogueFault → Type 0
 IsTextFault Memory = Unit {0}
-IsTextFault Store = ⊥
-IsTextFault StoreFull = ⊥
-IsTextFault (Damaged page) = ⊥
-IsTextFault Unfinished = ⊥
-IsTextFault Version = ⊥
 IsTextFault Malformed = Unit {0}
+IsTextFault _ = ⊥
+
+-- what is made of what was read, or why it is not
+pub record Makes {T : Type 0} (is_made : T → Type 0) (none : Type 0)
+    (result : Result T CatalogueFault) : Type 0
+  where
+    pub is : IfOk result is_made
+    -- if it fails for another reason than memory, nothing can be made
+    pub broken : IfErr result (λ e. IsBroken e → none)
+    -- it fails only if memory runs out, or with `Malformed`
+    pub fault : IfErr result IsTextFault
+
+-- what is found, or that there is nothing such
+pub record Finds {T : Type 0} (is_found : T → Type 0) (nothing : Type 0) (result : Option T) : Type 0
+  where
+    pub some : IfSome result is_found
+    pub none : result ≡ None → nothing
 
 -- what is read of the pages that a cache shows, or why nothing is
 pub record ReadsPages {T : Type 0} (old new : Cache) (is_read : (ℕ → Option Payload) → T → Type 0)
     (none : (ℕ → Option Payload) → Type 0) (result : Result T CatalogueFault) : Type 0
   where
     pub is : IfOk result (λ v. (at : ℕ → Option Payload) → Shows old at → is_read at v)
+    -- if it fails for another reason than memory or the store, there is nothing such
     pub broken : IfErr result (λ e. (at : ℕ → Option Payload) → Shows old at → IsBroken e → none at)
+    -- no payload changes, and no page that was not changed is written
     pub reads : OnlyReads old new
+    -- `Store` is returned only if the store failed
     pub caused : IfErr result (IsReadFault old new)
 
--- pages are read until so many bytes stand ready; there are none where the text is shorter
-pub record ReadsAhead (old new : Cache) (from to : ReaderView) (len : ℕ)
-    (result : Result (Unit {0}) CatalogueFault) : Type 0
+-- a text is shorter than that, if it is there
+abbrev pub IsShorter : ℕ → Option (List ℕ) → Type 0
+IsShorter len rest = (text : List ℕ) → rest ≡ Some text → length text < len
+
+-- pages are read on in a text, which is the same then, or has not what is asked for
+pub record ReadsAhead (old new : Cache) (from to : ReaderView) (is_done : Type 0)
+    (lacks : Option (List ℕ) → Type 0) (result : Result (Unit {0}) CatalogueFault) : Type 0
   where
     pub same : OnOk result ((at : ℕ → Option Payload) → Shows old at → rest_of at to ≡ rest_of at from)
-    pub ready : OnOk result (len ≤ length to.bytes)
+    pub ready : OnOk result is_done
     pub broken : IfErr result (λ e. (at : ℕ → Option Payload) → Shows old at → IsBroken e
-        → (text : List ℕ) → rest_of at from ≡ Some text → length text < len)
+        → lacks (rest_of at from))
     pub reads : OnlyReads old new
     pub caused : IfErr result (IsReadFault old new)
 
--- what reading a value leaves of the text that is left: what stands behind the value's own text.
--- Where the pages are said to be damaged or malformed, no such value's text stands there
-pub record Takes {V : Type 0} (text : V → List ℕ) (is_value : V → Type 0)
-    (old new : Option (List ℕ)) (result : Result V CatalogueFault) : Type 0
-  where
-    pub taken : IfOk result (λ v. is_value v × (old ≡ option_map (λ t. text v ++ t) new))
-    pub lacks : IfErr result (λ e. IsBroken e → (v : V) (t : List ℕ) → is_value v
-        → old ≢ Some (text v ++ t))
-
--- the same where the value is put somewhere
-pub record TakesInto {V T : Type 0} (text : V → List ℕ) (is_value is_put : V → Type 0)
-    (old new : Option (List ℕ)) (result : Result T CatalogueFault) : Type 0
-  where
-    pub taken : IfOk result
-        (λ _. (v : V) × is_put v × is_value v × (old ≡ option_map (λ t. text v ++ t) new))
-    pub lacks : IfErr result (λ e. IsBroken e → (v : V) (t : List ℕ) → is_value v
-        → old ≢ Some (text v ++ t))
-
--- what a call that reads a value leaves, and why it is refused
+-- what a call that reads a value leaves, and why it is refused: of the text that is left there remains what
+-- stands behind the value's own text; where the pages are said to be damaged or malformed, no such value's text
+-- stands there
 pub record ReadsValue {V : Type 0} (old new : Cache) (from to : ReaderView) (text : V → List ℕ)
     (is_value : V → Type 0) (result : Result V CatalogueFault) : Type 0
   where
-    pub takes : (at : ℕ → Option Payload) → Shows old at
-        → Takes text is_value (rest_of at from) (rest_of at to) result
+    pub taken : IfOk result (λ v. (at : ℕ → Option Payload) → Shows old at
+        → is_value v × (rest_of at from ≡ option_map (λ t. text v ++ t) (rest_of at to)))
+    pub lacks : IfErr result (λ e. (at : ℕ → Option Payload) → Shows old at → IsBroken e
+        → (v : V) (t : List ℕ) → is_value v → rest_of at from ≢ Some (text v ++ t))
     pub reads : OnlyReads old new
     pub caused : IfErr result (IsReadFault old new)
 
 -- the same where the value is put somewhere
-pub record ReadsInto {V T : Type 0} (old new : Cache) (from to : ReaderView) (text : V → List ℕ)
-    (is_value is_put : V → Type 0) (result : Result T CatalogueFault) : Type 0
+pub record ReadsInto {V : Type 0} (old new : Cache) (from to : ReaderView) (text : V → List ℕ)
+    (is_value is_put : V → Type 0) (result : Result (Unit {0}) CatalogueFault) : Type 0
   where
-    pub takes : (at : ℕ → Option Payload) → Shows old at
-        → TakesInto text is_value is_put (rest_of at from) (rest_of at to) result
-    pub reads : OnlyReads old new
-    pub caused : IfErr result (IsReadFault old new)
+    pub value : V
+    pub put : OnOk result (is_put value)
+    pub read : ReadsValue old new from to text is_value
+        (elim result [ Ok _ ↦ Ok value | Err e ↦ Err e ])

@@ -28,22 +28,22 @@ state_fault state =
     if state == unfinished_front.state then Some Unfinished
     else (if state == finished_front.state then None else Some Malformed)
 
--- with how page 0 begins, which is to be the header of a store of a version
+-- what is wrong with how page 0 begins: a finished store of that version is to be said there
 abbrev pub front_fault : ℕ → Option Front → Option CatalogueFault
 front_fault version None = Some Malformed
 front_fault version (Some front) =
     if front.version == version then state_fault front.state else Some Version
 
--- and of the present version
+-- what is wrong with page 0 as the header of a finished store of the present version
 unfoldable pub header_fault : Payload → Option CatalogueFault
 header_fault payload = front_fault finished_front.version (front_of payload)
 
--- with page 0: a store has one, and it has a payload
+-- what is wrong with the payload of page 0; that there is none is damage
 abbrev pub payload_fault : Option Payload → Option CatalogueFault
 payload_fault None = Some (Damaged 0)
 payload_fault (Some payload) = header_fault payload
 
--- with a store of so many pages, by page 0
+-- what is wrong with a store of so many pages, by page 0
 abbrev pub first_fault : ℕ → Option Payload → Option CatalogueFault
 first_fault count first = if nat_lt 0 count then payload_fault first else Some Malformed
 
@@ -51,38 +51,26 @@ first_fault count first = if nat_lt 0 count then payload_fault first else Some M
 abbrev pub IsStop : CatalogueFault → Type 0
 IsStop Memory = Unit {0}
 IsStop Store = Unit {0}
-IsStop StoreFull = ⊥
-IsStop (Damaged page) = ⊥
-IsStop Unfinished = ⊥
-IsStop Version = ⊥
-IsStop Malformed = ⊥
+IsStop _ = ⊥
 
 -- the store failed where that is said; a call that only reads says nothing of a full store
 abbrev pub IsReadingFault : StoreView → StoreView → CatalogueFault → Type 0
-IsReadingFault old new Memory = Unit {0}
 IsReadingFault old new Store = Faulted old new
 IsReadingFault old new StoreFull = ⊥
-IsReadingFault old new (Damaged page) = Unit {0}
-IsReadingFault old new Unfinished = Unit {0}
-IsReadingFault old new Version = Unit {0}
-IsReadingFault old new Malformed = Unit {0}
+IsReadingFault old new _ = Unit {0}
 
 -- what can be said where page 0 is right: neither its state nor its version
 abbrev pub IsBehindFirst : CatalogueFault → Type 0
-IsBehindFirst Memory = Unit {0}
-IsBehindFirst Store = Unit {0}
-IsBehindFirst StoreFull = Unit {0}
-IsBehindFirst (Damaged page) = Unit {0}
 IsBehindFirst Unfinished = ⊥
 IsBehindFirst Version = ⊥
-IsBehindFirst Malformed = Unit {0}
+IsBehindFirst _ = Unit {0}
 
 -- a fault of page 0 is answered, where there is one; memory and the store may stop before
 abbrev pub ComesFirst : Option CatalogueFault → CatalogueFault → Type 0
 ComesFirst (Some first) fault = (fault ≡ first) ⊎ IsStop fault
 ComesFirst None fault = IsBehindFirst fault
 
--- the tree is one of so many pages
+-- the tree has its root and its leaves among so many pages, and at most 32 levels
 pub record IsWithin (count : ℕ) (tree : TbTree) : Type 0 where
   pub root : tree.root < count
   pub leaves : tree.leaves ≤ count

@@ -1,11 +1,8 @@
 pub mod Text
 pub mod Chain
 pub mod ChainWriter
-pub mod ChainSteps
 pub mod ChainReader
 pub mod Saved
 pub mod Saving
 pub mod Lasting
 pub mod Restoring
-pub mod Building
-pub mod Summary

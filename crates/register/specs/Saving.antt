@@ -1,24 +1,30 @@
 -- A catalogue that is saved, and helpers of the private functions that save it.
-use Rattle.std.specs.Prelude.{ℕ, ◌≡◌, ◌≢◌, ◌<◌, ◌^◌, ◌++◌, List, [], map, take, drop, length, Option, Some, None, unwrap_or, slice_get, All, IsTrue, Result, OnOk, IfErr, ℤ, pos}
+use Rattle.std.specs.Prelude.{ℕ, ◌≡◌, ◌≢◌, ◌<◌, ◌≤◌, ◌^◌, ◌++◌, List, [], map, take, drop, length, Option, Some, None, unwrap_or, slice_get, All, IsTrue, Result, IsErrOf, OnOk, IfOk, IfErr, ℤ, pos}
+use Rattle.std.specs.Int.{div_ceil}
 use Rattle.std.specs.Option.{option_map}
 use Rattle.std.specs.List.{range_with_len}
 use Rattle.legs.specs.declared.head.BookHead.{BookHead}
 use Rattle.legs.specs.declared.tracks.Track.{Track}
 use Rattle.legs.specs.Tracks.{TracksView}
-use Rattle.pages.specs.Store.{Faulted}
+use Rattle.pages.specs.Store.{Faulted, IsSynced}
 use Rattle.pages.specs.declared.payload.Payload.{Payload}
-use Rattle.pagecache.specs.Cache.{Cache, Lends, payload_of}
-use Rattle.header.specs.Fields.{HasFields}
+use Rattle.pagecache.specs.Cache.{Cache, Lends, payload_of, IsWritten, KeepsPayloads, SameLength}
+use Rattle.chains.specs.Reads.{OnlyReads}
+use Rattle.header.specs.Fields.{FitsFields, HasFields}
+use Rattle.legs.specs.Limits.{IsLimits}
+use Rattle.tbtree.specs.Shape.{IsShape}
 use Rattle.header.specs.declared.header_fields.Fields.{Fields}
 use Rattle.tbtree.specs.Passes.{KeepsLength, Passes}
 use Rattle.tbtree.specs.Stands.{no_place}
 use Rattle.tbtree.specs.declared.tree.Place.{Place}
-use Rattle.register.specs.ChainWriter.{Holds, WriterView}
+use Rattle.register.specs.Chain.{most_used}
+use Rattle.register.specs.ChainWriter.{HasText, Holds, WriterView}
 use Rattle.register.specs.Saved.{head_of, CatalogueView, SparesTree}
+use Rattle.register.specs.Text.{catalogue_text, IsWhole}
 use Rattle.register.specs.declared.contents.Contents.{Contents}
 use Rattle.register.specs.declared.contents.Feature.{Feature}
 use Rattle.register.specs.declared.fault.CatalogueFault.{CatalogueFault}
-use Rattle.register.specs.declared.fault.CatalogueFault.TheVariants.{Memory, Store, StoreFull, Damaged, Unfinished, Version, Malformed}
+use Rattle.register.specs.declared.fault.CatalogueFault.TheVariants.{Memory, Store, StoreFull, Unfinished, Version}
 
 -- when a feature's last leg ends
 abbrev pub end_of : Option Track → ℤ
@@ -64,63 +70,88 @@ abbrev pub IsSavingStop : CatalogueFault → Type 0
 IsSavingStop Memory = Unit {0}
 IsSavingStop Store = Unit {0}
 IsSavingStop StoreFull = Unit {0}
-IsSavingStop (Damaged page) = ⊥
-IsSavingStop Unfinished = ⊥
-IsSavingStop Version = ⊥
-IsSavingStop Malformed = ⊥
+IsSavingStop _ = ⊥
 
 -- the store failed where that is said, and is full where that is said
 abbrev pub IsCaused : Cache → Cache → CatalogueFault → Type 0
-IsCaused old new Memory = Unit {0}
 IsCaused old new Store = Faulted old.store new.store
 IsCaused old new StoreFull = new.count ≡ new.store.most
-IsCaused old new (Damaged page) = Unit {0}
 IsCaused old new Unfinished = ⊥
 IsCaused old new Version = ⊥
-IsCaused old new Malformed = Unit {0}
+IsCaused old new _ = Unit {0}
 
 -- why not all is written
 abbrev pub IsNotWritten : Cache → Cache → CatalogueFault → Type 0
 IsNotWritten old new Memory = Unit {0}
 IsNotWritten old new Store = Faulted old.store new.store
-IsNotWritten old new StoreFull = ⊥
-IsNotWritten old new (Damaged page) = ⊥
-IsNotWritten old new Unfinished = ⊥
-IsNotWritten old new Version = ⊥
-IsNotWritten old new Malformed = ⊥
+IsNotWritten old new _ = ⊥
 
--- these bytes are put at the end of a text, of which some pages may be written
-pub record Puts (bytes : List ℕ) (old new : Cache) (w v : WriterView)
+-- these bytes are put at the end of a text, of which some pages may be written; what is whole then,
+-- and why it is refused where there are few enough
+pub record Puts (bytes : List ℕ) (are_few is_whole : Type 0) (old new : Cache) (w v : WriterView)
     (result : Result (Unit {0}) CatalogueFault) : Type 0 where
   pub passes : Passes old new
   pub holds : OnOk result ((text : List ℕ) → Holds old w text → Holds new v (text ++ bytes))
   pub length : OnOk result (KeepsLength old new)
   pub tree : (text : List ℕ) → Holds old w text → SparesTree old new
+  pub whole : OnOk result is_whole
+  pub only : are_few → (text : List ℕ) → Holds old w text → IsTrue old.store.is_faithful
+      → IfErr result IsSavingStop
   pub caused : IfErr result (IsCaused old new)
 
--- and they are refused for want of memory or by the store alone
-pub record Saves (bytes : List ℕ) (old new : Cache) (w v : WriterView)
-    (result : Result (Unit {0}) CatalogueFault) : Type 0 where
-  pub puts : Puts bytes old new w v result
-  pub only : (text : List ℕ) → Holds old w text → IsTrue old.store.is_faithful
-      → IfErr result IsSavingStop
+-- the text of a catalogue is put into a chain of pages: its first page, and its length
+pub record PutsText (c : CatalogueView) (places : List Place) (old new : Cache)
+    (result : Result (ℕ × ℕ) CatalogueFault) : Type 0 where
+  pub passes : Passes old new
+  pub tree : SparesTree old new
+  pub length : OnOk result (KeepsLength old new)
+  pub text : IfOk result (λ r. IsTrue old.store.is_faithful
+      → HasText new r.1 r.0 (catalogue_text (contents_of c places))
+      × (div_ceil r.1 most_used ≤ new.count))
+  pub whole : OnOk result (IsCatalogue c → IsWhole (contents_of c places))
+  pub only : HasFew c → IsTrue old.store.is_faithful → IfErr result IsSavingStop
+  pub caused : IfErr result (IsCaused old new)
+
+-- what writing all that is changed to the store leaves, and why it is refused
+pub record WritesAll (old new : Cache) (result : Result (Unit {0}) CatalogueFault) : Type 0 where
+  -- after `Ok` no page is changed, and the store's pages seal the payloads
+  pub written : OnOk result (IsWritten new)
+  -- after `Ok` every page is synced, and no sync of the store ever failed
+  pub synced : OnOk result (IsSynced new.store)
+  -- no payload changes, on an error too
+  pub stays : KeepsPayloads old new
+  -- the store has as many pages as before
+  pub length : SameLength old new
+  -- no page is asked for
+  pub asked : new.asked ≡ old.asked
+  -- no page that was not changed is written
+  pub reads : OnlyReads old new
+  -- if memory runs out, the cache is as it was
+  pub memory : IsErrOf result Memory → new ≡ old
+  -- it fails only if memory runs out, or the store failed
+  pub caused : IfErr result (IsNotWritten old new)
 
 -- page 0 has a payload
 abbrev pub HasPageZero : Cache → Type 0
 HasPageZero c = IsTrue c.store.is_faithful → payload_of c 0 ≢ None
 
--- page 0 says these fields, and begins and ends as it did; no other page has another payload
+-- page 0 says these fields, which fit, and begins and ends as it did; no other page has another payload
 pub record PutsFields (fields : Fields) (old new : Cache) : Type 0 where
   pub was : Payload
   pub now : Payload
   pub before : IsTrue old.store.is_faithful → payload_of old 0 ≡ Some was
   pub lends : Lends 0 now old new
   pub has : HasFields now fields
+  pub fits : FitsFields fields
+  pub shape : IsShape fields.shape
+  pub limits : IsLimits fields.limits
   pub kind : now.kind ≡ was.kind
   pub front : take 12 now.bytes ≡ take 12 was.bytes
   pub rest : drop 60 now.bytes ≡ drop 60 was.bytes
 
--- whatever is answered: page 0 is as it was, and the pages of a tree say what they said
-pub record KeepsTree (old new : Cache) : Type 0 where
-  pub passes : Passes old new
-  pub tree : SparesTree old new
+-- why page 0 is not lent
+pub record RefusesFirst {T : Type 0} (old new : Cache) (result : Result T CatalogueFault) : Type 0
+  where
+    pub only : IsTrue old.store.is_faithful → 0 < old.count → HasPageZero old
+        → IfErr result IsSavingStop
+    pub caused : IfErr result (IsCaused old new)

@@ -25,8 +25,7 @@ column_text column = short_text column.name ++ short_text column.kind
 abbrev pub columns_text : List Column → List ℕ
 columns_text columns = big_bytes 8 (length columns) ++ flat_map column_text columns
 
--- the head of the first accepted file, but for its dimension: the base, the CRS, and the attribute
--- columns
+-- the CRS and the attribute columns of the first accepted file
 abbrev pub space_text : Space → List ℕ
 space_text space = short_text space.crs ++ columns_text space.columns
 
@@ -50,7 +49,7 @@ feature_text feature = short_text feature.name ++ kept_text feature.kept
 abbrev pub row_text : List (List ℕ) → List ℕ
 row_text row = flat_map short_text row
 
--- the features, and the rows, behind their number
+-- the number of features, and each feature
 abbrev pub features_bytes : List Feature → List ℕ
 features_bytes features = big_bytes 4 (length features) ++ flat_map feature_text features
 
@@ -66,7 +65,7 @@ lists_text lists = features_bytes lists.features ++ rows_text lists.rows
 abbrev pub contents_text : Contents → List ℕ
 contents_text contents = head_text contents.head ++ lists_text contents.lists
 
--- the whole text: a byte that says whether a file was accepted, and what is kept of it
+-- the first byte of the text: 1 where a file was accepted, else 0
 abbrev pub flag_of : Option Contents → ℕ
 flag_of None = 0
 flag_of (Some contents) = 1
@@ -80,7 +79,7 @@ body_text (Some contents) = contents_text contents
 abbrev pub catalogue_text : Option Contents → List ℕ
 catalogue_text contents = flag_of contents ∷ body_text contents
 
--- numbers that fit into so many bits, and texts that fit into a number of bytes
+-- a number of so many bits
 abbrev pub IsNumber : ℕ → ℕ → Type 0
 IsNumber bits n = n < 2 ^ bits
 
@@ -93,7 +92,7 @@ pub record IsShortText (text : List ℕ) : Type 0 where
   pub utf8 : IsUtf8 text
   pub short : length text < 2 ^ 64
 
--- what fits into such a text
+-- a column whose name and type fit into the text
 pub record IsColumn (column : Column) : Type 0 where
   pub name : IsShortText column.name
   pub kind : IsShortText column.kind
@@ -115,45 +114,24 @@ pub record IsFeature (feature : Feature) : Type 0 where
   pub name : IsShortText feature.name
   pub kept : FitsKept feature.kept
 
+-- so many values, each of which is such
+pub record AreMany {V : Type 0} (ok : V → Type 0) (count : ℕ) (values : List V) : Type 0 where
+  pub each : All ok values
+  pub many : length values ≡ count
+
+-- values of which each is such, and whose number fits into so many bits
+pub record AreCounted {V : Type 0} (ok : V → Type 0) (bits : ℕ) (values : List V) : Type 0 where
+  pub each : All ok values
+  pub few : IsNumber bits (length values)
+
 -- a row of so many values
-pub record IsRow (columns : ℕ) (row : List (List ℕ)) : Type 0 where
-  pub each : All IsShortText row
-  pub many : length row ≡ columns
+abbrev pub IsRow : ℕ → List (List ℕ) → Type 0
+IsRow columns = AreMany IsShortText columns
 
--- so many columns, features and rows
-pub record AreColumns (count : ℕ) (columns : List Column) : Type 0 where
-  pub each : All IsColumn columns
-  pub many : length columns ≡ count
-
--- that many features, which fit into the text
-pub record AreFeatures (count : ℕ) (features : List Feature) : Type 0 where
-  pub each : All IsFeature features
-  pub many : length features ≡ count
-
--- that many rows, which fit into the text
-pub record AreRows (columns count : ℕ) (rows : List (List (List ℕ))) : Type 0 where
-  pub each : All (IsRow columns) rows
-  pub many : length rows ≡ count
-
--- and behind their number
-pub record HasColumns (columns : List Column) : Type 0 where
-  pub each : All IsColumn columns
-  pub few : IsNumber 64 (length columns)
-
--- features that fit into the text, and their number too
-pub record HasFeatures (features : List Feature) : Type 0 where
-  pub each : All IsFeature features
-  pub few : IsNumber 32 (length features)
-
--- rows that fit into the text, and their number too
-pub record HasRows (columns : ℕ) (rows : List (List (List ℕ))) : Type 0 where
-  pub each : All (IsRow columns) rows
-  pub few : IsNumber 32 (length rows)
-
--- what fits into a whole text: each row has a value for each column
+-- a CRS and columns that fit into the text
 pub record IsSpace (space : Space) : Type 0 where
   pub crs : IsShortText space.crs
-  pub columns : HasColumns space.columns
+  pub columns : AreCounted IsColumn 64 space.columns
 
 -- a head that fits into the text
 pub record IsHead (head : CatalogueHead) : Type 0 where
@@ -162,8 +140,8 @@ pub record IsHead (head : CatalogueHead) : Type 0 where
 
 -- features and rows that fit into the text
 pub record AreLists (columns : ℕ) (lists : Lists) : Type 0 where
-  pub features : HasFeatures lists.features
-  pub rows : HasRows columns lists.rows
+  pub features : AreCounted IsFeature 32 lists.features
+  pub rows : AreCounted (IsRow columns) 32 lists.rows
 
 -- contents that fit into the text, each row with a value for each column
 pub record AreContents (contents : Contents) : Type 0 where
@@ -181,20 +159,10 @@ leg_sum features = sum_by (λ f. f.kept.place.legs) features
 
 -- Helpers of private functions: what is read of a text.
 
--- no more rows than that
-pub record AreFewRows (columns most : ℕ) (rows : List (List (List ℕ))) : Type 0 where
-  pub has : HasRows columns rows
-  pub few : length rows ≤ most
-
 -- no more legs than that, and no more rows than legs
 pub record HasFewLegs (most : ℕ) (lists : Lists) : Type 0 where
   pub legs : leg_sum lists.features ≤ most
   pub rows : length lists.rows ≤ leg_sum lists.features
-
--- features and rows that are read
-pub record AreRead (columns most : ℕ) (lists : Lists) : Type 0 where
-  pub are : AreLists columns lists
-  pub few : HasFewLegs most lists
 
 -- a whole text that is read
 abbrev pub AreFew : ℕ → Option Contents → Type 0
@@ -205,8 +173,3 @@ AreFew most (Some contents) = HasFewLegs most contents.lists
 pub record IsRead (most : ℕ) (contents : Option Contents) : Type 0 where
   pub whole : IsWhole contents
   pub few : AreFew most contents
-
--- what stands behind its first byte
-pub record IsBody (most flag : ℕ) (contents : Option Contents) : Type 0 where
-  pub read : IsRead most contents
-  pub flag_is : flag_of contents ≡ flag

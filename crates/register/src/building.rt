@@ -1,11 +1,11 @@
 //! A catalogue that is made of what its text says.
-ghost use Rattle.std.specs.Prelude.{List, ◌≡◌, ◌≢◌, ◌≤◌, ◌<◌, ◌-◌, ◌↔◌, [], length, All, IsTrue, IfOk, IfErr, IfSome, OnOk, None, Some};
+ghost use Rattle.std.specs.Prelude.{List, ◌≡◌, ◌≢◌, ◌≤◌, ◌<◌, ◌-◌, ◌↔◌, [], length, All, IsTrue, None, Some};
 ghost use Rattle.timebase.specs.Instant.{IsMoment};
 ghost use Rattle.legs.specs.Law.{IsName};
 ghost use Rattle.legs.specs.Limits.{IsLimits};
 ghost use Rattle.legs.specs.declared.head.BookHead.{BookHead};
-ghost use Rattle.register.specs.Building.{number_of, tree_of, AddsFeature, AreLawful, IsKnown, IsOf};
-ghost use Rattle.register.specs.ChainReader.{IsBroken, IsTextFault};
+ghost use Rattle.register.specs.Restoring.{number_of, tree_of, AddsFeature, AreLawful, IsKnown, IsOf};
+ghost use Rattle.register.specs.ChainReader.{Finds, Makes};
 ghost use Rattle.register.specs.Lasting.{IsLawfulFeature, IsWithin};
 ghost use Rattle.register.specs.Saved.{dimensions_of, head_of, CatalogueView};
 ghost use Rattle.tbtree.specs.declared.tree.Place.{Place};
@@ -47,9 +47,9 @@ fn is_place(count: u32, place: &Place) -> bool
 
 /// The track of a feature that is lawful among so many pages.
 fn track_of(count: u32, feature: &Feature) -> Option<Track>
-    ensures some { IfSome result (λ track. IsLawfulFeature count feature.now
-        × (track.end ≡ feature.now.kept.end) × (track.legs ≡ feature.now.kept.place.legs)) }
-    ensures none { result ≡ None → IsLawfulFeature count feature.now → ⊥ }
+    ensures { Finds (λ track. IsLawfulFeature count feature.now
+        × (track.end ≡ feature.now.kept.end) × (track.legs ≡ feature.now.kept.place.legs))
+        (IsLawfulFeature count feature.now → ⊥) result }
 {
     let place = &feature.kept.place;
     if !is_name(feature.name.as_str()) || !is_place(count, place) {
@@ -64,10 +64,9 @@ fn track_of(count: u32, feature: &Feature) -> Option<Track>
 
 /// Adds a feature that is lawful among so many pages, and has a name of its own.
 fn add_feature(known: &mut Known, count: u32, feature: Feature) -> Result<(), CatalogueFault>
-    ensures added { OnOk result (AddsFeature count feature known.old known.new) }
-    ensures broken { IfErr result (λ e. IsBroken e → IsLawfulFeature count feature
-        → All (λ n. n ≢ feature.name) known.old.tracks.names → ⊥) }
-    ensures fault { IfErr result IsTextFault }
+    ensures { Makes (λ _. AddsFeature count feature known.old known.new)
+        (IsLawfulFeature count feature
+        → All (λ n. n ≢ feature.name) known.old.tracks.names → ⊥) result }
 {
     let Some(track) = track_of(count, &feature) else {
         return Err(CatalogueFault::Malformed);
@@ -86,9 +85,7 @@ fn known_of(
     count: u32,
     features: Features,
 ) -> Result<Known, CatalogueFault>
-    ensures known { IfOk result (λ known. IsKnown count features known) }
-    ensures broken { IfErr result (λ e. IsBroken e → AreLawful count features → ⊥) }
-    ensures fault { IfErr result IsTextFault }
+    ensures { Makes (IsKnown count features) (AreLawful count features → ⊥) result }
 {
     let mut known = Known {
         tracks: Tracks::new(alloc, keys)?,
@@ -102,8 +99,7 @@ fn known_of(
 
 /// How many dimensions a database has, by their number.
 fn dimension_from(dimension: u32) -> Option<Dimension>
-    ensures some { IfSome result (λ d. dimension ≡ number_of d) }
-    ensures none { result ≡ None → (dimension ≢ 2) × (dimension ≢ 3) }
+    ensures { Finds (λ d. dimension ≡ number_of d) ((dimension ≢ 2) × (dimension ≢ 3)) result }
 {
     if dimension == 2 {
         return Some(Dimension::Two);
@@ -117,10 +113,9 @@ fn dimension_from(dimension: u32) -> Option<Dimension>
 /// The head of the first accepted file, where its base is a moment, and there are 2 or 3
 /// dimensions.
 pub(crate) fn head_from(head: CatalogueHead, dimension: u32) -> Option<BookHead>
-    ensures some { IfSome result (λ h. (head_of h ≡ head) × (dimensions_of (Some h) ≡ dimension)
-        × IsMoment h.base) }
-    ensures none { result ≡ None → (h : BookHead) → IsMoment h.base → head_of h ≡ head
-        → dimensions_of (Some h) ≡ dimension → ⊥ }
+    ensures { Finds (λ h. (head_of h ≡ head) × (dimensions_of (Some h) ≡ dimension)
+        × IsMoment h.base) ((h : BookHead) → IsMoment h.base → head_of h ≡ head
+        → dimensions_of (Some h) ≡ dimension → ⊥) result }
 {
     let base = Ms::new(head.base)?;
     let dimension = dimension_from(dimension)?;
@@ -162,10 +157,9 @@ fn empty_catalogue(
     count: u32,
     fields: &Fields,
 ) -> Result<(Catalogue, Vec<Place>), CatalogueFault>
-    ensures is { IfOk result (λ r. IsOf count fields.now None r.0 r.1.items) }
-    ensures broken { IfErr result (λ e. IsBroken e → (c : CatalogueView) (places : List Place)
-        → IsOf count fields.now None c places → ⊥) }
-    ensures fault { IfErr result IsTextFault }
+    ensures { Makes (λ r. IsOf count fields.now None r.0 r.1.items)
+        ((c : CatalogueView) (places : List Place) → IsOf count fields.now None c places → ⊥)
+        result }
 {
     if fields.dimension != 2 {
         return Err(CatalogueFault::Malformed);
@@ -187,10 +181,9 @@ fn whole_catalogue(
     fields: &Fields,
     contents: Contents,
 ) -> Result<(Catalogue, Vec<Place>), CatalogueFault>
-    ensures is { IfOk result (λ r. IsOf count fields.now (Some contents) r.0 r.1.items) }
-    ensures broken { IfErr result (λ e. IsBroken e → (c : CatalogueView) (places : List Place)
-        → IsOf count fields.now (Some contents) c places → ⊥) }
-    ensures fault { IfErr result IsTextFault }
+    ensures { Makes (λ r. IsOf count fields.now (Some contents) r.0 r.1.items)
+        ((c : CatalogueView) (places : List Place)
+        → IsOf count fields.now (Some contents) c places → ⊥) result }
 {
     let Contents { head, lists } = contents;
     let Lists { features, rows } = lists;
@@ -225,13 +218,11 @@ pub fn catalogue_of(
     fields: &Fields,
     contents: Option<Contents>,
 ) -> Result<(Catalogue, Vec<Place>), CatalogueFault>
-    // It returns the lawful catalogue and the places that page 0 and the text say.
-    ensures is { IfOk result (λ r. IsOf count fields.now contents r.0 r.1.items) }
-    // If it fails for another reason than memory, page 0 and the text say none.
-    ensures broken { IfErr result (λ e. IsBroken e → (c : CatalogueView) (places : List Place)
-        → IsOf count fields.now contents c places → ⊥) }
-    // It fails only if memory runs out, or with `Malformed`.
-    ensures fault { IfErr result IsTextFault }
+    // It returns the lawful catalogue and the places that page 0 and the text say. If it fails for
+    // another reason than memory, they say none.
+    ensures { Makes (λ r. IsOf count fields.now contents r.0 r.1.items)
+        ((c : CatalogueView) (places : List Place) → IsOf count fields.now contents c places → ⊥)
+        result }
 {
     match contents {
         None => empty_catalogue(alloc, keys, count, fields),

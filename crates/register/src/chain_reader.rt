@@ -1,6 +1,5 @@
 //! A text that is read from a chain of pages.
-ghost use Rattle.std.specs.Prelude.{◌≡◌, ◌+◌, ◌-◌, ◌<◌, ◌≤◌, min, Option, ℕ, length, IfErr, OnErr, OnOk, None, [], drop, take};
-ghost use Rattle.pages.specs.declared.payload.Payload.{Payload};
+ghost use Rattle.std.specs.Prelude.{◌≡◌, ◌<◌, ◌≤◌, length, IfErr, OnErr, OnOk, None, [], drop, take};
 ghost use Rattle.register.specs.Chain.{is_part};
 ghost use Rattle.register.specs.ChainReader.{fault_of};
 
@@ -76,8 +75,7 @@ impl Model for ChainReader {
 }
 
 impl ChainReader {
-    ghost use Rattle.chains.specs.Reads.{OnlyReads};
-    ghost use Rattle.register.specs.ChainReader.{rest_of, IsBroken, IsPageFault, IsReadFault, ReadsAhead, Shows, TakesPart};
+    ghost use Rattle.register.specs.ChainReader.{IsPageFault, IsShorter, ReadsAhead, TakesPart};
 
     /// Reads a text of that length from the chain that begins with a page.
     pub fn new(alloc: Global, first: u32, length: u64) -> ChainReader
@@ -149,13 +147,8 @@ impl ChainReader {
     /// pages of most chains follow one another.
     fn load<S: PageStore>(&mut self, cache: &mut PageCache<S>) -> Result<(), CatalogueFault>
         requires { 0 < self.old.left }
-        ensures same { OnOk result ((at : ℕ → Option Payload) → Shows cache.old at
-            → rest_of at self.new ≡ rest_of at self.old) }
-        ensures left { OnOk result (self.new.left < self.old.left) }
-        ensures broken { IfErr result (λ e. (at : ℕ → Option Payload) → Shows cache.old at
-            → IsBroken e → rest_of at self.old ≡ None) }
-        ensures reads { OnlyReads cache.old cache.new }
-        ensures caused { IfErr result (IsReadFault cache.old cache.new) }
+        ensures { ReadsAhead cache.old cache.new self.old self.new (self.new.left < self.old.left)
+            (λ rest. rest ≡ None) result }
     {
         let next = behind(self.next);
         match cache.page_ahead(self.next, &next[..self.pages_behind()]) {
@@ -170,7 +163,8 @@ impl ChainReader {
         cache: &mut PageCache<S>,
         len: usize,
     ) -> Result<(), CatalogueFault>
-        ensures { ReadsAhead cache.old cache.new self.old self.new len result }
+        ensures { ReadsAhead cache.old cache.new self.old self.new (len ≤ length self.new.bytes)
+            (IsShorter len) result }
     {
         while self.bytes.len() - self.taken < len {
             if self.left == 0 {

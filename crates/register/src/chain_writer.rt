@@ -2,14 +2,11 @@
 ghost use Rattle.std.specs.Prelude.{ℕ, ◌≡◌, ◌+◌, ◌<◌, ◌≤◌, ◌++◌, [], false, length, List, nat_eq, All, OnOk, OnErr, IfOk, IfErr, IfSome, IsTrue, ◌↔◌, None, Some};
 ghost use Rattle.pages.specs.declared.payload.Kind.TheVariants.{Catalogue};
 ghost use Rattle.pages.specs.Zero.{zero_payload};
-ghost use Rattle.pagecache.specs.Cache.{payload_of, Adds, AsksOnce, IsNotAdded, IsRefused, Lends, Rests, KeepsPayloads};
-ghost use Rattle.tbtree.specs.Passes.{Passes, KeepsLength};
+ghost use Rattle.pagecache.specs.Cache.{payload_of, AddsPage, IsRefused, Lends, Rests};
 ghost use Rattle.indexmap.specs.IndexSet.{insert_key, contains, spare};
 ghost use Rattle.pages.specs.declared.payload.Payload.{Payload};
 ghost use Rattle.register.specs.Chain.{part_payload};
-ghost use Rattle.register.specs.ChainSteps.{AreNumbers, Fills, IsNumber, IsPutBehind, Gives, IsThere, OnlyAsks, PayloadsStay};
-ghost use Rattle.register.specs.Saved.{SparesTree};
-ghost use Rattle.register.specs.ChainWriter.{IsAllowed, IsCaused};
+ghost use Rattle.register.specs.ChainWriter.{AreNumbers, Fills, IsNumber, IsPutBehind, Gives, IsThere, OnlyAsks, PayloadsStay, TakesPages, IsAllowed, IsCaused};
 
 use crate::chain_reader::MOST_USED;
 use indexmap::IndexSet;
@@ -36,8 +33,7 @@ pub(crate) struct ChainWriter {
 }
 
 impl Model for ChainWriter {
-    ghost use Rattle.register.specs.ChainSteps.{AreNumbers};
-    ghost use Rattle.register.specs.ChainWriter.{WriterView};
+    ghost use Rattle.register.specs.ChainWriter.{AreNumbers, WriterView};
 
     ghost Value = { WriterView };
 
@@ -66,7 +62,6 @@ fn has_payload<S: PageStore>(
 ) -> Result<bool, CacheFault>
     ensures same { IfOk result (λ same. IsTrue cache.old.store.is_faithful
         → IsTrue same ↔ (payload_of cache.old page ≡ Some payload.now)) }
-    ensures below { OnOk result (page < cache.old.count) }
     ensures rests { Rests cache.old cache.new }
     ensures refused { IfErr result (λ fault. IsRefused page fault cache.old cache.new) }
 {
@@ -97,7 +92,6 @@ fn write_page<S: PageStore>(
 ) -> Result<(), CacheFault>
     requires { length text.now ≤ 4040 }
     ensures writes { OnOk result (Fills page (part_payload next text.now) cache.old cache.new) }
-    ensures below { OnOk result (page < cache.old.count) }
     ensures rests { OnErr result (OnlyAsks cache.old cache.new) }
     ensures refused { IfErr result (λ fault. IsRefused page fault cache.old cache.new) }
 {
@@ -136,12 +130,8 @@ fn following<S: PageStore>(cache: &mut PageCache<S>, page: u32) -> Result<Option
 /// Adds page 0, which is the header's, where there is no page.
 fn add_first<S: PageStore>(cache: &mut PageCache<S>) -> Result<(), CacheFault>
     ensures some { OnOk result (0 < cache.new.count) }
-    ensures passes { Passes cache.old cache.new }
-    ensures tree { SparesTree cache.old cache.new }
-    ensures length { OnOk result (KeepsLength cache.old cache.new) }
     ensures stay { PayloadsStay cache.old cache.new }
-    ensures only { IfErr result IsAllowed }
-    ensures caused { IfErr result (IsCaused cache.old cache.new) }
+    ensures takes { TakesPages cache.old cache.new result }
 {
     if cache.count() > 0 {
         return Ok(());
@@ -153,14 +143,7 @@ fn add_first<S: PageStore>(cache: &mut PageCache<S>) -> Result<(), CacheFault>
 /// Adds a page of zeros, which is sealed once it has its bytes of the text, where it is still in
 /// memory by then.
 fn add_zeros<S: PageStore>(cache: &mut PageCache<S>) -> Result<u32, CacheFault>
-    ensures adds { OnOk result (Adds (zero_payload Catalogue) cache.old cache.new) }
-    ensures number { IfOk result (λ number. number ≡ cache.old.count) }
-    ensures none_before { payload_of cache.old cache.old.count ≡ None }
-    ensures length { OnOk result (cache.old.count ≡ cache.old.store.count
-        → cache.new.count ≡ cache.new.store.count) }
-    ensures refused { OnErr result (KeepsPayloads cache.old cache.new) }
-    ensures asks { AsksOnce cache.old cache.new }
-    ensures cause { IfErr result (λ fault. IsNotAdded fault cache.old cache.new) }
+    ensures { AddsPage (zero_payload Catalogue) cache.old cache.new result }
 {
     cache.add_changed(Payload::zero(Kind::Catalogue))
 }
@@ -169,10 +152,7 @@ fn add_zeros<S: PageStore>(cache: &mut PageCache<S>) -> Result<u32, CacheFault>
 fn add_above<S: PageStore>(cache: &mut PageCache<S>) -> Result<u32, CacheFault>
     ensures gives { IfOk result (λ page. Gives cache.old page cache.new) }
     ensures new { IfOk result (λ page. cache.old.count ≤ page) }
-    ensures passes { Passes cache.old cache.new }
-    ensures tree { SparesTree cache.old cache.new }
-    ensures only { IfErr result IsAllowed }
-    ensures caused { IfErr result (IsCaused cache.old cache.new) }
+    ensures takes { TakesPages cache.old cache.new result }
 {
     add_first(cache)?;
     let page = add_zeros(cache)?;
@@ -186,16 +166,11 @@ fn reused<S: PageStore>(
     earlier: u32,
     cache: &mut PageCache<S>,
 ) -> Result<Option<u32>, CacheFault>
-    ensures above { IfOk result (λ o. IfSome o (λ next. 0 < earlier)) }
     ensures apart { IfOk result (λ o. IfSome o (λ next.
         contains nat_eq pages.now earlier ≡ false)) }
     ensures gives { IfOk result (λ o. IfSome o (λ next. Gives cache.old earlier cache.new)) }
-    ensures length { KeepsLength cache.old cache.new }
     ensures stay { PayloadsStay cache.old cache.new }
-    ensures passes { Passes cache.old cache.new }
-    ensures tree { SparesTree cache.old cache.new }
-    ensures only { IfErr result IsAllowed }
-    ensures caused { IfErr result (IsCaused cache.old cache.new) }
+    ensures takes { TakesPages cache.old cache.new result }
 {
     if earlier == 0 || pages.contains(&earlier) {
         return Ok(None);
@@ -213,10 +188,7 @@ fn next_page<S: PageStore>(
     ensures gives { IfOk result (λ r. Gives cache.old r.0 cache.new) }
     ensures apart { IfOk result (λ r. All (λ p. p < cache.old.count) pages.now.keys
         → contains nat_eq pages.now r.0 ≡ false) }
-    ensures passes { Passes cache.old cache.new }
-    ensures tree { SparesTree cache.old cache.new }
-    ensures only { IfErr result IsAllowed }
-    ensures caused { IfErr result (IsCaused cache.old cache.new) }
+    ensures takes { TakesPages cache.old cache.new result }
 {
     match reused(pages, earlier, cache)? {
         Some(next) => Ok((earlier, next)),
@@ -247,10 +219,7 @@ fn take_page<S: PageStore>(
         → IsPutBehind pages.old.keys r.0 pages.new.keys) }
     ensures numbers { OnOk result (All IsNumber pages.old.keys → AreNumbers pages.new.keys) }
     ensures same { OnErr result (pages.new.keys ≡ pages.old.keys) }
-    ensures passes { Passes cache.old cache.new }
-    ensures tree { SparesTree cache.old cache.new }
-    ensures only { IfErr result IsAllowed }
-    ensures caused { IfErr result (IsCaused cache.old cache.new) }
+    ensures takes { TakesPages cache.old cache.new result }
 {
     if pages.reserve(1).is_err() {
         return Err(CacheFault::Memory);
@@ -262,12 +231,7 @@ fn take_page<S: PageStore>(
 
 impl ChainWriter {
     ghost use Rattle.std.specs.Prelude.{List, ℕ, [], All, ◌≡◌, ◌+◌, ◌-◌, ◌*◌, ◌<◌, ◌≤◌, ◌++◌, OnOk, OnErr, IfOk, IfErr, IsTrue, length, slice_index};
-    ghost use Rattle.std.specs.Int.{div_ceil};
-    ghost use Rattle.tbtree.specs.Passes.{Passes, KeepsLength};
-    ghost use Rattle.register.specs.Chain.{most_used};
-    ghost use Rattle.register.specs.ChainSteps.{behind, IsNumber};
-    ghost use Rattle.register.specs.Saved.{SparesTree};
-    ghost use Rattle.register.specs.ChainWriter.{HasText, Holds, IsAllowed, IsCaused};
+    ghost use Rattle.register.specs.ChainWriter.{behind, Closes, IsNumber, TakesPages, WritesOn, Holds};
 
     /// A writer of a text, to an earlier chain that begins at that page, 0 for none. The numbers of
     /// pages are hashed with the keys.
@@ -278,12 +242,7 @@ impl ChainWriter {
         earlier: u32,
     ) -> Result<ChainWriter, CacheFault>
         ensures holds { IfOk result (λ w. Holds cache.new w []) }
-        ensures text { IfOk result (λ w. w.text ≡ []) }
-        ensures passes { Passes cache.old cache.new }
-        ensures length { OnOk result (KeepsLength cache.old cache.new) }
-        ensures tree { SparesTree cache.old cache.new }
-        ensures only { IsTrue cache.old.store.is_faithful → IfErr result IsAllowed }
-        ensures caused { IfErr result (IsCaused cache.old cache.new) }
+        ensures takes { TakesPages cache.old cache.new result }
     {
         let mut pages = IndexSet::with_hasher(alloc, keys);
         let (_, next) = take_page(&mut pages, earlier, cache)?;
@@ -296,9 +255,8 @@ impl ChainWriter {
 
     /// Puts bytes at the end of the text.
     pub(crate) fn push(&mut self, bytes: &[u8]) -> Result<(), AllocError>
-        ensures ok { OnOk result (self.new
+        ensures { OnOk result (self.new
             ≡ record self.old { text = self.old.text ++ bytes.now }) }
-        ensures err { OnErr result (self.new ≡ self.old) }
     {
         self.text.extend_from_slice(bytes)
     }
@@ -331,13 +289,7 @@ impl ChainWriter {
         ensures text { self.new.text ≡ self.old.text }
         ensures holds { OnOk result ((text : List ℕ) → Holds cache.old (behind done self.old) text
             → Holds cache.new (behind (done + 4040) self.new) text) }
-        ensures passes { Passes cache.old cache.new }
-        ensures length { OnOk result (KeepsLength cache.old cache.new) }
-        ensures tree { (text : List ℕ) → Holds cache.old (behind done self.old) text
-            → SparesTree cache.old cache.new }
-        ensures only { (text : List ℕ) → Holds cache.old (behind done self.old) text
-            → IsTrue cache.old.store.is_faithful → IfErr result IsAllowed }
-        ensures caused { IfErr result (IsCaused cache.old cache.new) }
+        ensures writes { WritesOn cache.old cache.new (behind done self.old) result }
     {
         let last = self.last();
         let (page, next) = take_page(&mut self.pages, self.earlier, cache)?;
@@ -360,13 +312,7 @@ impl ChainWriter {
         ensures holds { OnOk result ((text : List ℕ) → Holds cache.old self.old text
             → Holds cache.new self.new text) }
         ensures short { OnOk result (length self.new.text ≤ 4040) }
-        ensures passes { Passes cache.old cache.new }
-        ensures length { OnOk result (KeepsLength cache.old cache.new) }
-        ensures tree { (text : List ℕ) → Holds cache.old self.old text
-            → SparesTree cache.old cache.new }
-        ensures only { (text : List ℕ) → Holds cache.old self.old text
-            → IsTrue cache.old.store.is_faithful → IfErr result IsAllowed }
-        ensures caused { IfErr result (IsCaused cache.old cache.new) }
+        ensures writes { WritesOn cache.old cache.new self.old result }
     {
         let len = self.left();
         let mut done = 0;
@@ -390,7 +336,6 @@ impl ChainWriter {
     /// The first page.
     fn first(&self) -> u32
         ensures first { result ≡ slice_index self.now.pages 0 }
-        ensures above { 0 < result }
         ensures small { All IsNumber self.now.pages }
     {
         self.pages.as_slice()[0]
@@ -398,19 +343,7 @@ impl ChainWriter {
     /// Writes the last page, and answers the first one and the length of the text.
     fn close<S: PageStore>(&self, cache: &mut PageCache<S>) -> Result<(u32, u64), CacheFault>
         requires { length self.now.text ≤ 4040 }
-        ensures text { IfOk result (λ r. (text : List ℕ) → Holds cache.old self.now text
-            → 0 < length text
-            → IsTrue cache.old.store.is_faithful
-            → HasText cache.new r.1 r.0 text
-            × (r.1 ≡ length text) × (0 < r.0) × (r.0 < cache.new.count)
-            × (div_ceil r.1 most_used ≤ cache.new.count)) }
-        ensures passes { Passes cache.old cache.new }
-        ensures length { OnOk result (KeepsLength cache.old cache.new) }
-        ensures tree { (text : List ℕ) → Holds cache.old self.now text
-            → SparesTree cache.old cache.new }
-        ensures only { (text : List ℕ) → Holds cache.old self.now text
-            → IsTrue cache.old.store.is_faithful → IfErr result IsAllowed }
-        ensures caused { IfErr result (IsCaused cache.old cache.new) }
+        ensures { Closes cache.old cache.new self.now result }
     {
         let last = self.last();
         write_page(cache, last, 0, &self.text)?;
@@ -423,19 +356,7 @@ impl ChainWriter {
         mut self,
         cache: &mut PageCache<S>,
     ) -> Result<(u32, u64), CacheFault>
-        ensures text { IfOk result (λ r. (text : List ℕ) → Holds cache.old self text
-            → 0 < length text
-            → IsTrue cache.old.store.is_faithful
-            → HasText cache.new r.1 r.0 text
-            × (r.1 ≡ length text) × (0 < r.0) × (r.0 < cache.new.count)
-            × (div_ceil r.1 most_used ≤ cache.new.count)) }
-        ensures passes { Passes cache.old cache.new }
-        ensures length { OnOk result (KeepsLength cache.old cache.new) }
-        ensures tree { (text : List ℕ) → Holds cache.old self text
-            → SparesTree cache.old cache.new }
-        ensures only { (text : List ℕ) → Holds cache.old self text
-            → IsTrue cache.old.store.is_faithful → IfErr result IsAllowed }
-        ensures caused { IfErr result (IsCaused cache.old cache.new) }
+        ensures { Closes cache.old cache.new self result }
     {
         self.write_full(cache)?;
         self.close(cache)

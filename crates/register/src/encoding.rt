@@ -2,8 +2,9 @@
 ghost use Rattle.std.specs.Prelude.{◌≡◌, ◌++◌, ◌∷◌, [], All, OnOk};
 ghost use Rattle.byteorder.specs.Endian.{big_bytes};
 ghost use Rattle.tbnode.specs.Parts.{signed_bytes};
+ghost use Rattle.register.specs.ChainWriter.{Pushes};
 ghost use Rattle.register.specs.Saved.{head_of};
-ghost use Rattle.register.specs.Text.{column_text, columns_text, head_text, kept_text, row_text, short_text, HasColumns, IsColumn, IsHead, FitsKept, FitsPlace, IsShortText};
+ghost use Rattle.register.specs.Text.{column_text, columns_text, head_text, kept_text, row_text, short_text, AreCounted, IsColumn, IsHead, FitsKept, FitsPlace, IsShortText};
 
 use crate::chain_writer::ChainWriter;
 use crate::contents::Kept;
@@ -46,9 +47,7 @@ pub(crate) fn push_i64(writer: &mut ChainWriter, n: i64) -> Result<(), AllocErro
 
 /// Puts a text behind its length at the end.
 pub(crate) fn push_text(writer: &mut ChainWriter, text: &str) -> Result<(), AllocError>
-    ensures pushed { OnOk result (writer.new
-        ≡ record writer.old { text = writer.old.text ++ short_text text.now }) }
-    ensures whole { OnOk result (IsShortText text.now) }
+    ensures { Pushes (short_text text.now) (IsShortText text.now) writer.old writer.new result }
 {
     push_u64(writer, text.len() as u64)?;
     writer.push(text.as_bytes())
@@ -56,9 +55,7 @@ pub(crate) fn push_text(writer: &mut ChainWriter, text: &str) -> Result<(), Allo
 
 /// Puts an attribute column at the end of the text.
 pub(crate) fn push_column(writer: &mut ChainWriter, column: &Column) -> Result<(), AllocError>
-    ensures pushed { OnOk result (writer.new
-        ≡ record writer.old { text = writer.old.text ++ column_text column.now }) }
-    ensures whole { OnOk result (IsColumn column.now) }
+    ensures { Pushes (column_text column.now) (IsColumn column.now) writer.old writer.new result }
 {
     push_text(writer, column.name.as_str())?;
     push_text(writer, column.kind.as_str())
@@ -66,9 +63,8 @@ pub(crate) fn push_column(writer: &mut ChainWriter, column: &Column) -> Result<(
 
 /// Puts attribute columns behind their number at the end of the text.
 pub(crate) fn push_columns(writer: &mut ChainWriter, columns: &Columns) -> Result<(), AllocError>
-    ensures pushed { OnOk result (writer.new
-        ≡ record writer.old { text = writer.old.text ++ columns_text columns.now }) }
-    ensures whole { OnOk result (HasColumns columns.now) }
+    ensures { Pushes (columns_text columns.now) (AreCounted IsColumn 64 columns.now)
+        writer.old writer.new result }
 {
     let columns = columns.as_slice();
     push_u64(writer, columns.len() as u64)?;
@@ -80,9 +76,8 @@ pub(crate) fn push_columns(writer: &mut ChainWriter, columns: &Columns) -> Resul
 
 /// Puts what is kept of a head at the end of the text.
 pub(crate) fn push_head(writer: &mut ChainWriter, head: &BookHead) -> Result<(), AllocError>
-    ensures pushed { OnOk result (writer.new
-        ≡ record writer.old { text = writer.old.text ++ head_text (head_of head.now) }) }
-    ensures whole { OnOk result (IsHead (head_of head.now)) }
+    ensures { Pushes (head_text (head_of head.now)) (IsHead (head_of head.now))
+        writer.old writer.new result }
 {
     push_i64(writer, head.base.millis())?;
     push_text(writer, head.crs.as_str())?;
@@ -91,12 +86,9 @@ pub(crate) fn push_head(writer: &mut ChainWriter, head: &BookHead) -> Result<(),
 
 /// Puts the place of a feature at the end of the text.
 fn push_place(writer: &mut ChainWriter, place: &Place) -> Result<(), AllocError>
-    ensures pushed { OnOk result (writer.new ≡ record writer.old {
-      text = writer.old.text
-          ++ (big_bytes 4 place.now.first ++ (big_bytes 4 place.now.last
-          ++ (big_bytes 4 place.now.last_index ++ big_bytes 8 place.now.legs)));
-    }) }
-    ensures whole { OnOk result (FitsPlace place.now) }
+    ensures { Pushes (big_bytes 4 place.now.first ++ (big_bytes 4 place.now.last
+        ++ (big_bytes 4 place.now.last_index ++ big_bytes 8 place.now.legs)))
+        (FitsPlace place.now) writer.old writer.new result }
 {
     push_u32(writer, place.first)?;
     push_u32(writer, place.last)?;
@@ -107,9 +99,7 @@ fn push_place(writer: &mut ChainWriter, place: &Place) -> Result<(), AllocError>
 /// Puts what is kept of a feature beside its name at the end of the text.
 #[tactic(auto, unfolding(crate::specs::Text::kept_text))]
 fn push_kept(writer: &mut ChainWriter, kept: &Kept) -> Result<(), AllocError>
-    ensures pushed { OnOk result (writer.new
-        ≡ record writer.old { text = writer.old.text ++ kept_text kept.now }) }
-    ensures whole { OnOk result (FitsKept kept.now) }
+    ensures { Pushes (kept_text kept.now) (FitsKept kept.now) writer.old writer.new result }
 {
     push_i64(writer, kept.end)?;
     push_place(writer, &kept.place)
@@ -121,10 +111,8 @@ pub(crate) fn push_feature(
     name: &str,
     kept: &Kept,
 ) -> Result<(), AllocError>
-    ensures pushed { OnOk result (writer.new
-        ≡ record writer.old
-        { text = writer.old.text ++ (short_text name.now ++ kept_text kept.now) }) }
-    ensures whole { OnOk result (IsShortText name.now × FitsKept kept.now) }
+    ensures { Pushes (short_text name.now ++ kept_text kept.now)
+        (IsShortText name.now × FitsKept kept.now) writer.old writer.new result }
 {
     push_text(writer, name)?;
     push_kept(writer, kept)
@@ -132,9 +120,7 @@ pub(crate) fn push_feature(
 
 /// Puts a row of attribute values at the end of the text.
 pub(crate) fn push_row(writer: &mut ChainWriter, row: &Row<'_>) -> Result<(), AllocError>
-    ensures pushed { OnOk result (writer.new
-        ≡ record writer.old { text = writer.old.text ++ row_text row.now }) }
-    ensures whole { OnOk result (All IsShortText row.now) }
+    ensures { Pushes (row_text row.now) (All IsShortText row.now) writer.old writer.new result }
 {
     'values: for i in 0..row.len() {
         push_text(writer, row.value(i))?;

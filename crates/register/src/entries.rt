@@ -48,9 +48,10 @@ pub(crate) fn leg_sum(features: &Features) -> u64
 }
 
 impl ChainReader {
-    ghost use Rattle.std.specs.Prelude.{◌≡◌, ◌++◌, ◌∷◌, [], OnOk, Some};
+    ghost use Rattle.std.specs.Prelude.{◌≡◌, ◌≤◌, [], length, Some};
+    ghost use Rattle.rows.specs.Rows.{with_row};
     ghost use Rattle.register.specs.ChainReader.{ReadsInto, ReadsValue};
-    ghost use Rattle.register.specs.Text.{column_text, columns_text, contents_text, feature_text, features_bytes, head_text, kept_text, lists_text, row_text, rows_text, space_text, AreColumns, AreFeatures, AreFewRows, AreRead, AreRows, IsColumn, IsFeature, IsHead, FitsKept, IsRead, IsRow, IsSpace, HasColumns, HasFeatures};
+    ghost use Rattle.register.specs.Text.{column_text, columns_text, contents_text, feature_text, features_bytes, head_text, kept_text, lists_text, row_text, rows_text, space_text, AreMany, AreLists, HasFewLegs, IsColumn, IsFeature, IsHead, FitsKept, IsRead, IsRow, IsSpace, AreCounted};
 
     /// An attribute column.
     fn column<S: PageStore>(
@@ -73,7 +74,7 @@ impl ChainReader {
         count: u64,
     ) -> Result<Columns, CatalogueFault>
         ensures { ReadsValue cache.old cache.new self.old self.new
-            (λ columns. flat_map column_text columns) (AreColumns count) result }
+            (λ columns. flat_map column_text columns) (AreMany IsColumn count) result }
     {
         let mut columns = Vec::new(alloc);
         for _ in 0..count {
@@ -88,7 +89,7 @@ impl ChainReader {
         alloc: Global,
         cache: &mut PageCache<S>,
     ) -> Result<Columns, CatalogueFault>
-        ensures { ReadsValue cache.old cache.new self.old self.new columns_text HasColumns result }
+        ensures { ReadsValue cache.old cache.new self.old self.new columns_text (AreCounted IsColumn 64) result }
     {
         let count = self.u64(cache)?;
         self.columns(alloc, cache, count)
@@ -125,7 +126,7 @@ impl ChainReader {
         count: u32,
     ) -> Result<Features, CatalogueFault>
         ensures { ReadsValue cache.old cache.new self.old self.new
-            (λ features. flat_map feature_text features) (AreFeatures count) result }
+            (λ features. flat_map feature_text features) (AreMany IsFeature count) result }
     {
         let mut features = Vec::new(alloc);
         for _ in 0..count {
@@ -141,7 +142,7 @@ impl ChainReader {
         cache: &mut PageCache<S>,
     ) -> Result<Features, CatalogueFault>
         ensures { ReadsValue cache.old cache.new self.old self.new
-            features_bytes HasFeatures result }
+            features_bytes (AreCounted IsFeature 32) result }
     {
         let count = self.u32(cache)?;
         self.features(alloc, cache, count)
@@ -155,9 +156,8 @@ impl ChainReader {
         rows: &mut GrowingRows,
     ) -> Result<(), CatalogueFault>
         requires { rows.old.row ≡ [] }
-        ensures into { ReadsInto cache.old cache.new self.old self.new
-            row_text (IsRow columns) (λ row. rows.new.rows ≡ rows.old.rows ++ row ∷ []) result }
-        ensures ended { OnOk result (rows.new.row ≡ []) }
+        ensures { ReadsInto cache.old cache.new self.old self.new row_text (IsRow columns)
+            (λ row. rows.new ≡ with_row (record rows.old { row = row })) result }
     {
         for _ in 0..columns {
             self.value(cache, rows)?;
@@ -177,7 +177,7 @@ impl ChainReader {
         count: u32,
     ) -> Result<Rows, CatalogueFault>
         ensures { ReadsValue cache.old cache.new self.old self.new
-            (λ rows. flat_map row_text rows) (AreRows columns count) result }
+            (λ rows. flat_map row_text rows) (AreMany (IsRow columns) count) result }
     {
         let mut rows = GrowingRows::new(alloc);
         for _ in 0..count {
@@ -195,7 +195,7 @@ impl ChainReader {
         most: u64,
     ) -> Result<Rows, CatalogueFault>
         ensures { ReadsValue cache.old cache.new self.old self.new
-            rows_text (AreFewRows columns most) result }
+            rows_text (λ rows. AreCounted (IsRow columns) 32 rows × (length rows ≤ most)) result }
     {
         let count = self.u32(cache)?;
         if u64::from(count) > most {
@@ -240,7 +240,8 @@ impl ChainReader {
         limits: &Limits,
     ) -> Result<Lists, CatalogueFault>
         ensures { ReadsValue cache.old cache.new self.old self.new
-            lists_text (AreRead columns limits.now.legs) result }
+            lists_text (λ lists. AreLists columns lists × HasFewLegs limits.now.legs lists)
+            result }
     {
         let features = self.counted_features(alloc, cache)?;
         let legs = leg_sum(&features);

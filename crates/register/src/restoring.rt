@@ -1,15 +1,12 @@
 //! A catalogue is read back from the pages of a store.
-ghost use Rattle.std.specs.Prelude.{ℕ, ◌≡◌, ◌≤◌, ◌↔◌, [], List, Option, IsTrue, IfErr, IfOk};
+ghost use Rattle.std.specs.Prelude.{ℕ, ◌≡◌, ◌≤◌, ◌↔◌, [], List, Option, IsTrue};
 ghost use Rattle.std.specs.Int.{div_ceil};
 ghost use Rattle.pages.specs.Store.{IsLawful};
-ghost use Rattle.pages.specs.declared.payload.Payload.{Payload};
 ghost use Rattle.pagecache.specs.Cache.{payload_of};
-ghost use Rattle.chains.specs.Reads.{OnlyReads};
 ghost use Rattle.register.specs.Chain.{most_used};
-ghost use Rattle.register.specs.ChainReader.{IsBroken, IsReadFault, Shows};
-ghost use Rattle.register.specs.Building.{tree_of};
-ghost use Rattle.register.specs.Lasting.{first_fault, ComesFirst, IsKept, IsReadingFault, IsStop};
-ghost use Rattle.register.specs.Restoring.{HoldsContents, IsRest};
+ghost use Rattle.register.specs.ChainReader.{ReadsPages};
+ghost use Rattle.register.specs.Restoring.{tree_of, HoldsContents, IsRest, ReadsStore};
+ghost use Rattle.register.specs.Lasting.{IsKept};
 ghost use Rattle.register.specs.Saved.{CatalogueView};
 ghost use Rattle.register.specs.Text.{AreFew};
 ghost use Rattle.tbtree.specs.declared.tree.Place.{Place};
@@ -42,13 +39,11 @@ fn read_contents<S: PageStore>(
     cache: &mut PageCache<S>,
     fields: &Fields,
 ) -> Result<Option<Contents>, CatalogueFault>
-    ensures holds { IfOk result (λ contents. (at : ℕ → Option Payload) → Shows cache.old at
-        → HoldsContents at cache.old.count fields.now.first fields.now.length contents) }
-    ensures broken { IfErr result (λ e. (at : ℕ → Option Payload) → Shows cache.old at
-        → IsBroken e → (contents : Option Contents) → AreFew fields.now.limits.legs contents
-        → HoldsContents at cache.old.count fields.now.first fields.now.length contents → ⊥) }
-    ensures reads { OnlyReads cache.old cache.new }
-    ensures caused { IfErr result (IsReadFault cache.old cache.new) }
+    ensures { ReadsPages cache.old cache.new
+        (λ at. HoldsContents at cache.old.count fields.now.first fields.now.length)
+        (λ at. (contents : Option Contents) → AreFew fields.now.limits.legs contents
+        → HoldsContents at cache.old.count fields.now.first fields.now.length contents → ⊥)
+        result }
 {
     if !is_short(cache, fields.length) {
         return Err(CatalogueFault::Malformed);
@@ -65,13 +60,10 @@ fn read_rest<S: PageStore>(
     cache: &mut PageCache<S>,
     fields: &Fields,
 ) -> Result<(Catalogue, Vec<Place>), CatalogueFault>
-    ensures rest { IfOk result (λ r. (at : ℕ → Option Payload) → Shows cache.old at
-        → IsRest at cache.old.count fields.now r.0 r.1.items) }
-    ensures broken { IfErr result (λ e. (at : ℕ → Option Payload) → Shows cache.old at
-        → IsBroken e → (c : CatalogueView) (places : List Place)
-        → IsRest at cache.old.count fields.now c places → ⊥) }
-    ensures reads { OnlyReads cache.old cache.new }
-    ensures caused { IfErr result (IsReadFault cache.old cache.new) }
+    ensures { ReadsPages cache.old cache.new
+        (λ at r. IsRest at cache.old.count fields.now r.0 r.1.items)
+        (λ at. (c : CatalogueView) (places : List Place)
+        → IsRest at cache.old.count fields.now c places → ⊥) result }
 {
     let count = cache.count();
     if !is_within(count, fields) {
@@ -115,20 +107,12 @@ pub fn read_back<S: PageStore>(
     keys: RandomState,
     cache: &mut PageCache<S>,
 ) -> Result<Restored, CatalogueFault>
-    // Over a faithful store it returns what the pages of a finished store keep.
-    ensures kept { IfOk result (λ r. IsTrue cache.old.store.is_faithful
-        → IsKept (payload_of cache.old) cache.old.count r.catalogue r.tree r.places.items) }
-    // A fault of page 0 is returned before any other.
-    ensures first { IfErr result (λ e. IsTrue cache.old.store.is_faithful
-        → ComesFirst (first_fault cache.old.count (payload_of cache.old 0)) e) }
-    // If it fails for another reason than memory or the store, the pages keep nothing.
-    ensures broken { IfErr result (λ e. IsTrue cache.old.store.is_faithful → (IsStop e → ⊥)
-        → (c : CatalogueView) (tree : TbTree) (places : List Place)
-        → IsKept (payload_of cache.old) cache.old.count c tree places → ⊥) }
-    // No payload changes, and no page that was not changed is written.
-    ensures reads { OnlyReads cache.old cache.new }
-    // `Store` is returned only if the store failed, and `StoreFull` never.
-    ensures caused { IfErr result (IsReadingFault cache.old.store cache.new.store) }
+    // Over a faithful store it returns what the pages of a finished store keep. If it fails for
+    // another reason than memory or the store, they keep nothing.
+    ensures { ReadsStore cache.old cache.new (λ r. IsKept (payload_of cache.old)
+        cache.old.count r.catalogue r.tree r.places.items)
+        ((c : CatalogueView) (tree : TbTree) (places : List Place)
+        → IsKept (payload_of cache.old) cache.old.count c tree places → ⊥) result }
 {
     let fields = read_header(cache)?;
     let (catalogue, places) = read_rest(alloc, keys, cache, &fields)?;

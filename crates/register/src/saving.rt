@@ -1,21 +1,16 @@
 //! A catalogue is kept in pages.
-ghost use Rattle.std.specs.Prelude.{List, ℕ, ◌≡◌, ◌<◌, ◌≤◌, ◌^◌, ◌++◌, ◌∷◌, [], length, slice_get, unwrap_or, false, All, IfErr, IfOk, IsErrOf, IsOk, IsTrue, OnErr, OnOk, Some};
-ghost use Rattle.std.specs.Int.{div_ceil};
+ghost use Rattle.std.specs.Prelude.{◌≡◌, ◌<◌, ◌^◌, ◌++◌, ◌∷◌, [], length, slice_get, unwrap_or, false, All, IfErr, IfOk, IsOk, IsTrue, OnErr, OnOk};
 ghost use Rattle.pages.specs.Store.{IsSynced, NoneUnsynced};
-ghost use Rattle.pagecache.specs.Cache.{is_changed, page_of, payload_of, IsClean, IsWritten, Rests, SameLength, KeepsPayloads};
-ghost use Rattle.register.specs.Chain.{most_used};
-ghost use Rattle.register.specs.ChainWriter.{HasText, Holds};
+ghost use Rattle.pagecache.specs.Cache.{is_changed, page_of, payload_of, IsClean, Rests};
 ghost use Rattle.register.specs.Lasting.{Says};
 ghost use Rattle.chains.specs.Reads.{OnlyReads};
 ghost use Rattle.tbtree.specs.Passes.{KeepsLength};
 ghost use Rattle.tbtree.specs.Stands.{no_place};
-ghost use Rattle.legs.specs.Limits.{IsLimits};
-ghost use Rattle.tbtree.specs.Shape.{IsShape};
-ghost use Rattle.header.specs.Fields.{first_of, FitsFields};
+ghost use Rattle.header.specs.Fields.{first_of};
 ghost use Rattle.register.specs.Saved.{dimensions_of, fields_for, head_of, Continues, IsWrittenButFirst, KeepsFront, SparesTree};
-ghost use Rattle.register.specs.Saving.{contents_of, end_of, feature_at, features_of, HasFew, HasPageZero, IsSavingStop, IsCatalogue, IsCaused, IsNotWritten, KeepsTree, Puts, PutsFields, Saves};
+ghost use Rattle.register.specs.Saving.{contents_of, end_of, feature_at, features_of, HasFew, HasPageZero, IsSavingStop, IsCatalogue, IsCaused, Puts, PutsFields, PutsText, RefusesFirst, WritesAll};
 ghost use Rattle.register.specs.declared.fault.CatalogueFault.TheVariants.{Malformed};
-ghost use Rattle.register.specs.Text.{catalogue_text, feature_text, features_bytes, head_text, row_text, rows_text, HasFeatures, IsFeature, IsHead, IsNumber, IsShortText, IsWhole};
+ghost use Rattle.register.specs.Text.{catalogue_text, feature_text, features_bytes, head_text, row_text, rows_text, AreCounted, IsFeature, IsHead, IsShortText, IsWhole};
 
 use crate::chain_reader::fault_of;
 use crate::chain_writer::ChainWriter;
@@ -59,7 +54,7 @@ fn write_text<S: PageStore>(
     writer: &mut ChainWriter,
     cache: &mut PageCache<S>,
 ) -> Result<(), CatalogueFault>
-    ensures saves { Saves [] cache.old cache.new writer.old writer.new result }
+    ensures { Puts [] (Unit {0}) (Unit {0}) cache.old cache.new writer.old writer.new result }
 {
     match writer.write_full(cache) {
         Ok(()) => Ok(()),
@@ -116,9 +111,9 @@ fn write_feature<S: PageStore>(
     places: &[Place],
     feature: u32,
 ) -> Result<(), CatalogueFault>
-    ensures saves { Saves (feature_text (feature_at tracks.now places.now feature))
+    ensures { Puts (feature_text (feature_at tracks.now places.now feature)) (Unit {0})
+        (IsFeature (feature_at tracks.now places.now feature))
         cache.old cache.new writer.old writer.new result }
-    ensures whole { OnOk result (IsFeature (feature_at tracks.now places.now feature)) }
 {
     let kept = kept_at(tracks, places, feature);
     push_feature(writer, name_at(tracks, feature), &kept)?;
@@ -133,11 +128,10 @@ fn write_features<S: PageStore>(
     places: &[Place],
     count: u32,
 ) -> Result<(), CatalogueFault>
-    ensures saves { count ≡ length tracks.now.names
-        → Saves (features_bytes (features_of tracks.now places.now))
+    ensures { count ≡ length tracks.now.names
+        → Puts (features_bytes (features_of tracks.now places.now)) (Unit {0})
+        (AreCounted IsFeature 32 (features_of tracks.now places.now))
         cache.old cache.new writer.old writer.new result }
-    ensures whole { OnOk result (count ≡ length tracks.now.names
-        → HasFeatures (features_of tracks.now places.now)) }
 {
     push_u32(writer, count)?;
     for feature in 0..count {
@@ -152,9 +146,8 @@ fn write_row<S: PageStore>(
     cache: &mut PageCache<S>,
     row: &Row<'_>,
 ) -> Result<(), CatalogueFault>
-    ensures saves { Saves (row_text row.now)
+    ensures { Puts (row_text row.now) (Unit {0}) (All IsShortText row.now)
         cache.old cache.new writer.old writer.new result }
-    ensures whole { OnOk result (All IsShortText row.now) }
 {
     push_row(writer, row)?;
     write_text(writer, cache)
@@ -167,9 +160,9 @@ fn write_rows<S: PageStore>(
     rows: &Rows,
     count: u32,
 ) -> Result<(), CatalogueFault>
-    ensures saves { count ≡ length rows.now
-        → Saves (rows_text rows.now) cache.old cache.new writer.old writer.new result }
-    ensures whole { OnOk result (All (All IsShortText) rows.now) }
+    ensures { count ≡ length rows.now
+        → Puts (rows_text rows.now) (Unit {0}) (AreCounted (All IsShortText) 32 rows.now)
+        cache.old cache.new writer.old writer.new result }
 {
     push_u32(writer, count)?;
     for i in 0..rows.len() {
@@ -188,9 +181,8 @@ fn write_head<S: PageStore>(
     cache: &mut PageCache<S>,
     head: &BookHead,
 ) -> Result<(), CatalogueFault>
-    ensures saves { Saves (1 ∷ head_text (head_of head.now))
+    ensures { Puts (1 ∷ head_text (head_of head.now)) (Unit {0}) (IsHead (head_of head.now))
         cache.old cache.new writer.old writer.new result }
-    ensures whole { OnOk result (IsHead (head_of head.now)) }
 {
     push_byte(writer, 1)?;
     push_head(writer, head)?;
@@ -217,15 +209,11 @@ fn write_lists<S: PageStore>(
     places: &[Place],
     rows: &Rows,
 ) -> Result<(), CatalogueFault>
-    ensures puts { Puts
-        (features_bytes (features_of tracks.now places.now) ++ rows_text rows.now)
+    ensures { Puts (features_bytes (features_of tracks.now places.now) ++ rows_text rows.now)
+        ((length tracks.now.names < 2 ^ 32) × (length rows.now < 2 ^ 32))
+        (AreCounted IsFeature 32 (features_of tracks.now places.now)
+        × AreCounted (All IsShortText) 32 rows.now)
         cache.old cache.new writer.old writer.new result }
-    ensures only { length tracks.now.names < 2 ^ 32 → length rows.now < 2 ^ 32 → (text : List ℕ)
-        → Holds cache.old writer.old text → IsTrue cache.old.store.is_faithful
-        → IfErr result IsSavingStop }
-    ensures features { OnOk result (HasFeatures (features_of tracks.now places.now)) }
-    ensures rows { OnOk result (All (All IsShortText) rows.now) }
-    ensures few { OnOk result (IsNumber 32 (length rows.now)) }
 {
     let features = count_of(tracks.feature_count())?;
     let row_count = count_of(rows.len() as u64)?;
@@ -241,12 +229,9 @@ fn write_catalogue<S: PageStore>(
     catalogue: &Catalogue,
     places: &[Place],
 ) -> Result<(), CatalogueFault>
-    ensures puts { Puts (catalogue_text (contents_of catalogue.now places.now))
+    ensures { Puts (catalogue_text (contents_of catalogue.now places.now)) (HasFew catalogue.now)
+        (IsCatalogue catalogue.now → IsWhole (contents_of catalogue.now places.now))
         cache.old cache.new writer.old writer.new result }
-    ensures only { HasFew catalogue.now → (text : List ℕ) → Holds cache.old writer.old text
-        → IsTrue cache.old.store.is_faithful → IfErr result IsSavingStop }
-    ensures whole { OnOk result (IsCatalogue catalogue.now
-        → IsWhole (contents_of catalogue.now places.now)) }
 {
     match &catalogue.head {
         None => match push_byte(writer, 0) {
@@ -265,9 +250,7 @@ fn earlier_page<S: PageStore>(cache: &mut PageCache<S>) -> Result<u32, Catalogue
     ensures some { OnOk result (0 < cache.old.count) }
     ensures there { OnOk result (HasPageZero cache.old) }
     ensures reads { OnlyReads cache.old cache.new }
-    ensures only { IsTrue cache.old.store.is_faithful → 0 < cache.old.count
-        → HasPageZero cache.old → IfErr result IsSavingStop }
-    ensures caused { IfErr result (IsCaused cache.old cache.new) }
+    ensures refused { RefusesFirst cache.old cache.new result }
 {
     match cache.page(0) {
         Ok(payload) => Ok(first_of(payload)),
@@ -280,17 +263,13 @@ fn write_fields<S: PageStore>(
     cache: &mut PageCache<S>,
     fields: &Fields,
 ) -> Result<(), CatalogueFault>
-    ensures fits { OnOk result (FitsFields fields.now × IsShape fields.now.shape
-        × IsLimits fields.now.limits) }
     ensures puts { OnOk result (PutsFields fields.now cache.old cache.new) }
     ensures rests { OnErr result (Rests cache.old cache.new) }
     ensures later { Continues cache.old cache.new }
     ensures written { IsTrue cache.old.store.is_faithful → 0 < cache.old.count
         → is_changed cache.old 0 ≡ false
         → page_of cache.new 0 ≡ page_of cache.old 0 }
-    ensures only { IsTrue cache.old.store.is_faithful → 0 < cache.old.count
-        → HasPageZero cache.old → IfErr result IsSavingStop }
-    ensures caused { IfErr result (IsCaused cache.old cache.new) }
+    ensures refused { RefusesFirst cache.old cache.new result }
 {
     match cache.page_mut(0) {
         Ok(payload) => {
@@ -310,18 +289,7 @@ fn write_chain<S: PageStore>(
     cache: &mut PageCache<S>,
     earlier: u32,
 ) -> Result<(u32, u64), CatalogueFault>
-    ensures kept { KeepsTree cache.old cache.new }
-    ensures length { OnOk result (KeepsLength cache.old cache.new) }
-    ensures text { IfOk result (λ r. IsTrue cache.old.store.is_faithful
-        → HasText cache.new r.1 r.0
-        (catalogue_text (contents_of catalogue.now places.now))) }
-    ensures few { IfOk result (λ r. IsTrue cache.old.store.is_faithful
-        → div_ceil r.1 most_used ≤ cache.new.count) }
-    ensures whole { OnOk result (IsCatalogue catalogue.now
-        → IsWhole (contents_of catalogue.now places.now)) }
-    ensures only { HasFew catalogue.now → IsTrue cache.old.store.is_faithful
-        → IfErr result IsSavingStop }
-    ensures caused { IfErr result (IsCaused cache.old cache.new) }
+    ensures { PutsText catalogue.now places.now cache.old cache.new result }
 {
     let keys = catalogue.tracks.keys();
     let mut writer = match ChainWriter::new(alloc, keys, cache, earlier) {
@@ -337,22 +305,7 @@ fn write_chain<S: PageStore>(
 
 /// Writes all that is changed to the store, and syncs it.
 pub fn write_all<S: PageStore>(cache: &mut PageCache<S>) -> Result<(), CatalogueFault>
-    // After `Ok` no page is changed, and the store's pages seal the payloads.
-    ensures written { OnOk result (IsWritten cache.new) }
-    // After `Ok` every page is synced, and no sync of the store ever failed.
-    ensures synced { OnOk result (IsSynced cache.new.store) }
-    // No payload changes, on an error too.
-    ensures stays { KeepsPayloads cache.old cache.new }
-    // The store has as many pages as before.
-    ensures length { SameLength cache.old cache.new }
-    // No page is asked for.
-    ensures asked { cache.new.asked ≡ cache.old.asked }
-    // No page that was not changed is written.
-    ensures reads { OnlyReads cache.old cache.new }
-    // If memory runs out, the cache is as it was.
-    ensures memory { IsErrOf result CatalogueFault.Memory → cache.new ≡ cache.old }
-    // It fails only if memory runs out, or the store failed.
-    ensures caused { IfErr result (IsNotWritten cache.old cache.new) }
+    ensures { WritesAll cache.old cache.new result }
 {
     match cache.flush() {
         Ok(()) => Ok(()),
@@ -369,20 +322,9 @@ fn write_whole<S: PageStore>(
     cache: &mut PageCache<S>,
     earlier: u32,
 ) -> Result<(u32, u64), CatalogueFault>
-    ensures kept { KeepsTree cache.old cache.new }
-    ensures length { OnOk result (KeepsLength cache.old cache.new) }
-    ensures text { IfOk result (λ r. IsTrue cache.old.store.is_faithful
-        → HasText cache.new r.1 r.0
-        (catalogue_text (contents_of catalogue.now places.now))) }
-    ensures few { IfOk result (λ r. IsTrue cache.old.store.is_faithful
-        → div_ceil r.1 most_used ≤ cache.new.count) }
-    ensures whole { OnOk result (IsCatalogue catalogue.now
-        → IsWhole (contents_of catalogue.now places.now)) }
+    ensures puts { PutsText catalogue.now places.now cache.old cache.new result }
     ensures written { OnOk result (IsClean cache.new) }
     ensures synced { OnOk result (IsSynced cache.new.store) }
-    ensures only { HasFew catalogue.now → IsTrue cache.old.store.is_faithful
-        → IfErr result IsSavingStop }
-    ensures caused { IfErr result (IsCaused cache.old cache.new) }
 {
     let chain = write_chain(alloc, catalogue, places, cache, earlier)?;
     write_all(cache)?;

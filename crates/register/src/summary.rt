@@ -1,15 +1,12 @@
 //! What a store says of its database without its rows.
-ghost use Rattle.std.specs.Prelude.{ℕ, ◌≡◌, List, None, Option, option_map, IfErr, IfOk, IfSome, IsTrue};
+ghost use Rattle.std.specs.Prelude.{ℕ, ◌≡◌, List, Option, option_map};
 ghost use Rattle.pagecache.specs.Cache.{payload_of};
-ghost use Rattle.chains.specs.Reads.{OnlyReads};
 ghost use Rattle.tbtree.specs.declared.tree.Place.{Place};
 ghost use Rattle.tbtree.specs.declared.tree.TbTree.{TbTree};
-ghost use Rattle.register.specs.Building.{IsOf};
-ghost use Rattle.register.specs.ChainReader.{ReadsPages};
-ghost use Rattle.register.specs.Lasting.{IsKept, IsReadingFault, IsStop};
-ghost use Rattle.register.specs.Restoring.{HoldsContents};
+ghost use Rattle.register.specs.Restoring.{IsOf, HoldsContents, ReadsStore, before_rows, Summarizes};
+ghost use Rattle.register.specs.ChainReader.{Finds, ReadsPages};
+ghost use Rattle.register.specs.Lasting.{IsKept};
 ghost use Rattle.register.specs.Saved.{CatalogueView};
-ghost use Rattle.register.specs.Summary.{before_rows, Summarizes};
 ghost use Rattle.register.specs.declared.contents.Contents.{Contents};
 
 use crate::building::head_from;
@@ -47,7 +44,7 @@ pub struct Summary {
 
 impl ChainReader {
     ghost use Rattle.register.specs.ChainReader.{ReadsValue};
-    ghost use Rattle.register.specs.Summary.{before_text, IsBeforeRows};
+    ghost use Rattle.register.specs.Restoring.{before_text, IsBeforeRows};
 
     /// The head and the features.
     fn before_rows<S: PageStore>(
@@ -94,12 +91,12 @@ fn read_before<S: PageStore>(
 /// What page 0 and the text before the rows say; none where they say more legs than the limit, or
 /// no head.
 fn summary_of(fields: &Fields, before: Option<BeforeRows>) -> Option<Summary>
-    ensures some { IfSome result (λ summary. (count : ℕ) (contents : Option Contents)
+    ensures { Finds (λ summary. (count : ℕ) (contents : Option Contents)
         (c : CatalogueView) (places : List Place) → IsOf count fields.now contents c places
-        → before ≡ option_map before_rows contents → Summarizes c summary) }
-    ensures none { result ≡ None → (count : ℕ) (contents : Option Contents)
-        (c : CatalogueView) (places : List Place) → IsOf count fields.now contents c places
-        → before ≡ option_map before_rows contents → ⊥ }
+        → before ≡ option_map before_rows contents → Summarizes c summary)
+        ((count : ℕ) (contents : Option Contents) (c : CatalogueView) (places : List Place)
+        → IsOf count fields.now contents c places → before ≡ option_map before_rows contents → ⊥)
+        result }
 {
     let limits = fields.limits;
     let Some(before) = before else {
@@ -133,18 +130,12 @@ pub fn summarize<S: PageStore>(
     alloc: Global,
     cache: &mut PageCache<S>,
 ) -> Result<Summary, CatalogueFault>
-    // Over a faithful store that keeps a catalogue the summary says what that one does.
-    ensures says { IfOk result (λ summary. IsTrue cache.old.store.is_faithful
-        → (c : CatalogueView) (tree : TbTree) (places : List Place)
-        → IsKept (payload_of cache.old) cache.old.count c tree places → Summarizes c summary) }
-    // Such a store is refused only if memory runs out or the store fails.
-    ensures kept { IfErr result (λ e. IsTrue cache.old.store.is_faithful
-        → (c : CatalogueView) (tree : TbTree) (places : List Place)
-        → IsKept (payload_of cache.old) cache.old.count c tree places → (IsStop e → ⊥) → ⊥) }
-    // No payload changes, and no page that was not changed is written.
-    ensures reads { OnlyReads cache.old cache.new }
-    // `Store` is returned only if the store failed, and `StoreFull` never.
-    ensures caused { IfErr result (IsReadingFault cache.old.store cache.new.store) }
+    // Over a faithful store that keeps a catalogue the summary says what that one does. Such a
+    // store is refused only if memory runs out or the store fails.
+    ensures { ReadsStore cache.old cache.new (λ summary. (c : CatalogueView) (tree : TbTree)
+        (places : List Place) → IsKept (payload_of cache.old) cache.old.count c tree places
+        → Summarizes c summary) ((c : CatalogueView) (tree : TbTree) (places : List Place)
+        → IsKept (payload_of cache.old) cache.old.count c tree places → ⊥) result }
 {
     let fields = read_header(cache)?;
     let before = read_before(alloc, cache, &fields)?;

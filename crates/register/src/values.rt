@@ -1,9 +1,9 @@
 //! The values of a text, as they are read one after another.
-ghost use Rattle.std.specs.Prelude.{◌≡◌, ◌∷◌, ◌≤◌, [], ℕ, Option, take, length, IsUtf8, IsErrOf, IfErr, IfOk, IfSome, None, OnOk};
+ghost use Rattle.std.specs.Prelude.{◌≡◌, ◌∷◌, ◌≤◌, [], take, length, IsUtf8};
 ghost use Rattle.byteorder.specs.Endian.{big_bytes};
 ghost use Rattle.tbnode.specs.Parts.{signed_bytes};
 ghost use Rattle.rows.specs.Rows.{with_value};
-ghost use Rattle.register.specs.declared.fault.CatalogueFault.{CatalogueFault};
+ghost use Rattle.register.specs.ChainReader.{Finds, Makes};
 
 use crate::chain_reader::ChainReader;
 use crate::fault::CatalogueFault;
@@ -18,8 +18,8 @@ use std::str;
 
 /// Bytes as a text; `None` where they are not UTF-8.
 fn text_of(bytes: &[u8]) -> Option<&str>
-    ensures some { IfSome result (λ text. (text.now ≡ bytes.now) × IsUtf8 bytes.now) }
-    ensures none { result ≡ None → IsUtf8 bytes.now → ⊥ }
+    ensures { Finds (λ text. (text.now ≡ bytes.now) × IsUtf8 bytes.now) (IsUtf8 bytes.now → ⊥)
+        result }
 {
     match str::from_utf8(bytes) {
         Ok(text) => Some(text),
@@ -29,8 +29,7 @@ fn text_of(bytes: &[u8]) -> Option<&str>
 
 /// Puts a text behind the values of the row that is begun.
 fn put_value(rows: &mut GrowingRows, text: &str) -> Result<(), CatalogueFault>
-    ensures put { OnOk result (rows.new ≡ with_value rows.old text.now) }
-    ensures memory { IfErr result (λ fault. fault ≡ CatalogueFault.Memory) }
+    ensures { Makes (λ _. rows.new ≡ with_value rows.old text.now) ⊥ result }
 {
     match rows.push_value(text) {
         Ok(()) => Ok(()),
@@ -39,7 +38,7 @@ fn put_value(rows: &mut GrowingRows, text: &str) -> Result<(), CatalogueFault>
 }
 
 impl ChainReader {
-    ghost use Rattle.register.specs.ChainReader.{IsTextFault, ReadsInto, ReadsValue};
+    ghost use Rattle.register.specs.ChainReader.{ReadsInto, ReadsValue};
     ghost use Rattle.register.specs.Text.{short_text, IsNumber, IsSigned, IsShortText};
 
     /// A number of one byte.
@@ -100,10 +99,8 @@ impl ChainReader {
     /// The next bytes that stand ready, as a text; `Malformed` where they are not UTF-8.
     fn ready_text(&self, alloc: Global, len: usize) -> Result<Text, CatalogueFault>
         requires { len ≤ length self.now.bytes }
-        ensures text { IfOk result (λ text. (text ≡ take len self.now.bytes) × IsUtf8 text) }
-        ensures broken { IsErrOf result CatalogueFault.Malformed
-            → IsUtf8 (take len self.now.bytes) → ⊥ }
-        ensures memory { IfErr result IsTextFault }
+        ensures { Makes (λ text. (text ≡ take len self.now.bytes) × IsUtf8 text)
+            (IsUtf8 (take len self.now.bytes) → ⊥) result }
     {
         let mut bytes = Vec::new(alloc);
         bytes.extend_from_slice(self.ahead(len))?;
@@ -117,11 +114,8 @@ impl ChainReader {
     /// `Malformed` where they are not UTF-8.
     fn put_ready(&self, len: usize, rows: &mut GrowingRows) -> Result<(), CatalogueFault>
         requires { len ≤ length self.now.bytes }
-        ensures put { OnOk result (rows.new ≡ with_value rows.old (take len self.now.bytes)) }
-        ensures text { OnOk result (IsUtf8 (take len self.now.bytes)) }
-        ensures broken { IsErrOf result CatalogueFault.Malformed
-            → IsUtf8 (take len self.now.bytes) → ⊥ }
-        ensures memory { IfErr result IsTextFault }
+        ensures { Makes (λ _. (rows.new ≡ with_value rows.old (take len self.now.bytes))
+            × IsUtf8 (take len self.now.bytes)) (IsUtf8 (take len self.now.bytes) → ⊥) result }
     {
         match text_of(self.ahead(len)) {
             Some(text) => put_value(rows, text),

@@ -1,5 +1,5 @@
 //! The whole text of a catalogue.
-ghost use Rattle.std.specs.Prelude.{ℕ, [], Option, Some, ◌≡◌, ◌≢◌, ◌↔◌, IsTrue, IfErr, IfOk};
+ghost use Rattle.std.specs.Prelude.{ℕ, [], Option, Some, ◌≡◌, ◌≢◌, ◌↔◌, IsTrue};
 ghost use Rattle.pages.specs.declared.payload.Payload.{Payload};
 
 use crate::chain_reader::ChainReader;
@@ -11,9 +11,8 @@ use pages::PageStore;
 use std::alloc::Global;
 
 impl ChainReader {
-    ghost use Rattle.chains.specs.Reads.{OnlyReads};
-    ghost use Rattle.register.specs.ChainReader.{rest_of, IsBroken, IsReadFault, ReadsValue, Shows};
-    ghost use Rattle.register.specs.Text.{body_text, catalogue_text, IsBody, IsRead};
+    ghost use Rattle.register.specs.ChainReader.{rest_of, ReadsPages, ReadsValue};
+    ghost use Rattle.register.specs.Text.{body_text, catalogue_text, flag_of, IsRead};
     ghost use Rattle.register.specs.declared.contents.Contents.{Contents};
 
     /// What stands behind the byte that says whether a file was accepted.
@@ -25,7 +24,8 @@ impl ChainReader {
         flag: u8,
     ) -> Result<Option<Contents>, CatalogueFault>
         ensures { ReadsValue cache.old cache.new self.old self.new
-            body_text (IsBody limits.now.legs flag) result }
+            body_text (λ contents. IsRead limits.now.legs contents × (flag_of contents ≡ flag))
+            result }
     {
         match flag {
             0 => Ok(None),
@@ -74,18 +74,11 @@ impl ChainReader {
         limits: &Limits,
     ) -> Result<Option<Contents>, CatalogueFault>
         // It returns exactly the contents whose text is left to read, with few enough legs and
-        // rows.
-        ensures whole { IfOk result (λ contents. (at : ℕ → Option Payload) → Shows cache.old at
-            → IsRead limits.now.legs contents
-            × (rest_of at self.old ≡ Some (catalogue_text contents))) }
-        // If it fails for another reason than memory or the store, no such text is left.
-        ensures broken { IfErr result (λ e. (at : ℕ → Option Payload) → Shows cache.old at
-            → IsBroken e → (contents : Option Contents) → IsRead limits.now.legs contents
-            → rest_of at self.old ≢ Some (catalogue_text contents)) }
-        // No payload changes, and no page that was not changed is written.
-        ensures reads { OnlyReads cache.old cache.new }
-        // `Store` is returned only if the store failed.
-        ensures caused { IfErr result (IsReadFault cache.old cache.new) }
+        // rows. If it fails for another reason than memory or the store, no such text is left.
+        ensures { ReadsPages cache.old cache.new (λ at contents. IsRead limits.now.legs contents
+            × (rest_of at self.old ≡ Some (catalogue_text contents)))
+            (λ at. (contents : Option Contents) → IsRead limits.now.legs contents
+            → rest_of at self.old ≢ Some (catalogue_text contents)) result }
     {
         let contents = self.catalogue(alloc, cache, limits)?;
         if !self.is_at_end() {

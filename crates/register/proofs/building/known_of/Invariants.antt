@@ -1,6 +1,6 @@
 use Rattle.std.proofs.Common.{◌≡◌, ◌++◌}
 use Rattle.std.specs.Vec.Iter.{into_iter_items}
-use Rattle.register.specs.Building.{IsKnown}
+use Rattle.register.specs.Restoring.{IsKnown}
 use Rattle.register.proofs.building.known_of.Given as goal
 
 -- the features so far, and those that are left

@@ -1,4 +1,4 @@
-use Rattle.std.proofs.Common.{◌≡◌, ◌<◌, [], All, sym, subst}
+use Rattle.std.proofs.Common.{◌≡◌, ◌<◌, All, sym, subst}
 use Rattle.register.proofs.WriterLemmas.{put_behind}
 use Rattle.register.proofs.chain_writer.take_page.Goals as goal
 

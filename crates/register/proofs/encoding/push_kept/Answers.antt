@@ -8,16 +8,14 @@ use Rattle.register.proofs.EncodingLemmas.{extended, then_pushed}
 use Rattle.register.proofs.ReaderLemmas.{on_ok}
 use Rattle.register.proofs.encoding.push_kept.Goals as goal
 
-pub returns-clause-pushed : goal.returns-clause-pushed
+pub returns : goal.returns
 unfolding kept_text
-returns-clause-pushed c =
+returns c =
     let place = c.args.kept.now.place in
     let fits : FitsSigned w64 c.args.kept.now.end = search rules in
     let end = c.in_ok-push_i64.ensures ∙ ap (λ z. extended c.args.writer.now (signed_bytes z)) (to_z-of_z w64 c.args.kept.now.end fits) in
-    then_pushed c.push_place.result c.args.writer.now c.push_i64.new.writer c.push_place.new.writer (signed_bytes c.args.kept.now.end)
-    (big_bytes 4 place.first ++ (big_bytes 4 place.last ++ (big_bytes 4 place.last_index ++ big_bytes 8 place.legs))) end c.push_place.ensures.pushed
-
-pub returns-clause-whole : goal.returns-clause-whole
-returns-clause-whole c =
-    let fits : FitsSigned w64 c.args.kept.now.end = search rules in
-    on_ok c.push_place.result (λ place. record { end = fits; place = place }) c.push_place.ensures.whole
+    record {
+      pushed = then_pushed c.push_place.result c.args.writer.now c.push_i64.new.writer c.push_place.new.writer (signed_bytes c.args.kept.now.end)
+          (big_bytes 4 place.first ++ (big_bytes 4 place.last ++ (big_bytes 4 place.last_index ++ big_bytes 8 place.legs))) end c.push_place.ensures.pushed;
+      whole = on_ok c.push_place.result (λ place. record { end = fits; place = place }) c.push_place.ensures.whole;
+    }

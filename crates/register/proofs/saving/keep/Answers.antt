@@ -1,29 +1,27 @@
-use Rattle.std.proofs.Common.{ℕ, ◌∙◌, refl, sym, Result, Ok, Err, OnOk, ⊎_elim}
+use Rattle.std.proofs.Common.{◌∙◌, refl, sym, ⊎_elim}
 use Rattle.register.proofs.ReaderLemmas.{on_ok}
 use Rattle.register.proofs.SaveLemmas.{all_spare, keeps_front, not_zero, puts_length, says}
 use Rattle.register.proofs.saving.keep.Goals as goal
 
 pub returns-clause-front : goal.returns-clause-front
 returns-clause-front g c =
-    on_ok c.write_fields.result (λ puts fa some. keeps_front puts c.earlier_page.ensures.reads c.write_whole.ensures.kept.passes fa some) c.write_fields.ensures.puts
+    on_ok c.write_fields.result (λ puts fa some. keeps_front puts c.earlier_page.ensures.reads c.write_whole.ensures.puts.passes fa some) c.write_fields.ensures.puts
 
 pub returns-clause-saved : goal.returns-clause-saved
 returns-clause-saved g c =
     let tree = c.args.tree in
     let places = c.args.places.now in
     let reads = c.earlier_page.ensures.reads in
-    let first = c.in_ok-first.ensures in
-    on_both c.write_fields.result (λ puts fits fa.
-    says puts reads c.write_whole.ensures.kept.passes fa c.args.catalogue.now tree tree places places c.in_ok-first.first c.in_ok-first.length
-    c.fields_for-fields.ensures fits refl refl (first.text (reads.store.faithful ∙ fa)) (first.few (reads.store.faithful ∙ fa))) c.write_fields.ensures.puts c.write_fields.ensures.fits where
-      on_both : {T E : Type 0} {P Q R : Type 0} (r : Result T E) → (P → Q → R) → OnOk r P → OnOk r Q → OnOk r R
-      on_both (Ok x) f p q = f p q
-      on_both (Err e) f p q = tt
+    let put = c.in_ok-first.ensures.puts in
+    on_ok c.write_fields.result (λ puts fa.
+    let text = put.text (reads.store.faithful ∙ fa) in
+    says puts reads put.passes fa c.args.catalogue.now tree tree places places c.in_ok-first.first c.in_ok-first.length
+    c.fields_for-fields.ensures refl refl text.0 text.1) c.write_fields.ensures.puts
 
 pub returns-clause-length : goal.returns-clause-length
 returns-clause-length g c =
     let reads = c.earlier_page.ensures.reads in
-    on_ok c.write_fields.result (λ puts even. puts_length puts (c.in_ok-first.ensures.length (reads.count ∙ even ∙ sym reads.length))) c.write_fields.ensures.puts
+    on_ok c.write_fields.result (λ puts even. puts_length puts (c.in_ok-first.ensures.puts.length (reads.count ∙ even ∙ sym reads.length))) c.write_fields.ensures.puts
 
 pub returns-clause-written : goal.returns-clause-written
 returns-clause-written g c =
@@ -34,7 +32,8 @@ returns-clause-written g c =
 
 pub returns-clause-tree : goal.returns-clause-tree
 returns-clause-tree g c =
-    all_spare c.write_fields.new.cache c.fields_for-fields.result c.write_fields.result c.earlier_page.ensures.reads c.write_whole.ensures.kept c.write_fields.ensures.puts c.write_fields.ensures.rests
+    let put = c.write_whole.ensures.puts in
+    all_spare c.write_fields.new.cache c.fields_for-fields.result c.write_fields.result c.earlier_page.ensures.reads put.passes put.tree c.write_fields.ensures.puts c.write_fields.ensures.rests
 
 pub returns-clause-synced : goal.returns-clause-synced
 returns-clause-synced g c =

@@ -2,5 +2,4 @@ use Rattle.register.proofs.SavingLemmas.{refused_text}
 use Rattle.register.proofs.saving.write_text.Goals as goal
 
 pub returns-in-Err : goal.returns-in-Err
-returns-in-Err g c =
-    record { saves = refused_text c.args.cache.now c.write_full.new.cache c.args.writer.now c.write_full.new.self c.in-Err.fault c.fault_of.result c.fault_of.ensures c.write_full.ensures.passes c.write_full.ensures.tree c.in-Err.ensures.only c.in-Err.ensures.caused }
+returns-in-Err g c = refused_text c.fault_of.ensures c.in-Err.ensures.writes

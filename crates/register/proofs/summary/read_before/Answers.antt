@@ -1,23 +1,12 @@
-use Rattle.std.proofs.Common.{ℕ, rules, Option}
-use Rattle.pages.specs.declared.payload.Payload.{Payload}
-use Rattle.register.specs.ChainReader.{IsBroken, Shows}
-use Rattle.register.specs.Restoring.{HoldsContents}
-use Rattle.register.specs.declared.contents.Contents.{Contents}
-use Rattle.register.proofs.ReaderLemmas.{goes_on, if_err_and, later_fault}
+use Rattle.register.proofs.ReaderLemmas.{goes_on, later_fault, pages_refused}
 use Rattle.register.proofs.SummaryLemmas.{before_said, begins, no_before, no_text}
 use Rattle.register.proofs.summary.read_before.Goals as goal
 
 pub returns-in_err-flag : goal.returns-in_err-flag
 returns-in_err-flag g c =
-    let count = c.args.cache.now.count in
     let f = c.args.fields.now in
-    record {
-      is = search rules;
-      broken = if_err_and (λ e. (at : ℕ → Option Payload) → Shows c.args.cache.now at → IsBroken e → (contents : Option Contents) → HoldsContents at count f.first f.length contents → ⊥) c.from_residual.result c.in_err-flag.field-0.0 c.from_residual.ensures.1
-          (λ at shows b contents holds. no_text at shows c.in_err-flag.ensures b contents (begins at count f.first f.length contents c.new-reader.result c.new-reader.ensures holds));
-      reads = search rules;
-      caused = search rules;
-    }
+    let flag = c.in_err-flag.ensures in
+    pages_refused c.in_err-flag.field-0.0 c.from_residual.ensures.1 (λ at shows b contents holds. no_text at shows flag b contents (begins at c.args.cache.now.count f.first f.length contents c.new-reader.result c.new-reader.ensures holds)) flag.reads flag.caused
 
 pub returns-in-Ok : goal.returns-in-Ok
 returns-in-Ok g c = record {

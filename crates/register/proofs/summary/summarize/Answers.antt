@@ -1,59 +1,55 @@
-use Rattle.std.proofs.Common.{refl, sym, subst, List, IsTrue}
+use Rattle.std.proofs.Common.{refl, sym, subst}
 use Rattle.pagecache.specs.Cache.{payload_of}
-use Rattle.tbtree.specs.declared.tree.Place.{Place}
-use Rattle.tbtree.specs.declared.tree.TbTree.{TbTree}
-use Rattle.register.specs.Lasting.{IsKept, IsStop}
 use Rattle.register.specs.Restoring.{HoldsContents}
-use Rattle.register.specs.Saved.{CatalogueView}
-use Rattle.register.proofs.ReaderLemmas.{if_err_and, reads_trans, shows_own, still_shows}
-use Rattle.register.proofs.RestoreLemmas.{broken_of, fields_kept, kept_fields}
+use Rattle.register.specs.declared.fault.CatalogueFault.TheVariants.{Malformed}
+use Rattle.register.proofs.ReaderLemmas.{goes_on, shows_own, still_shows}
+use Rattle.register.proofs.RestoreLemmas.{fields_kept, first_refused, kept_fields, rest_refused}
 use Rattle.register.proofs.SummaryLemmas.{kept_behind}
 use Rattle.register.proofs.summary.summarize.Goals as goal
 
-pub returns-in_err-fields-clause-kept : goal.returns-in_err-fields-clause-kept
-returns-in_err-fields-clause-kept g c =
+pub returns-in_err-fields : goal.returns-in_err-fields
+returns-in_err-fields g c =
     let at = payload_of c.args.cache.now in
     let count = c.args.cache.now.count in
-    if_err_and (λ e. IsTrue c.args.cache.now.store.is_faithful → (k : CatalogueView) (tree : TbTree) (places : List Place) → IsKept at count k tree places → (IsStop e → ⊥) → ⊥) c.from_residual.result c.in_err-fields.field-0.0 c.from_residual.ensures.1
-    (λ fa k tree places kept not. c.in_err-fields.ensures.broken fa not (fields_kept at count k tree places kept) (kept_fields at count k tree places kept))
+    first_refused c.in_err-fields.field-0.0 c.from_residual.ensures.1 c.in_err-fields.ensures (λ none k tree places kept. none (fields_kept at count k tree places kept) (kept_fields at count k tree places kept))
 
-pub returns-in_err-before-clause-kept : goal.returns-in_err-before-clause-kept
-returns-in_err-before-clause-kept g c =
+pub returns-in_err-before : goal.returns-in_err-before
+returns-in_err-before g c =
+    let a = c.args.cache.now in
+    let at = payload_of a in
+    let fields = c.in_ok-fields.fields in
+    let header = c.in_ok-fields.ensures in
+    let refused = c.in_err-before.ensures in
+    rest_refused c.in_err-before.field-0.0 c.from_residual-in_err-before.ensures.1 header refused.reads refused.caused
+    (λ fa broken k tree places kept.
+    let rest = kept_behind at a.count fields (header.kept fa) k tree places kept in
+    refused.broken at (still_shows header.reads (shows_own a fa)) broken rest.contents (subst (λ n. HoldsContents at n fields.first fields.length rest.contents) (sym header.reads.count) rest.holds))
+
+pub returns-in-Some : goal.returns-in-Some
+returns-in-Some g c =
     let a = c.args.cache.now in
     let at = payload_of a in
     let fields = c.in_ok-fields.fields in
     let reads = c.in_ok-fields.ensures.reads in
-    if_err_and (λ e. IsTrue a.store.is_faithful → (k : CatalogueView) (tree : TbTree) (places : List Place) → IsKept at a.count k tree places → (IsStop e → ⊥) → ⊥) c.from_residual-in_err-before.result c.in_err-before.field-0.0 c.from_residual-in_err-before.ensures.1
-    (λ fa k tree places kept not.
-    let rest = kept_behind at a.count fields (c.in_ok-fields.ensures.says fa) k tree places kept in
-    let broken = broken_of c.read_header.new.cache c.read_before.new.cache c.in_err-before.field-0.0 c.in_err-before.ensures.caused not in
-    c.in_err-before.ensures.broken at (still_shows reads (shows_own a fa)) broken rest.contents (subst (λ n. HoldsContents at n fields.first fields.length rest.contents) (sym reads.count) rest.holds))
+    record {
+      kept = λ fa k tree places kept.
+          let rest = kept_behind at a.count fields (c.in_ok-fields.ensures.kept fa) k tree places kept in
+          let said = c.in_ok-before.ensures.is at (still_shows reads (shows_own a fa)) rest.contents (subst (λ n. HoldsContents at n fields.first fields.length rest.contents) (sym reads.count) rest.holds) in
+          c.in-Some.ensures.some a.count rest.contents k places rest.of said;
+      first = tt;
+      broken = tt;
+      reads = goes_on reads c.in_ok-before.ensures.reads;
+      caused = tt;
+    }
 
-pub returns-in-Some-clause-says : goal.returns-in-Some-clause-says
-returns-in-Some-clause-says g c = λ fa k tree places kept.
+pub returns-in-None : goal.returns-in-None
+returns-in-None g c =
     let a = c.args.cache.now in
     let at = payload_of a in
     let fields = c.in_ok-fields.fields in
-    let reads = c.in_ok-fields.ensures.reads in
-    let rest = kept_behind at a.count fields (c.in_ok-fields.ensures.says fa) k tree places kept in
-    let said = c.in_ok-before.ensures.is at (still_shows reads (shows_own a fa)) rest.contents (subst (λ n. HoldsContents at n fields.first fields.length rest.contents) (sym reads.count) rest.holds) in
-    c.in-Some.ensures.some a.count rest.contents k places rest.of said
-
-pub returns-in-None-clause-kept : goal.returns-in-None-clause-kept
-returns-in-None-clause-kept g c = λ fa k tree places kept not.
-    let a = c.args.cache.now in
-    let at = payload_of a in
-    let fields = c.in_ok-fields.fields in
-    let reads = c.in_ok-fields.ensures.reads in
-    let rest = kept_behind at a.count fields (c.in_ok-fields.ensures.says fa) k tree places kept in
-    let said = c.in_ok-before.ensures.is at (still_shows reads (shows_own a fa)) rest.contents (subst (λ n. HoldsContents at n fields.first fields.length rest.contents) (sym reads.count) rest.holds) in
-    c.in-None.ensures.none refl a.count rest.contents k places rest.of said
-
-pub returns-in-Some-clause-reads : goal.returns-in-Some-clause-reads
-returns-in-Some-clause-reads g c = reads_trans c.args.cache.now c.read_header.new.cache c.read_before.new.cache c.in_ok-fields.ensures.reads c.in_ok-before.ensures.reads
-
-pub returns-in-None-clause-reads : goal.returns-in-None-clause-reads
-returns-in-None-clause-reads g c = reads_trans c.args.cache.now c.read_header.new.cache c.read_before.new.cache c.in_ok-fields.ensures.reads c.in_ok-before.ensures.reads
-
-pub returns-in_err-before-clause-reads : goal.returns-in_err-before-clause-reads
-returns-in_err-before-clause-reads g c = reads_trans c.args.cache.now c.read_header.new.cache c.read_before.new.cache c.in_ok-fields.ensures.reads c.in_err-before.ensures.reads
+    let header = c.in_ok-fields.ensures in
+    rest_refused Malformed refl header c.in_ok-before.ensures.reads tt
+    (λ fa broken k tree places kept.
+    let rest = kept_behind at a.count fields (header.kept fa) k tree places kept in
+    let said = c.in_ok-before.ensures.is at (still_shows header.reads (shows_own a fa)) rest.contents (subst (λ n. HoldsContents at n fields.first fields.length rest.contents) (sym header.reads.count) rest.holds) in
+    c.in-None.ensures.none refl a.count rest.contents k places rest.of said)

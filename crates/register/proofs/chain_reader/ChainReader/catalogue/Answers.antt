@@ -10,4 +10,4 @@ pub returns-in_err-contents : goal.returns-in_err-contents
 returns-in_err-contents g c = second_refused (catalogue_pair c.args.limits.now.legs) c.from_residual-in_err-contents.ensures.1 c.in_ok-flag.ensures c.in_err-contents.ensures
 
 pub returns : goal.returns
-returns g c = both_read (catalogue_pair c.args.limits.now.legs) (λ h k. (k.read, sym k.flag_is)) c.in_ok-flag.ensures c.in_ok-contents.ensures
+returns g c = both_read (catalogue_pair c.args.limits.now.legs) (λ h k. (k.0, sym k.1)) c.in_ok-flag.ensures c.in_ok-contents.ensures

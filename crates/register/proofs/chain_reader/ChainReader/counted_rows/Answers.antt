@@ -8,9 +8,9 @@ pub returns-in_err-count : goal.returns-in_err-count
 returns-in_err-count g c = first_refused (rows_pair c.args.columns c.args.most) c.from_residual.ensures.1 c.in_err-count.ensures
 
 pub returns-then-from-most : goal.returns-then-from-most
-returns-then-from-most g c = first_unfit (rows_pair c.args.columns c.args.most) (λ v k same. let few = k.few in omega (arith, same, few, c.if-from-most.true)) c.in_ok-count.ensures
+returns-then-from-most g c = first_unfit (rows_pair c.args.columns c.args.most) (λ v k same. let few = k.1 in omega (arith, same, few, c.if-from-most.true)) c.in_ok-count.ensures
 
 pub returns : goal.returns
 returns g c = last_read (rows_pair c.args.columns c.args.most) _ (λ v. refl) (λ v h k.
     let many = k.many in
-    (record { has = record { each = k.each; few = subst (IsNumber 32) (sym many) h }; few = omega (arith, many, c.if-from-most.false) }, sym many)) c.in_ok-count.ensures c.rows.ensures
+    ((record { each = k.each; few = subst (IsNumber 32) (sym many) h }, omega (arith, many, c.if-from-most.false)), sym many)) c.in_ok-count.ensures c.rows.ensures

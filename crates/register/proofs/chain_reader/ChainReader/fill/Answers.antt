@@ -1,6 +1,6 @@
-use Rattle.std.proofs.Common.{◌∙◌, ap, sym, arith, length}
+use Rattle.std.proofs.Common.{◌∙◌, ◌≤◌, ap, sym, arith, length}
 use Rattle.std.proofs.lemmas.List.{length-drop}
-use Rattle.register.specs.ChainReader.{ReadsAhead}
+use Rattle.register.specs.ChainReader.{IsShorter, ReadsAhead}
 use Rattle.register.proofs.ReaderLemmas.{ended, goes_on, later_fault, on_err_and, some_none, still_shows}
 use Rattle.register.proofs.chain_reader.ChainReader.fill.Goals as goal
 
@@ -30,7 +30,7 @@ returns-in_err-load g c =
     let i = c.loop-self.invariant in
     let a = c.args.cache.now in
     let d = c.load.new.cache in
-    on_err_and (λ r. ReadsAhead a d c.args.self.now c.load.new.self c.args.len r) c.from_residual.result c.in_err-load.field-0.0 c.from_residual.ensures.1 (record {
+    on_err_and (λ r. ReadsAhead a d c.args.self.now c.load.new.self (c.args.len ≤ length c.load.new.self.bytes) (IsShorter c.args.len) r) c.from_residual.result c.in_err-load.field-0.0 c.from_residual.ensures.1 (record {
       same = tt;
       ready = tt;
       broken = λ at shows b text e. absurd (some_none text (sym e ∙ sym (i.same at shows) ∙ c.in_err-load.ensures.broken at (still_shows i.reads shows) b));

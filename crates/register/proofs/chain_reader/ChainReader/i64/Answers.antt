@@ -10,4 +10,4 @@ pub returns-in_err-fill : goal.returns-in_err-fill
 returns-in_err-fill g c = not_filled signed_bytes IsSigned 8 (λ v. length-bytes_high_first 8 (cast_unsigned w64 v)) c.from_residual.ensures.1 c.in_err-fill.ensures
 
 pub returns : goal.returns
-returns g c = record { takes = search rules; reads = c.in_ok-fill.ensures.reads; caused = search rules }
+returns g c = record { taken = search rules; lacks = tt; reads = c.in_ok-fill.ensures.reads; caused = search rules }

@@ -1,4 +1,4 @@
-use Rattle.std.proofs.Common.{◌∙◌, []}
+use Rattle.std.proofs.Common.{◌∙◌}
 use Rattle.register.specs.Text.{kept_text, FitsKept}
 use Rattle.register.proofs.KeptLemmas.{kept_length}
 use Rattle.register.proofs.ValueLemmas.{filled, not_filled}

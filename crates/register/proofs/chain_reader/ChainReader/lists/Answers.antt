@@ -1,7 +1,7 @@
 use Rattle.std.proofs.Common.{ap, arith, refl}
 use Rattle.std.proofs.lemmas.Int.{clamps}
-use Rattle.register.specs.Text.{leg_sum, AreFewRows}
-use Rattle.register.proofs.EntryLemmas.{lists_pair}
+use Rattle.register.specs.Text.{leg_sum}
+use Rattle.register.proofs.EntryLemmas.{lists_pair, AreFewRows}
 use Rattle.register.proofs.SequenceLemmas.{both_read, first_refused, second_refused, first_unfit, goes_with}
 use Rattle.register.proofs.chain_reader.ChainReader.lists.Goals as goal
 
@@ -16,8 +16,8 @@ returns g c = both_read (lists_pair c.args.columns c.args.limits.now.legs) (λ h
     let sum = c.leg_sum-legs.ensures in
     let limit = c.legs.ensures.value in
     let least = c.legs.ensures.limits.few_legs in
-    let few = k.few in
-    (record { are = record { features = h; rows = k.has }; few = record { legs = omega (arith, clamps, sum, limit, least, c.if-legs.false); rows = omega (arith, clamps, sum, few) } }, refl))
+    let few = k.1 in
+    ((record { features = h; rows = k.0 }, record { legs = omega (arith, clamps, sum, limit, least, c.if-legs.false); rows = omega (arith, clamps, sum, few) }), refl))
     c.in_ok-features.ensures (goes_with (AreFewRows c.args.columns) c.leg_sum-legs.ensures c.in_ok-rows.ensures)
 
 pub returns-then-legs : goal.returns-then-legs
@@ -26,6 +26,6 @@ returns-then-legs g c = first_unfit (lists_pair c.args.columns c.args.limits.now
     let sum = c.leg_sum-legs.ensures in
     let limit = c.legs.ensures.value in
     let legs = ap leg_sum same in
-    let few = k.few.legs in
+    let few = k.1.legs in
     omega (arith, clamps, sum, limit, legs, few, c.if-legs.true))
     c.in_ok-features.ensures

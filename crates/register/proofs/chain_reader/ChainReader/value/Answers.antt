@@ -12,9 +12,9 @@ returns-in_err-fill g c = into_refused c.from_residual-in_err-fill.ensures.1 (te
 pub returns-in_err-put_ready : goal.returns-in_err-put_ready
 returns-in_err-put_ready g c =
     let put = c.in_err-put_ready.ensures in
-    into_refused c.from_residual-in_err-put_ready.ensures.1 (no_text c.in_ok-len.ensures c.in_ok-fill.ensures put.memory put.broken)
+    into_refused c.from_residual-in_err-put_ready.ensures.1 (no_text c.in_ok-len.ensures c.in_ok-fill.ensures put.fault put.broken)
 
 pub returns : goal.returns
 returns g c =
     let put = c.in_ok-put_ready.ensures in
-    into_read put.put (text_taken c.in_ok-len.ensures c.in_ok-fill.ensures refl put.text c.skip.ensures)
+    into_read put.is.0 (text_taken c.in_ok-len.ensures c.in_ok-fill.ensures refl put.is.1 c.skip.ensures)

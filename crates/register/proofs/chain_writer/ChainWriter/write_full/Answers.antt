@@ -1,12 +1,12 @@
-use Rattle.std.proofs.Common.{◌∙◌, arith, ℕ, length}
+use Rattle.std.proofs.Common.{◌∙◌, arith, rules}
 use Rattle.tbtree.proofs.PassLemmas.{passes_trans}
 use Rattle.register.proofs.SpareLemmas.{spares_trans}
 use Rattle.register.proofs.chain_writer.ChainWriter.write_full.Goals as goal
 
-pub returns-in_err-write_part-clause-tree : goal.returns-in_err-write_part-clause-tree
-returns-in_err-write_part-clause-tree g c = λ text h.
+pub returns-in_err-write_part-clause-writes : goal.returns-in_err-write_part-clause-writes
+returns-in_err-write_part-clause-writes g c =
     let inv = c.loop-done.invariant.2 in
-    spares_trans c.args.cache.now c.loop-done.cache c.write_part.new.cache inv.passes (inv.tree text h) (c.write_part.ensures.tree text (inv.holds text h))
+    record { passes = search rules; length = search rules; tree = λ text h. spares_trans c.args.cache.now c.loop-done.cache c.write_part.new.cache inv.passes (inv.tree text h) (c.write_part.ensures.writes.tree text (inv.holds text h)); only = search rules; caused = search rules }
 
 pub loop-done-preserved : goal.loop-done-preserved
 loop-done-preserved g c =
@@ -23,8 +23,8 @@ loop-done-preserved g c =
       record {
         text = c.write_part.ensures.text ∙ inv.text;
         holds = λ text h. ok.holds text (inv.holds text h);
-        passes = passes_trans a b d inv.passes c.write_part.ensures.passes;
-        length = λ e. ok.length (inv.length e);
-        tree = λ text h. spares_trans a b d inv.passes (inv.tree text h) (c.write_part.ensures.tree text (inv.holds text h));
+        passes = passes_trans a b d inv.passes c.write_part.ensures.writes.passes;
+        length = λ e. ok.writes.length (inv.length e);
+        tree = λ text h. spares_trans a b d inv.passes (inv.tree text h) (c.write_part.ensures.writes.tree text (inv.holds text h));
       },
     )

@@ -1,5 +1,5 @@
 use Rattle.std.proofs.Common.{◌≡◌, ◌-◌, ◌≤◌, length}
-use Rattle.register.specs.ChainSteps.{WritesParts}
+use Rattle.register.proofs.WriterLemmas.{WritesParts}
 use Rattle.register.proofs.chain_writer.ChainWriter.write_full.Given as goal
 
 abbrev pub invariant-loop-done : goal.invariant-loop-done
