@@ -1,6 +1,6 @@
 -- A store that is closed.
-use Rattle.std.proofs.Common.{ℕ, zero, suc, ◌≡◌, ◌<◌, ◌≤◌, ◌==◌, ◌+◌, ◌^◌, true, false, Bool, cond, ◌⊎◌, inl, inr, ⊎_elim, List, [], ◌∷◌, map, take, length, get_or, refl, sym, ap, ◌∙◌, arith, subst, IsTrue, Option, Some, None, option_map, option_and_then, slice_get, unwrap_or, Result, Ok, Err, ◌≢◌}
-use Rattle.std.specs.Prelude.{IfErr, IsErrOf, All, AllPairs, fold, sum_by, count_by, if◌then◌else◌, ℤ, pos}
+use Rattle.std.proofs.Common.{ℕ, suc, ◌≡◌, ◌<◌, ◌≤◌, ◌==◌, ◌+◌, true, false, Bool, cond, ◌⊎◌, inl, inr, ⊎_elim, List, [], ◌∷◌, map, length, get_or, refl, sym, ap, ◌∙◌, arith, subst, Option, Some, None, option_map, slice_get, unwrap_or, ◌≢◌}
+use Rattle.std.specs.Prelude.{All, AllPairs, fold, sum_by, count_by, if◌then◌else◌, ℤ, pos}
 use Rattle.std.specs.List.{range_with_len}
 use Rattle.std.proofs.lemmas.Bool.{cases_lt}
 use Rattle.std.proofs.lemmas.List.FromFn.{length-map-range_with_len, get_or-map-range_with_len}
@@ -14,34 +14,31 @@ use Rattle.legs.specs.Legs.{IsLeg, LegView}
 use Rattle.legs.specs.Places.{no_leg}
 use Rattle.legs.specs.declared.head.BookHead.{BookHead}
 use Rattle.legs.specs.declared.tracks.Track.{Track}
-use Rattle.pages.specs.Store.{IsLawful as IsLawfulStore, Store}
-use Rattle.pages.specs.Unsealed.{unsealed}
+use Rattle.pages.specs.Store.{IsLawful, Store}
 use Rattle.pages.specs.declared.payload.Payload.{Payload}
-use Rattle.pagecache.specs.Cache.{fresh, page_of, pages_as_written, payload_of, sealed_payload, stored_payload, Cache, IsSettled}
+use Rattle.pagecache.specs.Cache.{fresh, payload_of, stored_payload, Cache, IsSettled}
 use Rattle.tbnode.specs.Form.{node_of}
 use Rattle.tbtree.specs.Descent.{node_in}
 use Rattle.tbtree.specs.Stands.{no_place}
 use Rattle.tbtree.specs.declared.tree.Place.{Place}
-use Rattle.boxsearch.specs.Beside.{IsBeside}
+use Rattle.boxsearch.specs.Beside.{with_cache, IsBeside}
 use Rattle.boxsearch.specs.Bounds.{IsBounded}
 use Rattle.boxsearch.specs.Index.{content, IndexView, IsMarked, IsSoundIndex}
-use Rattle.header.specs.Front.{IsUnfinished, finished}
-use Rattle.catalogue.specs.Closing.{IsNoStoreFault}
+use Rattle.header.specs.Front.{finished, IsUnfinished, SaysState}
 use Rattle.header.proofs.FrontLemmas.{begins_unfinished}
-use Rattle.catalogue.specs.Finishing.{Finishes, IsNotFinished, IsUnwrittenHeader, SaysUnfinished}
-use Rattle.catalogue.specs.Holding.{HoldsBook, IsOfBook, IsUnfinishedStore}
+use Rattle.catalogue.specs.Finishing.{Finishes}
+use Rattle.catalogue.specs.Holding.{HoldsBook, IsOfBook}
 use Rattle.register.specs.Lasting.{payload_fault, tracks_of, IsKept, IsLawfulCatalogue, IsLawfulFeature, IsWithin, Says}
 use Rattle.register.specs.Saved.{CatalogueView, KeepsFront}
 use Rattle.register.specs.Saving.{contents_of, end_of, feature_at, features_of, HasFew, IsCatalogue}
 use Rattle.register.specs.Text.{IsWhole}
 use Rattle.register.specs.declared.contents.Feature.{Feature}
-use Rattle.register.specs.declared.fault.CatalogueFault.{CatalogueFault}
-use Rattle.register.specs.declared.fault.CatalogueFault.TheVariants.{Memory, StoreFull, Damaged, Unfinished, Version, Malformed}
-use Rattle.register.specs.declared.fault.CatalogueFault.TheVariants as fault
-use Rattle.catalogue.proofs.AgainLemmas.{unfinished_may, MayFinish}
 use Rattle.catalogue.proofs.OpenLemmas.{fresh_payload}
 use Rattle.catalogue.proofs.ResultLemmas.{map_range, none_some, some_none, some_same}
-use Rattle.catalogue.proofs.RestLemmas.{book_held, BesideLaws, StateLaw}
+use Rattle.catalogue.proofs.RestLemmas.{book_held, StateLaw}
+use Rattle.catalogue.proofs.StateLemmas.{finished_header}
+use Rattle.boxsearch.proofs.BoundLemmas.{all_counted, bounded, place_counts}
+use Rattle.boxsearch.proofs.StartLemmas.{beside_content, beside_sound}
 
 map_both : {X Y Z : Type 0} (g : Y → Z) (f : X → Y) (xs : List X) → map g (map f xs) ≡ map (λ x. g (f x)) xs
 map_both g f [] = refl
@@ -114,14 +111,8 @@ module _ (c : CatalogueView) (book : Book) (of : IsOfBook c.limits book c) where
     rows = λ head e. subst (λ rows. All (λ row. length row ≡ length head.columns) rows) (sym of.rows) (of.law.rows head (sym of.head ∙ e));
   }
 
--- what a sound index says of its places
-pub record PlaceLaws (i : IndexView) : Type 0 where
-  pub bounds : length (content i) ≤ 2 ^ 31 → IsBounded i
-  pub counts : (feature : ℕ) (place : Place) → slice_get i.places feature ≡ Some place → place.legs ≡ count_by (is_of feature) (content i)
-  pub total : sum_by (λ (place : Place). place.legs) i.places ≡ length (content i)
-
 -- a sound index with the catalogue of its book is lawful
-module _ (c : CatalogueView) (i : IndexView) (book : Book) (laws : PlaceLaws i) (sound : IsSoundIndex i) (of : IsOfBook c.limits book c) (legs : content i ≡ book.legs)
+module _ (c : CatalogueView) (i : IndexView) (book : Book) (sound : IsSoundIndex i) (of : IsOfBook c.limits book c) (legs : content i ≡ book.legs)
     (dated : (head : BookHead) → c.head ≡ Some head → IsMoment head.base) where
   abbrev n : ℕ
   n = length c.tracks.names
@@ -129,8 +120,8 @@ module _ (c : CatalogueView) (i : IndexView) (book : Book) (laws : PlaceLaws i) 
   abbrev fs : List Feature
   fs = features_of c.tracks i.places
 
-  bounded : IsBounded i
-  bounded = laws.bounds (let f = of.tracks.lawful.few_legs in let l = ap length legs in omega (arith, f, l))
+  limits : IsBounded i
+  limits = bounded i sound (let f = of.tracks.lawful.few_legs in let l = ap length legs in omega (arith, f, l))
 
   paired : length c.tracks.tracks ≡ n
   paired = of.tracks.paired ∙ sym (ap length of.tracks.names)
@@ -165,7 +156,7 @@ module _ (c : CatalogueView) (i : IndexView) (book : Book) (laws : PlaceLaws i) 
       let counted = (of.tracks.each k t (let s = names_same c book of in omega (arith, inside, s))).count in
       let end = ap end_of e in
       let long : (unwrap_or (slice_get i.places k) no_place).legs ≡ t.legs =
-      ap (λ (o : Option Place). (unwrap_or o no_place).legs) at ∙ laws.counts k (get_or i.places k no_place) at ∙ ap (count_by (is_of k)) legs
+      ap (λ (o : Option Place). (unwrap_or o no_place).legs) at ∙ place_counts i sound k (get_or i.places k no_place) at ∙ ap (count_by (is_of k)) legs
       ∙ counted ∙ ap (λ (x : Track). x.legs) here in
       (λ j. record { end = end j; legs = long j })
 
@@ -179,7 +170,7 @@ module _ (c : CatalogueView) (i : IndexView) (book : Book) (laws : PlaceLaws i) 
   legs_same : sum_by (λ (f : Feature). f.kept.place.legs) fs ≡ c.tracks.legs
   legs_same =
       sym (sum_by_map (λ (p : Place). p.legs) (λ (f : Feature). f.kept.place) fs) ∙ ap (sum_by (λ (p : Place). p.legs)) places_are
-      ∙ laws.total ∙ ap length legs ∙ sym of.tracks.legs
+      ∙ all_counted i sound ∙ ap length legs ∙ sym of.tracks.legs
 
   tracks_are : c.tracks ≡ tracks_of fs (length c.rows)
   tracks_are =
@@ -200,11 +191,11 @@ module _ (c : CatalogueView) (i : IndexView) (book : Book) (laws : PlaceLaws i) 
       let track = of.tracks.each k nowhere there in
       let end : end_of (slice_get c.tracks.tracks k) ≡ (get_or c.tracks.tracks k nowhere).end =
       ap end_of (slice_get-get_or c.tracks.tracks k nowhere (let p = paired in omega (arith, l, p))) in
-      let place = bounded.places k no_place (let p = placed in omega (arith, l, p)) in
+      let place = limits.places k no_place (let p = placed in omega (arith, l, p)) in
       let at = sym (unwrap_or-slice_get i.places k no_place) in
       record {
         name = subst IsName (sym (unwrap_or-slice_get c.tracks.names k [])) (subst (All IsName) (sym of.tracks.names) of.law.ordered.names k [] l);
-        some = subst (λ (p : Place). 0 < p.legs) at (let n = laws.counts k (get_or i.places k no_place) (slice_get-get_or i.places k no_place (let p = placed in omega (arith, l, p))) ∙ ap (count_by (is_of k)) legs in let some = ended_some k book.legs _ track.end in omega (arith, n, some));
+        some = subst (λ (p : Place). 0 < p.legs) at (let n = place_counts i sound k (get_or i.places k no_place) (slice_get-get_or i.places k no_place (let p = placed in omega (arith, l, p))) ∙ ap (count_by (is_of k)) legs in let some = ended_some k book.legs _ track.end in omega (arith, n, some));
         end = subst IsMoment (sym end) (last_end_moment k book.legs all_legs (get_or c.tracks.tracks k nowhere).end track.end);
         first = subst (λ (p : Place). p.first < i.cache.count) at place.0;
         last = subst (λ (p : Place). p.last < i.cache.count) at place.1;
@@ -226,24 +217,7 @@ module _ (c : CatalogueView) (i : IndexView) (book : Book) (laws : PlaceLaws i) 
   }
 
   pub of_within : IsWithin i.cache.count i.tree
-  of_within = record { root = bounded.root; leaves = bounded.leaves; levels = bounded.levels }
-
--- page 0 of the pages that are written is page 0 of the store
-first_page : {X Y : Type 0} (f : X → Option Y) (n : ℕ) (xs : List X) (y : Y) → option_and_then f (slice_get (take n xs) 0) ≡ Some y → option_and_then f (slice_get xs 0) ≡ Some y
-first_page f zero xs y e = absurd (none_some e)
-first_page f (suc n) [] y e = e
-first_page f (suc n) (x ∷ xs) y e = e
-
--- so a store is not finished where its cache says so
-pub says_stored : (c : Cache) → SaysUnfinished c → IsUnfinishedStore c.store
-unfolding sealed_payload page_of pages_as_written stored_payload
-says_stored c s = record { payload = s.payload; is = first_page (unsealed 0) c.count c.store.pages s.payload s.sealed; unfinished = s.unfinished }
-
--- a marked page 0 that stays as it is written
-module _ (a b : Cache) (m : IsMarked a) (same : page_of b 0 ≡ page_of a 0) where
-  pub still_says : SaysUnfinished b
-  unfolding sealed_payload
-  still_says = record { payload = m.payload; sealed = ap (option_and_then (unsealed 0)) same ∙ m.sealed; unfinished = m.unfinished }
+  of_within = record { root = limits.root; leaves = limits.leaves; levels = limits.levels }
 
 -- a marked page 0 that begins as it did
 module _ (a b : Cache) (m : IsMarked a) (settled : IsSettled a) (front : KeepsFront a b) where
@@ -253,81 +227,80 @@ module _ (a b : Cache) (m : IsMarked a) (settled : IsSettled a) (front : KeepsFr
   pub front_unfinished : IsUnfinished front.payload
   front_unfinished = begins_unfinished front.was front.payload front.kind front.front (subst IsUnfinished (sym was_is) m.unfinished)
 
-  pub marked_may : MayFinish front.payload
-  marked_may = unfinished_may front.payload front_unfinished
+  pub front_says : SaysState true (payload_of b 0)
+  front_says = record { payload = front.payload; is = front.is; state = front_unfinished }
 
-  pub front_unwritten : page_of b 0 ≡ page_of a 0 → IsUnwrittenHeader b
-  front_unwritten same = record { written = still_says a b m same; payload = front.payload; is = front.is; unfinished = front_unfinished }
+-- a saved index that is of a book
+pub record IsSavedOf (c : CatalogueView) (book : Book) (i : IndexView) : Type 0 where
+  pub sound : IsSoundIndex i
+  pub of : IsOfBook c.limits book c
+  pub legs : content i ≡ book.legs
+  pub lawful : IsLawfulCatalogue i.cache.count c i.places
+  pub within : IsWithin i.cache.count i.tree
+  pub says : Says (payload_of i.cache) i.cache.count c i.tree i.places
+  pub whole : IsWhole (contents_of c i.places)
+
+-- a catalogue is kept beside the tree of an index
+pub saved_of : (c : CatalogueView) (i : IndexView) (book : Book) (b : Cache) → IsBeside i.cache b → ((head : BookHead) → c.head ≡ Some head → IsMoment head.base) → IsSoundIndex i → IsOfBook c.limits book c → content i ≡ book.legs
+    → Says (payload_of b) b.count c i.tree i.places → IsWhole (contents_of c i.places) → IsSavedOf c book (with_cache i b [])
+saved_of c i book b beside dated was of was_legs says whole =
+    let j = with_cache i b [] in
+    let sound = beside_sound i b [] beside was in
+    let legs = beside_content i b [] beside ∙ was_legs in
+    record {
+      sound = sound;
+      of = of;
+      legs = legs;
+      lawful = of_lawful c j book sound of legs dated;
+      within = of_within c j book sound of legs dated;
+      says = says;
+      whole = whole;
+    }
 
 -- a saved index that is finished is held by its store
-module _ (laws : BesideLaws) (states : StateLaw) (c : CatalogueView) (i : IndexView) (book : Book) (new : Cache) (sound : IsSoundIndex i) (of : IsOfBook c.limits book c) (legs : content i ≡ book.legs)
-    (lawful : IsLawfulCatalogue i.cache.count c i.places) (within : IsWithin i.cache.count i.tree) (says : Says (payload_of i.cache) i.cache.count c i.tree i.places) (whole : IsWhole (contents_of c i.places))
-    (header : Payload) (is : payload_of i.cache 0 ≡ Some header) (may : MayFinish header)
-    (f : Finishes i.cache new) (stored : IsLawfulStore new.store) (faithful : new.store.is_faithful ≡ i.cache.store.is_faithful) where
-  abbrev s : Store
-  s = new.store
+module _ (states : StateLaw) (c : CatalogueView) (i : IndexView) (book : Book) (s : Store) (saved : IsSavedOf c book i)
+    (header : Payload) (is : payload_of i.cache 0 ≡ Some header) (unfinished : IsUnfinished header)
+    (f : Finishes i.cache s) (stored : IsLawful s) (faithful : s.is_faithful ≡ i.cache.store.is_faithful) where
+  was_unfinished : IsUnfinished f.header
+  was_unfinished = subst IsUnfinished (some_same header f.header (sym is ∙ f.was)) unfinished
 
-  was_may : MayFinish f.header
-  was_may = subst MayFinish (some_same header f.header (sym is ∙ f.was)) may
+  count : i.cache.count ≡ s.count
+  count = saved.sound.count ∙ sym f.length
 
   kept : IsKept (stored_payload s) s.count c i.tree i.places
-  kept =
-      let count : i.cache.count ≡ s.count = sound.count ∙ sym f.length in
-      record {
-        says = subst (λ n. Says (stored_payload s) n c i.tree i.places) count
-            (states (payload_of i.cache) (stored_payload s) f.header 1 f.stored_rest f.was f.stored_first was_may.kind i.cache.count c i.tree i.places says);
-        whole = whole;
-        finished = ap payload_fault f.stored_first ∙ was_may.fine;
-        within = subst (λ n. IsWithin n i.tree) count within;
-        works = sound.works;
-        lawful = subst (λ n. IsLawfulCatalogue n c i.places) count lawful;
-      }
+  kept = record {
+    says = subst (λ n. Says (stored_payload s) n c i.tree i.places) count
+        (states (payload_of i.cache) (stored_payload s) f.header 1 f.rest f.was f.first was_unfinished.kind i.cache.count c i.tree i.places saved.says);
+    whole = saved.whole;
+    finished = ap payload_fault f.first ∙ finished_header f.header was_unfinished;
+    within = subst (λ n. IsWithin n i.tree) count saved.within;
+    works = saved.sound.works;
+    lawful = subst (λ n. IsLawfulCatalogue n c i.places) count saved.lawful;
+  }
 
   at_fresh : (p : ℕ) → payload_of (fresh s 1) p ≡ stored_payload s p
-  at_fresh p = fresh_payload s 1 stored (faithful ∙ sound.faithful) p
+  at_fresh p = fresh_payload s 1 stored (faithful ∙ saved.sound.faithful) p
 
   other : (p : ℕ) → 0 < p → payload_of (fresh s 1) p ≡ payload_of i.cache p
-  other p h = at_fresh p ∙ f.stored_rest p h
+  other p h = at_fresh p ∙ f.rest p h
 
   beside : IsBeside i.cache (fresh s 1)
-  beside =
-      let count : i.cache.count ≡ s.count = sound.count ∙ sym f.length in
-      record {
-        faithful = faithful;
-        length = λ e. refl;
-        tree = λ _. record {
-          count = omega (arith, count);
-          held = λ p l e. (
-            omega (arith, count, l),
-            ⊎_elim
-                (λ (h : 0 < p). ap (option_map node_of) (sym (other p h)) ∙ e)
-                (λ (h : p ≤ 0). let z : 0 ≡ p = omega (arith, h) in
-                absurd (some_none (node_of (finished f.header)) (sym (ap (option_map node_of) (at_fresh 0 ∙ f.stored_first)) ∙ ap (λ k. option_map node_of (payload_of (fresh s 1) k)) z ∙ e)))
-                (cases_lt 0 p),
-          );
-          rest = λ p h. ap (λ o. node_in (option_map node_of o)) (other p h);
-        };
-      }
+  beside = record {
+    faithful = faithful;
+    length = λ e. refl;
+    tree = λ _. record {
+      count = let n = count in omega (arith, n);
+      held = λ p l e. (
+        (let n = count in omega (arith, n, l)),
+        ⊎_elim
+            (λ (h : 0 < p). ap (option_map node_of) (sym (other p h)) ∙ e)
+            (λ (h : p ≤ 0). let z : 0 ≡ p = omega (arith, h) in
+            absurd (some_none (node_of (finished f.header)) (sym (ap (option_map node_of) (at_fresh 0 ∙ f.first)) ∙ ap (λ k. option_map node_of (payload_of (fresh s 1) k)) z ∙ e)))
+            (cases_lt 0 p),
+      );
+      rest = λ p h. ap (λ o. node_in (option_map node_of o)) (other p h);
+    };
+  }
 
   pub closed_holds : HoldsBook s i.tree.shape c.limits book
-  closed_holds = book_held laws c i book s kept beside sound of legs
-
--- of what refuses to finish a store, only want of memory is no fault of the store
-pub only_memory : {P : Type 0} (a b : Cache) (r : Result (Unit {0}) CatalogueFault) → IfErr r (IsNotFinished a b) → (IsErrOf r Memory → P) → IfErr r (λ e. IsNoStoreFault e → P)
-only_memory a b (Ok x) h f = tt
-only_memory a b (Err Memory) h f = λ _. f refl
-only_memory a b (Err fault.Store) h f = λ x. absurd x
-only_memory a b (Err StoreFull) h f = absurd h
-only_memory a b (Err (Damaged n)) h f = λ x. absurd x
-only_memory a b (Err Unfinished) h f = λ x. absurd x
-only_memory a b (Err Version) h f = λ x. absurd x
-only_memory a b (Err Malformed) h f = λ x. absurd x
-
-some_pages : {X Y : Type 0} (f : X → Option Y) (xs : List X) (y : Y) → option_and_then f (slice_get xs 0) ≡ Some y → 0 < length xs
-some_pages f [] y e = absurd (none_some e)
-some_pages f (x ∷ xs) y e = omega arith
-
--- a store that is not finished has a page
-pub unfinished_there : (s : Store) → IsUnfinishedStore s → IsTrue s.is_faithful → IsLawfulStore s → 0 < s.count
-unfolding stored_payload
-unfinished_there s u faithful lawful = let l = some_pages (unsealed 0) s.pages u.payload u.is in let n = lawful.counted faithful in omega (arith, l, n)
+  closed_holds = book_held c i book s kept beside saved.sound saved.of saved.legs

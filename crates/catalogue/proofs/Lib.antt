@@ -1,11 +1,10 @@
 pub mod ResultLemmas
 pub mod LentLemmas
 pub mod BeginLemmas
-pub mod HeaderLemmas
+pub mod StateLemmas
 pub mod OpenLemmas
 pub mod FinishLemmas
 pub mod RestLemmas
-pub mod AgainLemmas
 pub mod CloseLemmas
 pub mod RefusedLemmas
-pub mod StateLemmas
+pub mod CallLemmas

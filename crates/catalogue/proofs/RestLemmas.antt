@@ -1,6 +1,5 @@
 -- A database of which no page is changed, and a store whose pages hold a book.
-use Rattle.std.proofs.Common.{ℕ, ◌≡◌, ◌<◌, cond, Option, List, [], ◌∷◌, map, take, length, refl, sym, ap, ◌∙◌, subst, IsTrue, Some, option_and_then, slice_get}
-use Rattle.std.proofs.Math.Seq.{take-length}
+use Rattle.std.proofs.Common.{ℕ, ◌≡◌, ◌<◌, cond, Option, List, [], ◌∷◌, map, length, refl, sym, ap, ◌∙◌, subst, IsTrue, Some, option_and_then, slice_get}
 use Rattle.legs.specs.Asking.{Leaves}
 use Rattle.legs.specs.Book.{Book}
 use Rattle.pages.specs.Store.{Store, IsLawful}
@@ -10,22 +9,17 @@ use Rattle.pages.specs.declared.payload.Kind.TheVariants.{Header}
 use Rattle.pages.specs.declared.payload.Payload.{Payload}
 use Rattle.tbtree.specs.declared.tree.Place.{Place}
 use Rattle.tbtree.specs.declared.tree.TbTree.{TbTree}
-use Rattle.chains.specs.declared.spans.LeafSpan.{LeafSpan}
-use Rattle.boxsearch.specs.Beside.{with_cache, IsBeside}
-use Rattle.boxsearch.specs.Index.{content, found_by, place_of, words, written, IndexView, IsMarked, IsSoundIndex}
-use Rattle.catalogue.specs.Holding.{index_over, payload_in, HoldsBook, IsAtRest, IsOfBook, IsUnfinishedStore}
+use Rattle.boxsearch.specs.Beside.{IsBeside}
+use Rattle.boxsearch.proofs.BoundLemmas.{alike}
+use Rattle.boxsearch.proofs.StartLemmas.{beside_content, beside_sound}
+use Rattle.catalogue.proofs.OpenLemmas.{all_pages, fresh_payload, payload_stored}
+use Rattle.boxsearch.specs.Index.{content, found_by, place_of, words, written, IndexView, IsSoundIndex}
+use Rattle.catalogue.specs.Holding.{index_over, payload_in, HoldsBook, IsAtRest, IsOfBook}
 use Rattle.header.specs.Front.{with_state}
 use Rattle.register.specs.Lasting.{IsKept, Says}
 use Rattle.register.specs.Saved.{CatalogueView}
 
--- the laws of an index that are cited here
-pub record BesideLaws : Type 0 where
-  pub content : (index : IndexView) (cache : Cache) (known : List (List LeafSpan)) → IsBeside index.cache cache → content (with_cache index cache known) ≡ content index
-  pub sound : (index : IndexView) (cache : Cache) (known : List (List LeafSpan)) → IsBeside index.cache cache → IsSoundIndex index → IsSoundIndex (with_cache index cache known)
-  pub alike : (old new : Cache) → new.store.is_faithful ≡ old.store.is_faithful → new.count ≡ old.count → new.store.count ≡ old.store.count
-      → (IsTrue old.store.is_faithful → (n : ℕ) → payload_of new n ≡ payload_of old n) → IsBeside old new
-
--- and that of page 0 with another state
+-- the law of page 0 with another state
 abbrev pub StateLaw : Type 0
 StateLaw = (at now : ℕ → Option Payload) (header : Payload) (state : ℕ) → ((n : ℕ) → 0 < n → now n ≡ at n) → at 0 ≡ Some header → now 0 ≡ Some (with_state state header) → header.kind ≡ Header
     → (count : ℕ) (c : CatalogueView) (tree : TbTree) (places : List Place) → Says at count c tree places → Says now count c tree places
@@ -75,63 +69,46 @@ module _ (c : CatalogueView) (a b : IndexView) (rest : IsAtRest c a) (leaves : L
       }
 
 -- a cache that counts all pages of its store
-module _ (c : Cache) (counts : c.count ≡ c.store.count) (lawful : IsLawful c.store) (f : IsTrue c.store.is_faithful) where
-  all_pages : take c.count c.store.pages ≡ c.store.pages
-  all_pages = ap (λ n. take n c.store.pages) (counts ∙ sym (lawful.counted f)) ∙ take-length c.store.pages
-
-  pub sealed_stored : (n : ℕ) → sealed_payload c n ≡ stored_payload c.store n
-  unfolding sealed_payload page_of pages_as_written stored_payload
-  sealed_stored n = ap (λ (pages : List (List ℕ)). option_and_then (unsealed n) (slice_get pages n)) all_pages
-
--- a store whose page 0 is marked is not finished
-pub marked_store : (c : Cache) → IsMarked c → c.count ≡ c.store.count → IsLawful c.store → IsUnfinishedStore c.store
-marked_store c m counts lawful = record { payload = m.payload; is = sym (sealed_stored c counts lawful m.faithful 0) ∙ m.sealed; unfinished = m.unfinished }
-
-fresh_stored : (s : Store) (n : ℕ) → payload_of (fresh s 1) n ≡ sealed_payload (fresh s 1) n
-unfolding payload_of
-fresh_stored s n = refl
-
-stored_in : (s : Store) (n : ℕ) → payload_in s.pages n ≡ stored_payload s n
-unfolding payload_in stored_payload
-stored_in s n = refl
+pub sealed_stored : (c : Cache) → c.count ≡ c.store.count → IsLawful c.store → IsTrue c.store.is_faithful → (n : ℕ) → sealed_payload c n ≡ stored_payload c.store n
+unfolding sealed_payload page_of stored_payload
+sealed_stored c counts lawful f n = ap (λ (pages : List (List ℕ)). option_and_then (unsealed n) (slice_get pages n)) (all_pages c lawful counts f)
 
 -- a store that keeps a sound index of a book, in pages that say the same, holds the book
-pub book_held : (laws : BesideLaws) (c : CatalogueView) (i : IndexView) (book : Book) (s : Store) → IsKept (stored_payload s) s.count c i.tree i.places → IsBeside i.cache (fresh s 1) → IsSoundIndex i → IsOfBook c.limits book c → content i ≡ book.legs
+pub book_held : (c : CatalogueView) (i : IndexView) (book : Book) (s : Store) → IsKept (stored_payload s) s.count c i.tree i.places → IsBeside i.cache (fresh s 1) → IsSoundIndex i → IsOfBook c.limits book c → content i ≡ book.legs
     → HoldsBook s i.tree.shape c.limits book
-book_held laws c i book s kept beside sound of legs = record {
+book_held c i book s kept beside sound of legs = record {
   catalogue = c;
   tree = i.tree;
   places = i.places;
   kept = kept;
   shape_is = refl;
   of = of;
-  sound = subst (λ n. IsSoundIndex (index_over s i.tree i.places n)) (sound.counted ∙ ap length legs) (laws.sound i (fresh s 1) [] beside sound);
-  legs = laws.content i (fresh s 1) [] beside ∙ legs;
+  sound = subst (λ n. IsSoundIndex (index_over s i.tree i.places n)) (sound.counted ∙ ap length legs) (beside_sound i (fresh s 1) [] beside sound);
+  legs = beside_content i (fresh s 1) [] beside ∙ legs;
 }
 
 -- at rest the pages of a store hold the book that a sound index and a catalogue are of
-module _ (laws : BesideLaws) (c : CatalogueView) (i : IndexView) (book : Book) (f : IsTrue i.cache.store.is_faithful) (lawful : IsLawful i.cache.store) (settled : IsSettled i.cache)
+module _ (c : CatalogueView) (i : IndexView) (book : Book) (f : IsTrue i.cache.store.is_faithful) (lawful : IsLawful i.cache.store) (settled : IsSettled i.cache)
     (rest : IsAtRest c i) (sound : IsSoundIndex i) (of : IsOfBook c.limits book c) (legs : content i ≡ book.legs) where
   abbrev s : Store
   s = i.cache.store
 
   written_is : written i ≡ s.pages
-  unfolding pages_as_written
-  written_is = ap (λ b. cond b (pages_as_written i.cache) []) f ∙ all_pages i.cache sound.count lawful f
+  written_is = ap (λ b. cond b (pages_as_written i.cache) []) f ∙ all_pages i.cache lawful sound.count f
 
   kept : IsKept (stored_payload s) s.count c i.tree i.places
   kept =
-      subst (λ at. IsKept at s.count c i.tree i.places) (λ j n. stored_in s n j)
+      subst (λ at. IsKept at s.count c i.tree i.places) (payload_stored s)
       (subst (λ n. IsKept (payload_in s.pages) n c i.tree i.places) (lawful.counted f)
       (subst (λ w. IsKept (payload_in w) (length w) c i.tree i.places) written_is rest.kept))
 
   payloads : (n : ℕ) → payload_of (fresh s 1) n ≡ payload_of i.cache n
   payloads n =
-      fresh_stored s n ∙ sealed_stored (fresh s 1) refl lawful f n
+      fresh_payload s 1 lawful f n
       ∙ sym (settled f n (rest.clean n) ∙ sealed_stored i.cache sound.count lawful f n)
 
   beside : IsBeside i.cache (fresh s 1)
-  beside = laws.alike i.cache (fresh s 1) refl (sym sound.count) refl (λ _. payloads)
+  beside = alike i.cache (fresh s 1) refl (sym sound.count) refl (λ _. payloads)
 
   pub rest_holds : HoldsBook s i.tree.shape c.limits book
-  rest_holds = book_held laws c i book s kept beside sound of legs
+  rest_holds = book_held c i book s kept beside sound of legs

@@ -1,20 +1,22 @@
 -- A store whose pages hold a book.
-use Rattle.std.specs.Prelude.{ℕ, ◌≡◌, List, drop, length, slice_get, Option, Some, option_and_then, []}
+use Rattle.std.specs.Prelude.{ℕ, ◌≡◌, List, drop, length, slice_get, Option, Some, option_and_then, [], None, IsTrue}
 use Rattle.legs.specs.Book.{Book}
 use Rattle.legs.specs.Costs.{ShapeView}
 use Rattle.legs.specs.Law.{IsBook}
 use Rattle.legs.specs.Limits.{LimitsView}
 use Rattle.legs.specs.Tracks.{StandsFor}
-use Rattle.pages.specs.Store.{Store, IsSyncedButFirst}
+use Rattle.pages.specs.Store.{Store, IsSyncedButFirst, IsLawful, Stays}
 use Rattle.pages.specs.Unsealed.{unsealed}
 use Rattle.pages.specs.declared.payload.Payload.{Payload}
-use Rattle.pagecache.specs.Cache.{fresh, stored_payload, IsClean}
+use Rattle.pagecache.specs.Cache.{fresh, stored_payload, IsClean, payload_of, Cache}
 use Rattle.tbtree.specs.declared.tree.Place.{Place}
 use Rattle.tbtree.specs.declared.tree.TbTree.{TbTree}
 use Rattle.boxsearch.specs.Index.{content, written, IndexView, IsSoundIndex}
 use Rattle.header.specs.Front.{IsUnfinished}
-use Rattle.register.specs.Lasting.{IsKept}
+use Rattle.register.specs.Lasting.{IsKept, first_fault, ComesFirst, IsReadingFault, IsStop}
 use Rattle.register.specs.Saved.{CatalogueView}
+use Rattle.chains.specs.Reads.{OnlyReads}
+use Rattle.register.specs.declared.fault.CatalogueFault.{CatalogueFault}
 
 -- page 0 as written is the header of a store that is not finished
 pub record IsUnfinishedStore (s : Store) : Type 0 where
@@ -76,3 +78,51 @@ pub record AnswersBook (shape : ShapeView) (limits : LimitsView) (book : Book) (
   pub of : IsOfBook limits book c
   pub sound : IsSoundIndex index
   pub legs : content index ≡ book.legs
+
+-- the catalogue and the index are what the pages of a finished store keep, over a faithful one; the cache was only read
+pub record IsRestored (cache : Cache) (c : CatalogueView) (index : IndexView) : Type 0 where
+  pub kept : IsTrue cache.store.is_faithful
+      → IsKept (payload_of cache) cache.count c index.tree index.places
+  pub reads : OnlyReads cache index.cache
+  pub legs : index.legs ≡ c.tracks.legs
+  pub lawful : IsLawful index.cache.store
+
+-- why nothing is restored; the cache that is handed back was only read
+pub record NotRestored (old new : Cache) (fault : CatalogueFault) : Type 0 where
+  -- a fault of page 0 is returned before any other
+  pub first : IsTrue old.store.is_faithful
+      → ComesFirst (first_fault old.count (payload_of old 0)) fault
+  -- if it is neither memory nor the store, the pages keep nothing
+  pub broken : IsTrue old.store.is_faithful → (IsStop fault → ⊥)
+      → (c : CatalogueView) (tree : TbTree) (places : List Place)
+      → IsKept (payload_of old) old.count c tree places → ⊥
+  pub back : OnlyReads old new
+  -- `Store` is returned only if the store failed, and `StoreFull` never
+  pub caused : IsReadingFault old.store new.store fault
+
+-- what opening a store answers, with a cache of at most so many pages
+pub record IsOpened (store : Store) (most : ℕ) (c : CatalogueView)
+    (index : IndexView) : Type 0 where
+  -- over a faithful store the index is at rest: its pages as written keep this catalogue
+  pub rest : IsTrue store.is_faithful → IsAtRest c index
+  pub capacity : index.cache.capacity ≡ most
+  -- a store whose pages hold a book gives that book
+  pub book : IsTrue store.is_faithful → (shape : ShapeView) (limits : LimitsView) (book : Book)
+      → HoldsBook store shape limits book → AnswersBook shape limits book c index
+  -- a faithful store has a page 0 without a fault
+  pub finished : IsTrue store.is_faithful → first_fault store.count (stored_payload store 0) ≡ None
+  -- the store stays as it is
+  pub stored : Stays store index.cache.store
+
+-- why a store is not opened, which is handed back
+pub record NotOpened (old new : Store) (fault : CatalogueFault) : Type 0 where
+  -- one that holds a book is refused only if memory runs out or the store fails
+  pub holds : IsTrue old.is_faithful → (shape : ShapeView) (limits : LimitsView) (book : Book)
+      → HoldsBook old shape limits book → IsStop fault
+  -- page 0 comes first
+  pub first : IsTrue old.is_faithful
+      → ComesFirst (first_fault old.count (stored_payload old 0)) fault
+  -- it is as it was
+  pub back : Stays old new
+  -- `Store` is returned only if the store failed, and `StoreFull` never
+  pub caused : IsReadingFault old new fault

@@ -1,23 +1,20 @@
 //! A store is closed.
-ghost use Rattle.std.specs.Prelude.{ℕ, ◌≡◌, ◌⊎◌, [], IfErr, OnErr, OnOk, Some};
-ghost use Rattle.legs.specs.Book.{Book};
+ghost use Rattle.std.specs.Prelude.{ℕ, ◌≡◌, ◌≤◌, List, Some};
 ghost use Rattle.legs.specs.declared.head.BookHead.{BookHead};
-ghost use Rattle.pages.specs.Store.{IsLawful, IsSynced, IsSyncedButFirst, Keeps};
+ghost use Rattle.pages.specs.Store.{IsLawful};
 ghost use Rattle.pagecache.specs.Cache.{IsSettled};
 ghost use Rattle.timebase.specs.Instant.{IsMoment};
-ghost use Rattle.boxsearch.specs.Beside.{with_cache};
-ghost use Rattle.boxsearch.specs.Index.{content, IsMarked, IsSoundIndex};
-ghost use Rattle.catalogue.specs.Closing.{IsClosingFault, IsNoStoreFault};
-ghost use Rattle.catalogue.specs.Holding.{HoldsBook, HoldsButFirst, IsOfBook, IsUnfinishedStore};
-ghost use Rattle.register.specs.Saving.{IsSavingStop, IsCaused};
+ghost use Rattle.chains.specs.declared.spans.LeafSpan.{LeafSpan};
+ghost use Rattle.catalogue.specs.Closing.{CloseStoreCall};
 
 use crate::finishing::finish;
-use crate::saving::save;
 use boxsearch::TreeIndex;
 use legs::BookHead;
+use pagecache::PageCache;
 use pages::PageStore;
-use register::{Catalogue, CatalogueFault, lawful};
+use register::{Catalogue, CatalogueFault, fault_of, keep, lawful};
 use std::alloc::Global;
+use tbtree::{Place, TbTree};
 
 /// What holds of the base of any head, for the proofs of a caller. It does nothing.
 fn dated(head: &Option<BookHead>)
@@ -31,48 +28,36 @@ fn dated(head: &Option<BookHead>)
     }
 }
 
-/// What holds of the cache of any index, for the proofs of a caller. It does nothing but that what is known of leaves
-/// is forgotten.
-fn settled<S: PageStore>(index: &mut TreeIndex<S>)
-    ensures same { index.new ≡ with_cache index.old index.old.cache [] }
-    ensures settled { IsSettled index.old.cache }
-    ensures lawful { IsLawful index.old.cache.store }
-{
-    let _ = index.cache_mut().store();
-}
-
-/// Saves the catalogue, writes all that is changed, and marks the store as finished.
-fn save_and_finish<S: PageStore>(
+/// Keeps the catalogue beside a tree and the places of its features, writes all that is changed, and marks the store
+/// as finished.
+fn keep_and_finish<S: PageStore>(
     alloc: Global,
     catalogue: &Catalogue,
-    index: &mut TreeIndex<S>,
+    tree: TbTree,
+    places: &[Place],
+    cache: &mut PageCache<S>,
 ) -> Result<(), CatalogueFault>
-    ensures holds { OnOk result (IsLawful index.new.cache.store → IsSoundIndex index.old
-        → IsMarked index.old.cache → (book : Book)
-        → IsOfBook catalogue.now.limits book catalogue.now → content index.old ≡ book.legs
-        → HoldsBook index.new.cache.store index.old.tree.shape catalogue.now.limits book) }
-    ensures synced { OnOk result (IsSynced index.new.cache.store) }
-    ensures only { IfErr result (λ fault. IsSoundIndex index.old → (book : Book)
-        → IsOfBook catalogue.now.limits book catalogue.now → content index.old ≡ book.legs
-        → IsSavingStop fault) }
-    ensures unfinished { IfErr result (λ fault. IsNoStoreFault fault → IsMarked index.old.cache
-        → IsUnfinishedStore index.new.cache.store) }
-    ensures refused { OnErr result (IsLawful index.new.cache.store → IsSoundIndex index.old
-        → IsMarked index.old.cache → (book : Book)
-        → IsOfBook catalogue.now.limits book catalogue.now → content index.old ≡ book.legs
-        → IsUnfinishedStore index.new.cache.store
-        ⊎ HoldsButFirst index.new.cache.store index.old.tree.shape catalogue.now.limits book) }
-    ensures ordered { OnErr result (IsMarked index.old.cache
-        → IsUnfinishedStore index.new.cache.store ⊎ IsSyncedButFirst index.new.cache.store) }
-    ensures keeps { Keeps index.old.cache.store index.new.cache.store }
-    ensures caused { IfErr result (IsCaused index.old.cache index.new.cache) }
+    // So it closes any index with this tree and these places over the cache.
+    ensures { (legs : ℕ) (known : List (List LeafSpan)) → IsLawful cache.new.store
+        → cache.new.count ≤ cache.new.store.count
+        → CloseStoreCall catalogue.now
+        (record {
+          cache = cache.old;
+          tree = tree;
+          places = places.now;
+          legs = legs;
+          known = known;
+        }) cache.new.store result }
 {
-    boxsearch::laws();
     register::laws();
     dated(&catalogue.head);
-    settled(index);
-    save(alloc, catalogue, index)?;
-    finish(index)
+    // For its clause alone: a page that is not changed is as written.
+    let _ = cache.store();
+    keep(alloc, catalogue, tree, places, cache)?;
+    match finish(cache) {
+        Ok(()) => Ok(()),
+        Err(fault) => Err(fault_of(fault)),
+    }
 }
 
 /// Closes the store of a database: its catalogue is saved, all that is changed is written and
@@ -88,39 +73,14 @@ pub fn close<S: PageStore>(
     catalogue: &Catalogue,
     mut index: TreeIndex<S>,
 ) -> (S, Result<(), CatalogueFault>)
-    // The store then holds the book that index and catalogue are of.
-    ensures holds { OnOk result.1 (IsSoundIndex index → IsMarked index.cache → (book : Book)
-        → IsOfBook catalogue.now.limits book catalogue.now → content index ≡ book.legs
-        → HoldsBook (S.seen result.0) index.tree.shape catalogue.now.limits book) }
-
-    // After `Ok` every page is synced, and no sync of the store ever failed.
-    ensures synced { OnOk result.1 (IsSynced (S.seen result.0)) }
-    // Closing the index of a book fails only if memory runs out, or the store fails or is full.
-    ensures only { IfErr result.1 (λ fault. IsSoundIndex index → (book : Book)
-        → IsOfBook catalogue.now.limits book catalogue.now → content index ≡ book.legs
-        → IsSavingStop fault) }
-    // If memory runs out or the store is full, a marked store says that it is not finished.
-    ensures unfinished { IfErr result.1 (λ fault. IsNoStoreFault fault → IsMarked index.cache
-        → IsUnfinishedStore (S.seen result.0)) }
-
-    // Before page 0 may say that the store is finished, all else is written and synced.
-    ensures refused { OnErr result.1 (IsSoundIndex index → IsMarked index.cache → (book : Book)
-        → IsOfBook catalogue.now.limits book catalogue.now → content index ≡ book.legs
-        → IsUnfinishedStore (S.seen result.0)
-        ⊎ HoldsButFirst (S.seen result.0) index.tree.shape catalogue.now.limits book) }
-
-    // On an error a marked store is unfinished, or all its pages but page 0 are synced.
-    ensures ordered { OnErr result.1 (IsMarked index.cache
-        → IsUnfinishedStore (S.seen result.0) ⊎ IsSyncedButFirst (S.seen result.0)) }
-    // It is the same store, and its count of faults did not fall.
-    ensures keeps { Keeps index.cache.store (S.seen result.0) }
+    ensures call { CloseStoreCall catalogue.now index (S.seen result.0) result.1 }
     // It has no more pages than it may, and fewer than 2^32.
     ensures lawful { IsLawful (S.seen result.0) }
-    // `Store` is returned only if the store failed, and `StoreFull` only if it is full.
-    ensures caused { IfErr result.1 (IsClosingFault index.cache.store (S.seen result.0)) }
 {
-    let result = save_and_finish(alloc, catalogue, &mut index);
-    let cache = index.into_cache();
+    let tree = index.tree();
+    let places = index.take_places();
+    let mut cache = index.into_cache();
+    let result = keep_and_finish(alloc, catalogue, tree, &places, &mut cache);
     lawful(&cache);
     // For its contract alone: the cache counts no more pages than the store.
     cache.count();

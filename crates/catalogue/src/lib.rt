@@ -5,14 +5,10 @@ mod beginning;
 mod closing;
 mod finishing;
 mod opening;
-mod resting;
-mod restoring;
 mod saving;
 
 pub use beginning::begin;
 pub use closing::{close, rest};
-pub use opening::open;
+pub use opening::{open, restore};
 pub use register::{Catalogue, CatalogueFault};
-pub use resting::laws;
-pub use restoring::restore;
 pub use saving::save;

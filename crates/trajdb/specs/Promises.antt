@@ -274,7 +274,7 @@ pub record CloseCall (db : DbView) (left : Store)
 
 -- what `check` of a database promises
 pub record CheckCall (old new : DbView) (result : Result Report RunFault) : Type 0 where
-  -- what passes is sound, whoever made the pages, and the report is true
+  -- what passes is sound, whoever made the pages
   pub sound : OnOk result (IsTrue old.index.cache.store.is_faithful → IsSoundDb new)
   -- page 0 then says unfinished if the database has begun; if not, no page is changed
   pub has_pages : OnOk result (IsTrue old.index.cache.store.is_faithful → HasPages new)

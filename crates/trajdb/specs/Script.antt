@@ -15,7 +15,7 @@ unfoldable pub pieces_of : List ℕ → List (List ℕ)
 pieces_of [] = []
 pieces_of (c ∷ cs) = if is_line_end c then [] ∷ pieces_of cs else onto_first c (pieces_of cs)
 
--- a piece without the CR at its end
+-- a piece without the CR at its end, where it has one
 unfoldable pub without_return : List ℕ → List ℕ
 without_return piece =
     if slice_index piece (length piece - 1) == 13 then take (length piece - 1) piece else piece

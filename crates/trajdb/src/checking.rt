@@ -153,7 +153,6 @@ impl<S: PageStore> Core<TreeIndex<S>> {
             → payload_of self.new.index.cache page ≡ payload_of self.old.index.cache page }
         ensures store { IfErr result (IsAsked words self.old.index self.new.index) }
     {
-        catalogue::laws();
         boxsearch::laws();
         // For its clause: a page that is not changed is as written.
         let _ = self.index.page_count();
@@ -187,7 +186,6 @@ impl<S: PageStore> Db<S> {
         ensures call { CheckCall self.old self.new result }
         ensures keeps { KeepsStore self.old self.new }
     {
-        catalogue::laws();
         if self.core.failed {
             return Err(RunFault::Failed);
         }

@@ -155,7 +155,6 @@ impl<S: PageStore> Db<S> {
         ensures call { LoadCall words self.old self.new bytes.now result }
         ensures keeps { KeepsStore self.old self.new }
     {
-        catalogue::laws();
         self.core.load(alloc, bytes)
     }
 
@@ -172,7 +171,6 @@ impl<S: PageStore> Db<S> {
         ensures call { CommandCall words files.now self.old self.new command.now result }
         ensures keeps { KeepsStore self.old self.new }
     {
-        catalogue::laws();
         self.core.command(alloc, command, files)
     }
 
@@ -198,7 +196,6 @@ impl<S: PageStore> Db<S> {
             (lines_of script.now) result }
         ensures keeps { KeepsStore self.old self.new }
     {
-        catalogue::laws();
         self.core.run(alloc, script, files, out)
     }
 }

@@ -81,7 +81,6 @@ impl<S: PageStore> Db<S> {
         requires cache_pages { 0 < cache_pages }
         ensures { OpenCall S.seen (S.seen store) cache_pages result }
     {
-        catalogue::laws();
         match catalogue::open(alloc, keys, store, cache_pages) {
             Ok((catalogue, index)) => Ok(Db {
                 core: Core::restored(catalogue, index, false),
@@ -114,7 +113,6 @@ impl<S: PageStore> Db<S> {
     pub fn close(self, alloc: Global) -> (S, Result<(), RunFault>)
         ensures { CloseCall self (S.seen result.0) result.1 }
     {
-        catalogue::laws();
         let (failed, begun) = (self.core.failed, self.core.begun);
         let (catalogue, index) = self.core.into_parts();
         if failed {
@@ -139,7 +137,6 @@ impl<S: PageStore> Db<S> {
         // After a failed load it says so too, or is the store that was there before.
         ensures safe { (was : Store) → IsSafe was self → IsSafeStore was (S.seen result) }
     {
-        catalogue::laws();
         let (_, index) = self.core.into_parts();
         catalogue::rest(index)
     }

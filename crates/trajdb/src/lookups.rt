@@ -58,7 +58,6 @@ impl<S: PageStore> Db<S> {
         ensures was_failed { self.old.failed ≡ true → (result ≡ Err RunFault.Failed)
             × (self.new ≡ self.old) }
     {
-        catalogue::laws();
         if self.core.failed {
             return Err(RunFault::Failed);
         }

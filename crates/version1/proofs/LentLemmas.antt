@@ -1,15 +1,11 @@
 -- The pages of a lent store, which stay as they are.
-use Rattle.std.proofs.Common.{ℕ, zero, suc, ◌≡◌, ◌<◌, ◌≤◌, ◌∙◌, List, [], ◌∷◌, length, refl, sym, ap, arith, IsTrue, Option, Some, None, option_and_then, slice_get, Ok, Err}
-use Rattle.std.specs.Option.{ok_or}
-use Rattle.std.proofs.lemmas.Int.{clamps}
+use Rattle.std.proofs.Common.{ℕ, zero, suc, ◌≡◌, ◌<◌, ◌≤◌, ◌∙◌, List, [], ◌∷◌, length, refl, sym, ap, arith, IsTrue, Option, Some, None, option_and_then, slice_get}
 use Rattle.pages.specs.Store.{Store as StoreView, IsLawful, Stays}
 use Rattle.pages.specs.Unsealed.{unsealed}
-use Rattle.pages.specs.declared.payload.PageFault.{PageFault}
 use Rattle.pages.specs.declared.payload.Payload.{Payload}
-use Rattle.pagecache.proofs.CallerLemmas.{store_unsyncs-trans}
 use Rattle.pagecache.specs.Cache.{stored_payload}
 use Rattle.register.specs.ChainReader.{ReaderView, rest_of, IsBroken, IsPageFault, TakesPart}
-use Rattle.version1.specs.OldReading.{IsLentFault, IsUnread, ShowsStored}
+use Rattle.version1.specs.OldStore.{IsUnread, ShowsStored}
 use Rattle.register.specs.declared.fault.CatalogueFault.{CatalogueFault}
 use Rattle.register.specs.declared.fault.CatalogueFault.TheVariants.{Memory, Store, StoreFull, Damaged, Unfinished, Version, Malformed}
 use Rattle.register.proofs.ReaderLemmas.{page_broken, rest_broken, rest_none, rest_step}
@@ -17,14 +13,6 @@ use Rattle.register.proofs.ReaderLemmas.{page_broken, rest_broken, rest_none, re
 pub stored_read : (s : StoreView) (n : ℕ) (page : List ℕ) → slice_get s.pages n ≡ Some page → stored_payload s n ≡ unsealed n page
 unfolding stored_payload
 stored_read s n page e = ap (option_and_then (unsealed n)) e
-
-pub ok_some : (o : Option Payload) (f : PageFault) (x : Payload) → ok_or o f ≡ Ok x → o ≡ Some x
-ok_some None f x e = let wrong : Err f ≡ Ok x = e in absurd (cc)
-ok_some (Some y) f x e = let same : Ok y ≡ Ok x = e in let s : y ≡ x = cc in ap (λ z. Some z) s
-
-pub ok_none : (o : Option Payload) (f g : PageFault) → ok_or o f ≡ Err g → o ≡ None
-ok_none None f g e = refl
-ok_none (Some y) f g e = let wrong : Ok y ≡ Err g = e in absurd (cc)
 
 -- behind the last page there is none
 none_behind : {X : Type 0} (xs : List X) (n : ℕ) → length xs ≤ n → slice_get xs n ≡ None
@@ -57,34 +45,10 @@ module _ (at : ℕ → Option Payload) (old : ReaderView) (n : ℕ) (named : n �
   pub lent_not_read : at n ≡ None → rest_of at old ≡ None
   lent_not_read none = rest_none at old some (ap at (sym named) ∙ none)
 
--- a store that stays and stays
-pub stays_trans : (a b c : StoreView) → Stays a b → Stays b c → Stays a c
-stays_trans a b c p q = record {
-  keeps = record {
-    most = q.keeps.most ∙ p.keeps.most;
-    faithful = q.keeps.faithful ∙ p.keeps.faithful;
-    faults = omega (arith, p.keeps.faults, q.keeps.faults);
-    lost = λ l. q.keeps.lost (p.keeps.lost l);
-  };
-  count = q.count ∙ p.count;
-  pages = λ fa. q.pages (p.keeps.faithful ∙ fa) ∙ p.pages fa;
-  unsynced = store_unsyncs-trans a b c p.unsynced q.unsynced;
-}
-
--- and has the payloads that it had
+-- a store that stays has the payloads that it had
 pub stays_payload : (a b : StoreView) → Stays a b → IsTrue a.is_faithful → stored_payload b ≡ stored_payload a
 unfolding stored_payload
 stays_payload a b s fa = λ i n. option_and_then (unsealed n) (slice_get (s.pages fa i) n)
-
--- a fault that came later
-pub later_fault : (a b c : StoreView) (e : CatalogueFault) → Stays a b → Stays b c → IsLentFault b c e → IsLentFault a c e
-later_fault a b c Memory p q h = tt
-later_fault a b c Store p q h = let x = p.keeps.faults in omega (arith, clamps, h, x)
-later_fault a b c StoreFull p q h = absurd h
-later_fault a b c (Damaged m) p q h = tt
-later_fault a b c Unfinished p q h = absurd h
-later_fault a b c Version p q h = absurd h
-later_fault a b c Malformed p q h = tt
 
 -- pages that a store has it has once it stayed
 pub still_stored : (a b : StoreView) (s : Stays a b) (at : ℕ → Option Payload) → ShowsStored a at → ShowsStored b at

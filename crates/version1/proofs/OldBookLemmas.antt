@@ -9,13 +9,11 @@ use Rattle.pagecache.specs.Cache.{stored_payload}
 use Rattle.treecheck.specs.Check.{HoldLegs}
 use Rattle.tbtree.specs.declared.tree.Place.{Place}
 use Rattle.tbtree.specs.declared.tree.TbTree.{TbTree}
-use Rattle.register.specs.Building.{tree_of, IsOf}
+use Rattle.register.specs.Restoring.{tree_of, IsOf, IsRest}
 use Rattle.catalogue.specs.Holding.{IsOfBook}
 use Rattle.register.specs.Lasting.{IsStop}
-use Rattle.version1.specs.OldReading.{as_written}
+use Rattle.version1.specs.OldStore.{as_written, present_shape, AnswersOld, HoldsOldBook, IsKeptOld}
 use Rattle.version1.specs.OldLegs.{pages_of_old}
-use Rattle.version1.specs.OldStore.{present_shape, AnswersOld, AnswersOldBook, HoldsOldBook, IsKeptOld}
-use Rattle.register.specs.Restoring.{IsRest}
 use Rattle.register.specs.Saved.{CatalogueView}
 use Rattle.register.specs.declared.fault.CatalogueFault.{CatalogueFault}
 use Rattle.version1.specs.declared.old_header.OldFields.{OldFields}
@@ -25,6 +23,20 @@ use Rattle.catalogue.proofs.OpenLemmas.{stop_of}
 use Rattle.register.proofs.RestoreLemmas.{contents_same}
 use Rattle.register.specs.Lasting.{IsSame}
 use Rattle.register.proofs.SameLemmas.{of_same}
+
+-- a book that is held is read but for its legs: the catalogue is its own; the leaf is that of the
+-- shape, and the other shape comes nearest; and with the places the pages hold its legs, in a tree
+-- of that shape
+pub record AnswersOldBook (s : StoreView) (shape : ShapeView) (limits : LimitsView) (book : Book)
+    (c : CatalogueView) (leaf : ℕ) (near : ShapeView) (places : List Place) : Type 0 where
+  pub leaf_is : shape.leaf ≡ leaf
+  pub shape_is : near ≡ present_shape shape
+  pub of : IsOfBook limits book c
+  pub tree : TbTree
+  pub tree_shape : tree.shape ≡ shape
+  pub hold : HoldLegs (pages_of_old s) tree (length book.rows) (length book.legs) places
+      c.tracks.tracks
+  pub legs : hold.legs ≡ book.legs
 
 old_kept_tree : (at : ℕ → Option Payload) (count : ℕ) (c : CatalogueView) (tree : TbTree) (places : List Place) (k : IsKeptOld at count c tree places) → tree_of (as_written (old_kept at count c tree places k)) ≡ tree
 old_kept_tree at count c tree places k = (λ i. record tree { spent = (sym k.works) i })

@@ -1,10 +1,8 @@
 -- What the form of a leaf of version 1 says, and what its legs are.
-use Rattle.std.proofs.Common.{◌≡◌, ◌≢◌, ℕ, ◌-◌, ◌<◌, ◌≤◌, ◌==◌, Bool, true, false, ◌&&◌, ◌||◌, if◌then◌else◌, List, length, Some, None, slice_get, refl, sym, ap, ◌∙◌, subst, nat_le, nat_lt}
+use Rattle.std.proofs.Common.{◌≡◌, ◌≢◌, ℕ, ◌-◌, ◌<◌, ◌≤◌, ◌==◌, true, false, ◌&&◌, ◌||◌, if◌then◌else◌, List, length, Some, None, slice_get, refl, sym, ap, ◌∙◌, nat_le, nat_lt}
 use Rattle.std.specs.Prelude.{◌<ℤ◌}
 use Rattle.std.specs.Option.{is_some}
-use Rattle.std.specs.List.{All}
-use Rattle.std.proofs.lemmas.Bool.{leb-true, eqb-true, false≢true}
-use Rattle.std.proofs.lemmas.Option.{same_Some}
+use Rattle.std.proofs.lemmas.Bool.{leb-true, eqb-true}
 use Rattle.fixedpoint.specs.Number.{units_within}
 use Rattle.timebase.specs.Instant.{some_moment}
 use Rattle.legs.specs.Legs.{LegView, IsLeg}
@@ -12,12 +10,12 @@ use Rattle.legs.specs.Boxes.{BoxView}
 use Rattle.pages.specs.declared.payload.Kind.{Kind}
 use Rattle.pages.specs.declared.payload.Kind.TheVariants.{Header, Leaf, Inner, Catalogue}
 use Rattle.pages.specs.declared.payload.Payload.{Payload}
-use Rattle.tbnode.specs.Nodes.{LeafView, Node, ALeaf, AnInner, as_leaf, as_inner}
+use Rattle.tbnode.specs.Nodes.{LeafView, Node, ALeaf, AnInner, as_leaf}
 use Rattle.tbnode.specs.Parts.{number_at, signed_at, slot, all_below}
 use Rattle.tbnode.specs.Layout.{has_moments, has_start, has_end}
-use Rattle.tbnode.specs.Form.{leaf_feature, leaf_leg_count, leaf_from_bytes, is_leaf, inner_of, is_inner, node_by, node_of}
-use Rattle.version1.specs.OldForm.{old_leg_of, is_old_leg, old_leg_at, old_leaf_of, is_old_leg_at, is_old_leaf, old_node_by, old_node_of, OldLegsAreLawful, IsFlat, OldLegsAreFlat, OldInnersAreInners}
-use Rattle.tbnode.proofs.ListLemmas.{and_left, and_right, all_below-at, length-made, get-made, all-made}
+use Rattle.tbnode.specs.Form.{leaf_leg_count, inner_of, is_inner}
+use Rattle.version1.specs.OldForm.{old_leg_of, is_old_leg, old_leg_at, old_leaf_of, is_old_leg_at, is_old_leaf, old_node_by, old_node_of}
+use Rattle.tbnode.proofs.ListLemmas.{and_left, and_right, all_below-at, length-made, get-made}
 use Rattle.tbnode.proofs.LawLemmas.{and_three, legs_moments, legs_start, legs_end, is_leg-from}
 
 -- a leg
@@ -37,10 +35,6 @@ leg_is : (f : ℕ) (bytes : List ℕ) → is_old_leg bytes ≡ true → IsLeg (o
 leg_is f bytes e =
     let t = leg_tests bytes e in
     with_feature f bytes (is_leg-from (old_leg_of 0 bytes) t.0 t.1 t.2)
-
-leg_flat : (f : ℕ) (bytes : List ℕ) → IsFlat (old_leg_of f bytes)
-unfolding old_leg_of
-leg_flat f bytes = record { start = refl; end = refl }
 
 -- the numbers of a lawful leg are in range, and its moments rise
 module _ (bytes : List ℕ) (e : is_old_leg bytes ≡ true) where
@@ -144,66 +138,3 @@ no_leaf_by Catalogue bytes h = refl
 pub old_leaf-other : (p : Payload) → p.kind ≢ Leaf → None ≡ as_leaf (old_node_of p)
 unfolding old_node_of
 old_leaf-other p h = no_leaf_by p.kind p.bytes h
-
--- the laws
-
--- a payload with the form of a leaf, whose legs are v
-record Holds (bytes : List ℕ) (v : LeafView LegView) : Type 0 where
-  form : is_old_leaf bytes ≡ true
-  same : old_leaf_of bytes ≡ v
-
-leaf_by : (k : Kind) (bytes : List ℕ) (v : LeafView LegView) → as_leaf (old_node_by k bytes) ≡ Some v → Holds bytes v
-leaf_by Header bytes v h = absurd (false≢true (ap is_some h))
-leaf_by Leaf bytes v h =
-    let n : Node LegView BoxView = ALeaf (old_leaf_of bytes) in
-    let tested : (b : Bool) → as_leaf (if b then Some n else None) ≡ Some v → (b ≡ true) × (old_leaf_of bytes ≡ v) =
-    λ b. elim b as (λ b. as_leaf (if b then Some n else None) ≡ Some v → (b ≡ true) × (old_leaf_of bytes ≡ v))
-    [ true ↦ λ e. (refl, same_Some (old_leaf_of bytes) v e) | false ↦ λ e. absurd (false≢true (ap is_some e)) ] in
-    let t = tested (is_old_leaf bytes) h in
-    record { form = t.0; same = t.1 }
-leaf_by Inner bytes v h =
-    let n : Node LegView BoxView = AnInner (inner_of bytes) in
-    let tested : (b : Bool) → as_leaf (if b then Some n else None) ≡ Some v → ⊥ =
-    λ b. elim b as (λ b. as_leaf (if b then Some n else None) ≡ Some v → ⊥) [ true ↦ λ e. false≢true (ap is_some e) | false ↦ λ e. false≢true (ap is_some e) ] in
-    absurd (tested (is_inner bytes) h)
-leaf_by Catalogue bytes v h = absurd (false≢true (ap is_some h))
-
-leaf_held : (p : Payload) (v : LeafView LegView) → old_node_of p ≡ Some (ALeaf v) → Holds p.bytes v
-unfolding old_node_of
-leaf_held p v e = leaf_by p.kind p.bytes v (ap as_leaf e)
-
-legs_of_form : (bytes : List ℕ) → is_old_leaf bytes ≡ true → All IsLeg (old_leaf_of bytes).legs
-unfolding old_leaf_of
-legs_of_form bytes e =
-    all-made IsLeg (old_leg_at bytes) (leaf_leg_count bytes)
-    (λ i l. leg_is (leaf_feature bytes) (slot 64 i bytes) (old_leg_lawful bytes i e l))
-
-legs_made_flat : (bytes : List ℕ) → All IsFlat (old_leaf_of bytes).legs
-unfolding old_leaf_of
-legs_made_flat bytes =
-    all-made IsFlat (old_leg_at bytes) (leaf_leg_count bytes) (λ i _. leg_flat (leaf_feature bytes) (slot 64 i bytes))
-
-pub old_legs_are_lawful : OldLegsAreLawful
-old_legs_are_lawful p v e =
-    let h = leaf_held p v e in
-    subst (λ (w : LeafView LegView). All IsLeg w.legs) h.same (legs_of_form p.bytes h.form)
-
-pub old_legs_are_flat : OldLegsAreFlat
-old_legs_are_flat p v e =
-    let h = leaf_held p v e in
-    subst (λ (w : LeafView LegView). All IsFlat w.legs) h.same (legs_made_flat p.bytes)
-
--- no inner page where a test for a leaf answers
-no_inner_if : (b : Bool) (v : LeafView LegView) → let n : Node LegView BoxView = ALeaf v in None ≡ as_inner (if b then Some n else None)
-no_inner_if true v = refl
-no_inner_if false v = refl
-
-inner_by : (k : Kind) (bytes : List ℕ) → as_inner (old_node_by k bytes) ≡ as_inner (node_by k bytes)
-inner_by Header bytes = refl
-inner_by Leaf bytes = sym (no_inner_if (is_old_leaf bytes) (old_leaf_of bytes)) ∙ no_inner_if (is_leaf bytes) (leaf_from_bytes bytes)
-inner_by Inner bytes = refl
-inner_by Catalogue bytes = refl
-
-pub old_inners_are_inners : OldInnersAreInners
-unfolding old_node_of node_of
-old_inners_are_inners p = inner_by p.kind p.bytes

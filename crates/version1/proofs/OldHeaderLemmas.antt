@@ -4,8 +4,7 @@ use Rattle.byteorder.specs.Endian.{big_bytes}
 use Rattle.pages.specs.declared.payload.Payload.{Payload}
 use Rattle.tbnode.specs.Parts.{part}
 use Rattle.header.specs.Fields.{SaysLimits, SaysShape}
-use Rattle.version1.specs.OldReading.{as_written, SaysOldBody, SaysOldFields}
-use Rattle.version1.specs.OldStore.{old_fields_bytes, HasOldFields}
+use Rattle.version1.specs.OldStore.{as_written, old_fields_bytes, HasOldFields, SaysOldBody, SaysOldFields}
 use Rattle.header.specs.declared.header_fields.Fields.{Fields}
 use Rattle.version1.specs.declared.old_header.OldFields.{OldFields}
 use Rattle.header.proofs.FieldsLemmas.{cut, joined}
@@ -83,4 +82,4 @@ module _ (payload : Payload) (a b : OldFields) (h : SaysOldBody payload a) (k : 
 pub old_fields_same : (count : ℕ) (first : Option Payload) (f g : OldFields) → SaysOldFields count first f → SaysOldFields count first g → f ≡ g
 old_fields_same count first f g h k =
     let same : h.payload ≡ k.payload = some_same (sym h.is ∙ k.is) in
-    old_free h.payload f g h.says.body (subst (λ p. SaysOldBody p g) (sym same) k.says.body)
+    old_free h.payload f g h.body (subst (λ p. SaysOldBody p g) (sym same) k.body)

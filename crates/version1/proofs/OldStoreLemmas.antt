@@ -1,5 +1,6 @@
 -- A catalogue that is read from a lent store of version 1.
-use Rattle.std.proofs.Common.{ℕ, ◌≡◌, ◌≢◌, ◌∙◌, ◌++◌, [], List, refl, sym, ap, arith, subst, inl, inr, ⊎_elim, IsTrue, Option, Some, None, option_map}
+use Rattle.std.proofs.Common.{ℕ, ◌≡◌, ◌≢◌, ◌∙◌, ◌++◌, [], List, refl, sym, ap, arith, subst, inl, inr, ⊎_elim, IsTrue, Option, Some, None, option_map, true, nat_lt, if◌then◌else◌}
+use Rattle.std.proofs.lemmas.Bool.Decides.{nat_tests}
 use Rattle.std.proofs.lemmas.Int.{clamps}
 use Rattle.legs.specs.Limits.{IsLimits}
 use Rattle.pages.specs.Store.{Store as StoreView, Stays}
@@ -7,14 +8,13 @@ use Rattle.pages.specs.declared.payload.Payload.{Payload}
 use Rattle.pagecache.specs.Cache.{stored_payload}
 use Rattle.tbtree.specs.declared.tree.Place.{Place}
 use Rattle.tbtree.specs.declared.tree.TbTree.{TbTree}
-use Rattle.register.specs.Building.{tree_of}
+use Rattle.register.specs.Restoring.{tree_of, HoldsContents, IsRest}
 use Rattle.register.specs.Chain.{text_at}
 use Rattle.register.specs.ChainReader.{rest_of, IsBroken, ReaderView}
 use Rattle.header.specs.Fields.{FitsFields}
-use Rattle.register.specs.Lasting.{IsStop}
-use Rattle.version1.specs.OldReading.{as_written, IsBringingFault, SaysOldFields}
-use Rattle.version1.specs.OldStore.{old_payload_fault, present_shape, AnswersOld, HasOldFields, IsKeptOld, IsOldReadingFault}
-use Rattle.register.specs.Restoring.{HoldsContents, IsRest}
+use Rattle.register.specs.Lasting.{IsBehindFirst, IsReadingFault, IsStop}
+use Rattle.version1.specs.OldStore.{as_written, old_first_fault, old_payload_fault, present_shape, AnswersOld, HasOldFields, IsBringingFault, IsKeptOld, SaysOldFields}
+use Rattle.version1.specs.Migrating.{IsMigratingFault}
 use Rattle.register.specs.Saved.{fields_for, CatalogueView}
 use Rattle.register.specs.Saving.{contents_of}
 use Rattle.register.specs.Text.{catalogue_text, AreFew, IsRead, IsWhole}
@@ -63,7 +63,7 @@ module _ (at bt : ℕ → Option Payload) (count first length : ℕ) where
 -- what is read is kept
 pub old_rest_kept : (at : ℕ → Option Payload) (count : ℕ) (old : OldFields) (c : CatalogueView) (places : List Place) → SaysOldFields count (at 0) old → IsRest at count old.fields c places → IsKeptOld at count c (tree_of (as_written old)) places
 old_rest_kept at count old c places says rest =
-    let body = says.says.body in
+    let body = says.body in
     let fields = as_written old in
     let same : fields ≡ fields_for c.limits c.head (tree_of fields) fields.first fields.length =
     (λ i. record fields { limits = (sym rest.of.limits) i; dimension = (sym rest.of.dimension) i }) in
@@ -85,7 +85,7 @@ old_rest_kept at count old c places says rest =
         text = rest.holds.text ∙ ap (λ k. Some (catalogue_text k)) (sym is);
       };
       whole = subst (λ k. IsWhole k) (sym is) rest.holds.whole;
-      finished = ap old_payload_fault says.is ∙ says.says.finished;
+      finished = ap old_payload_fault says.is ∙ says.finished;
       within = record { root = rest.within.root; leaves = rest.within.leaves; levels = rest.within.levels };
       works = refl;
       lawful = rest.of.lawful;
@@ -96,7 +96,7 @@ old_answers at count old c places says rest = record {
   tree = tree_of (as_written old);
   kept = old_rest_kept at count old c places says rest;
   leaf_is = refl;
-  shape_is = (let n = says.says.body.nearest in λ i. record { leaf = n i; inner = old.fields.shape.inner });
+  shape_is = (let n = says.body.nearest in λ i. record { leaf = n i; inner = old.fields.shape.inner });
 }
 
 -- what is kept is read
@@ -111,16 +111,14 @@ module _ (at : ℕ → Option Payload) (count : ℕ) (c : CatalogueView) (tree :
         some = (let r = k.within.root in omega (arith, r));
         payload = k.says.payload;
         is = k.says.is;
-        says = record {
-          finished = sym (ap old_payload_fault k.says.is) ∙ k.finished;
-          body = record {
-            has = k.says.fields;
-            fits = record { root = fits.root; levels = fits.levels; leaves = fits.leaves; first = fits.first; length = fits.length; dimension = fits.dimension };
-            shape = k.says.shape;
-            nearest = refl;
-            limits = k.says.limits;
-            dimension = k.says.dimension;
-          };
+        finished = sym (ap old_payload_fault k.says.is) ∙ k.finished;
+        body = record {
+          has = k.says.fields;
+          fits = record { root = fits.root; levels = fits.levels; leaves = fits.leaves; first = fits.first; length = fits.length; dimension = fits.dimension };
+          shape = k.says.shape;
+          nearest = refl;
+          limits = k.says.limits;
+          dimension = k.says.dimension;
         };
       }
 
@@ -161,13 +159,37 @@ bringing_breaks old new below after Unfinished h not = absurd h
 bringing_breaks old new below after Version h not = absurd h
 bringing_breaks old new below after Malformed h not = tt
 
--- a fault that came later
-module _ (a b d below after : StoreView) (p : Stays a b) where
-  pub bringing_later : (e : CatalogueFault) → IsBringingFault b d below after e → IsOldReadingFault a d below after e
-  bringing_later Memory h = tt
-  bringing_later Store h = ⊎_elim (λ x. inl (let f = p.keeps.faults in omega (arith, clamps, x, f))) (λ x. inr x) h
-  bringing_later StoreFull h = absurd h
-  bringing_later (Damaged m) h = tt
-  bringing_later Unfinished h = tt
-  bringing_later Version h = tt
-  bringing_later Malformed h = tt
+-- and does not come before one of page 0
+pub bringing_behind : (old new below after : StoreView) (e : CatalogueFault) → IsBringingFault old new below after e → IsBehindFirst e
+bringing_behind old new below after Memory h = tt
+bringing_behind old new below after Store h = tt
+bringing_behind old new below after StoreFull h = tt
+bringing_behind old new below after (Damaged n) h = tt
+bringing_behind old new below after Unfinished h = h
+bringing_behind old new below after Version h = h
+bringing_behind old new below after Malformed h = tt
+
+-- a page 0 that says a header has no fault
+pub first_none : (count : ℕ) (first : Option Payload) (old : OldFields) → SaysOldFields count first old → old_first_fault count first ≡ None
+first_none count first old s =
+    let there : nat_lt 0 count ≡ true = (let some = s.some in grind (arith, nat_tests, some)) in
+    ap (λ b. if b then old_payload_fault first else Some Malformed) there ∙ ap old_payload_fault s.is ∙ s.finished
+
+-- faults of reading are faults of bringing over
+pub reading_brings : (a b below : StoreView) (e : CatalogueFault) → IsReadingFault a b e → IsMigratingFault a b below below e
+reading_brings a b below Memory h = tt
+reading_brings a b below Store h = inl h
+reading_brings a b below StoreFull h = absurd h
+reading_brings a b below (Damaged m) h = tt
+reading_brings a b below Unfinished h = tt
+reading_brings a b below Version h = tt
+reading_brings a b below Malformed h = tt
+
+pub bringing_later : (a b d below after : StoreView) (e : CatalogueFault) → Stays a b → IsBringingFault b d below after e → IsMigratingFault a d below after e
+bringing_later a b d below after Memory p h = tt
+bringing_later a b d below after Store p h = ⊎_elim (λ x. inl (let f = p.keeps.faults in omega (arith, clamps, x, f))) (λ x. inr x) h
+bringing_later a b d below after StoreFull p h = absurd h
+bringing_later a b d below after (Damaged m) p h = tt
+bringing_later a b d below after Unfinished p h = tt
+bringing_later a b d below after Version p h = tt
+bringing_later a b d below after Malformed p h = tt

@@ -5,7 +5,6 @@ use Rattle.std.specs.Map.{lookup}
 use Rattle.std.specs.Option.{IsSome}
 use Rattle.std.proofs.lemmas.Bool.{cases_lt, eqb-true}
 use Rattle.legs.specs.Boxes.{BoxView}
-use Rattle.legs.specs.declared.index.IndexFault.TheVariants as index
 use Rattle.legs.specs.Index.{MayRefuseLeg}
 use Rattle.legs.specs.Legs.{LegView}
 use Rattle.pagecache.specs.declared.fault.CacheFault.TheVariants as cache

@@ -33,7 +33,7 @@ use Rattle.tbtree.specs.Faults.{RefusesRead}
 use Rattle.tbtree.specs.declared.fault.TreeFault.{TreeFault}
 use Rattle.tbtree.specs.declared.fault.TreeFault.TheVariants.{Cache as OfCache, Malformed, Spent}
 use Rattle.version1.specs.OldLegs.{AreAmong, AreSurveyed, HaveLegsOf, IsNumbered, IsOneOf, StandByOrdinal}
-use Rattle.version1.specs.Waiting.{Holds, MayWait}
+use Rattle.version1.specs.Migrating.{Holds, MayWait}
 use Rattle.treecheck.specs.Ordering.{IsSurveyWhole}
 use Rattle.treecheck.specs.Walking.{IsMet, Surveys}
 use Rattle.treecheck.specs.declared.walking.Met.{Met}

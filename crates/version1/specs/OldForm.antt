@@ -1,16 +1,16 @@
 -- The node that a payload of a store of version 1 says. Its leaves are laid out otherwise: a leg has no heights and
 -- 64 bytes, and at most 63 fit. Its inner pages are those of the present version.
-use Rattle.std.specs.Prelude.{ℕ, ◌≡◌, ◌-◌, ◌==◌, nat_lt, nat_le, Bool, ◌&&◌, ◌||◌, if◌then◌else◌, List, map, pos, Option, Some, None}
-use Rattle.std.specs.List.{All, range_with_len}
-use Rattle.legs.specs.Legs.{LegView, IsLeg}
+use Rattle.std.specs.Prelude.{ℕ, ◌-◌, ◌==◌, nat_lt, nat_le, Bool, ◌&&◌, ◌||◌, if◌then◌else◌, List, map, pos, Option, Some, None}
+use Rattle.std.specs.List.{range_with_len}
+use Rattle.legs.specs.Legs.{LegView}
 use Rattle.legs.specs.Boxes.{BoxView}
 use Rattle.pages.specs.declared.payload.Kind.{Kind}
 use Rattle.pages.specs.declared.payload.Kind.TheVariants.{Header, Leaf, Inner, Catalogue}
 use Rattle.pages.specs.declared.payload.Payload.{Payload}
-use Rattle.tbnode.specs.Nodes.{LeafView, Node, ALeaf, as_inner}
+use Rattle.tbnode.specs.Nodes.{LeafView, Node, ALeaf}
 use Rattle.tbnode.specs.Parts.{number_at, signed_at, slot, all_below}
 use Rattle.tbnode.specs.Layout.{has_moments, has_start, has_end}
-use Rattle.tbnode.specs.Form.{leaf_feature, leaf_leg_count, node_by, node_of}
+use Rattle.tbnode.specs.Form.{leaf_feature, leaf_leg_count, node_by}
 
 -- the leg of a feature that 64 bytes say; its heights are 0
 unfoldable pub old_leg_of : ℕ → List ℕ → LegView
@@ -69,25 +69,3 @@ old_node_by Catalogue bytes = None
 -- the node that a payload says; none where no form is met
 unfoldable pub old_node_of : Payload → Option (Node LegView BoxView)
 old_node_of payload = old_node_by payload.kind payload.bytes
-
--- the legs of each leaf are lawful
-abbrev pub OldLegsAreLawful : Type 0
-OldLegsAreLawful =
-    (payload : Payload) (leaf : LeafView LegView) → old_node_of payload ≡ Some (ALeaf leaf)
-    → All IsLeg leaf.legs
-
--- a leg that starts and ends at height 0
-pub record IsFlat (leg : LegView) : Type 0 where
-  pub start : leg.z0 ≡ pos 0
-  pub end : leg.z1 ≡ pos 0
-
--- the legs of each leaf are flat
-abbrev pub OldLegsAreFlat : Type 0
-OldLegsAreFlat =
-    (payload : Payload) (leaf : LeafView LegView) → old_node_of payload ≡ Some (ALeaf leaf)
-    → All IsFlat leaf.legs
-
--- inner pages are those of the present version
-abbrev pub OldInnersAreInners : Type 0
-OldInnersAreInners =
-    (payload : Payload) → as_inner (old_node_of payload) ≡ as_inner (node_of payload)

@@ -1,30 +1,33 @@
 -- A finished store of version 1, as it is read to be brought over. Its page 0 has another version, leaves of up to 63
 -- legs, and no dimension, which was 2; its catalogue is that of the present version.
-use Rattle.std.specs.Prelude.{ℕ, ◌≡◌, ◌≤◌, ◌⊎◌, ◌++◌, nat_lt, min, false, if◌then◌else◌, List, length, Option, Some, None}
+use Rattle.std.specs.Prelude.{ℕ, ◌≡◌, ◌≤◌, ◌++◌, nat_lt, min, false, if◌then◌else◌, List, length, Option, Some, None, ◌<◌, ◌⊎◌, IsTrue, Result, IfErr, IfOk, OnOk}
 use Rattle.std.specs.Int.{div_ceil}
 use Rattle.byteorder.specs.Endian.{big_bytes}
 use Rattle.legs.specs.Book.{Book}
 use Rattle.legs.specs.Costs.{ShapeView}
 use Rattle.legs.specs.Limits.{IsLimits, LimitsView}
-use Rattle.pages.specs.Store.{Store as StoreView, Faulted}
+use Rattle.pages.specs.Store.{Store as StoreView, Faulted, Stays}
 use Rattle.pages.specs.declared.payload.Payload.{Payload}
-use Rattle.pagecache.specs.Cache.{stored_payload}
+use Rattle.pagecache.specs.Cache.{stored_payload, fresh, Cache}
 use Rattle.tbnode.specs.Parts.{part}
 use Rattle.treecheck.specs.Check.{HoldLegs}
 use Rattle.tbtree.specs.declared.tree.Place.{Place}
 use Rattle.tbtree.specs.declared.tree.TbTree.{TbTree}
 use Rattle.version1.specs.OldLegs.{pages_of_old}
 use Rattle.register.specs.Chain.{most_used, text_at}
-use Rattle.header.specs.Fields.{FitsFields}
+use Rattle.header.specs.Fields.{FitsFields, SaysShape}
 use Rattle.catalogue.specs.Holding.{IsOfBook}
-use Rattle.register.specs.Lasting.{front_fault, IsLawfulCatalogue, IsWithin}
+use Rattle.register.specs.Lasting.{front_fault, IsLawfulCatalogue, IsWithin, ComesFirst, IsReadingFault, IsStop}
 use Rattle.header.specs.Front.{front_of}
 use Rattle.register.specs.Saved.{dimensions_of, fields_for, CatalogueView}
 use Rattle.register.specs.Saving.{contents_of}
 use Rattle.register.specs.Text.{catalogue_text, IsWhole}
 use Rattle.register.specs.declared.fault.CatalogueFault.{CatalogueFault}
-use Rattle.register.specs.declared.fault.CatalogueFault.TheVariants.{Memory, Store, StoreFull, Damaged, Unfinished, Version, Malformed}
+use Rattle.register.specs.declared.fault.CatalogueFault.TheVariants.{Damaged, Malformed, Memory, Store}
 use Rattle.header.specs.declared.header_fields.Fields.{Fields}
+use Rattle.chains.specs.Reads.{OnlyReads}
+use Rattle.register.specs.ChainReader.{rest_of, IsBroken, IsReadFault, ReaderView}
+use Rattle.version1.specs.declared.old_header.OldFields.{OldFields}
 
 -- a leaf has room for 2 to 63 legs, an inner page for 2 to 72 entries
 pub record IsOldShape (shape : ShapeView) : Type 0 where
@@ -116,26 +119,92 @@ pub record AnswersOld (at : ℕ → Option Payload) (count : ℕ) (c : Catalogue
   pub leaf_is : tree.shape.leaf ≡ leaf
   pub shape_is : shape ≡ present_shape tree.shape
 
--- one of two stores failed where that is said; a call that only reads says nothing of a full store
-abbrev pub IsOldReadingFault : (old new below after : StoreView) → CatalogueFault → Type 0
-IsOldReadingFault old new below after Memory = Unit {0}
-IsOldReadingFault old new below after Store = Faulted old new ⊎ Faulted below after
-IsOldReadingFault old new below after StoreFull = ⊥
-IsOldReadingFault old new below after (Damaged page) = Unit {0}
-IsOldReadingFault old new below after Unfinished = Unit {0}
-IsOldReadingFault old new below after Version = Unit {0}
-IsOldReadingFault old new below after Malformed = Unit {0}
+-- why a lent store is not read on, as a cache over it that holds no page is not
+abbrev pub IsLentFault : StoreView → StoreView → CatalogueFault → Type 0
+IsLentFault old new = IsReadFault (fresh old 1) (fresh new 1)
 
--- a book that is held is read but for its legs: the catalogue is its own; the leaf is that of the
--- shape, and the other shape comes nearest; and with the places the pages hold its legs, in a tree
--- of that shape
-pub record AnswersOldBook (s : StoreView) (shape : ShapeView) (limits : LimitsView) (book : Book)
-    (c : CatalogueView) (leaf : ℕ) (near : ShapeView) (places : List Place) : Type 0 where
-  pub leaf_is : shape.leaf ≡ leaf
-  pub shape_is : near ≡ present_shape shape
-  pub of : IsOfBook limits book c
-  pub tree : TbTree
-  pub tree_shape : tree.shape ≡ shape
-  pub hold : HoldLegs (pages_of_old s) tree (length book.rows) (length book.legs) places
-      c.tracks.tracks
-  pub legs : hold.legs ≡ book.legs
+-- a faithful store has these pages
+pub record ShowsStored (s : StoreView) (at : ℕ → Option Payload) : Type 0 where
+  pub faithful : IsTrue s.is_faithful
+  pub same : (p : ℕ) → at p ≡ stored_payload s p
+
+-- why page n is not read: it is not there, or damaged, or the store failed
+abbrev pub IsUnread : ℕ → StoreView → StoreView → CatalogueFault → Type 0
+IsUnread n old new Store = Faulted old new
+IsUnread n old new (Damaged page) =
+    (page ≡ n) × (n < old.count) × (IsTrue old.is_faithful → stored_payload old n ≡ None)
+IsUnread n old new Malformed = old.count ≤ n
+IsUnread n old new _ = ⊥
+
+-- what a chain of a lent store is read to, and why it is not
+pub record ReadsOn (old new : StoreView) (from to : ReaderView)
+    (result : Result (Unit {0}) CatalogueFault) : Type 0 where
+  pub same : OnOk result ((at : ℕ → Option Payload) → ShowsStored old at
+      → rest_of at to ≡ rest_of at from)
+  pub broken : IfErr result (λ e. (at : ℕ → Option Payload) → ShowsStored old at → IsBroken e
+      → rest_of at from ≡ None)
+  pub stays : Stays old new
+  pub caused : IfErr result (IsLentFault old new)
+
+-- the bytes of a payload say a shape of version 1, of this leaf and of the inner page of this
+-- shape, which comes nearest
+pub record SaysOldShape (bytes : List ℕ) (leaf : ℕ) (shape : ShapeView) : Type 0 where
+  pub says : SaysShape bytes (record { leaf = leaf; inner = shape.inner })
+  pub in_range : IsOldShape (record { leaf = leaf; inner = shape.inner })
+  pub nearest : shape.leaf ≡ min leaf 50
+
+-- the fields as they are written: their leaf is that of version 1
+abbrev pub as_written : OldFields → Fields
+as_written old =
+    record old.fields { shape = record { leaf = old.leaf; inner = old.fields.shape.inner } }
+
+-- what stands behind the first 12 bytes of a header of version 1 says these
+pub record SaysOldBody (payload : Payload) (old : OldFields) : Type 0 where
+  pub has : HasOldFields payload (as_written old)
+  pub fits : FitsFields old.fields
+  pub shape : IsOldShape (record { leaf = old.leaf; inner = old.fields.shape.inner })
+  pub nearest : old.fields.shape.leaf ≡ min old.leaf 50
+  pub limits : IsLimits old.fields.limits
+  pub dimension : old.fields.dimension ≡ 2
+
+-- page 0 of so many is the header of a finished store of version 1, and says these
+pub record SaysOldFields (count : ℕ) (first : Option Payload) (old : OldFields) : Type 0 where
+  pub some : 0 < count
+  pub payload : Payload
+  pub is : first ≡ Some payload
+  pub finished : old_header_fault payload ≡ None
+  pub body : SaysOldBody payload old
+
+-- why a header says nothing
+pub record IsOldHeaderFault (payload : Payload) (fault : CatalogueFault) : Type 0 where
+  pub first : ComesFirst (old_header_fault payload) fault
+  pub none : old_header_fault payload ≡ None → (old : OldFields) → SaysOldBody payload old → ⊥
+
+-- why page 0 of a store says no header of version 1
+pub record NoOldHeader (old new : StoreView) (fault : CatalogueFault) : Type 0 where
+  pub first : IsTrue old.is_faithful
+      → ComesFirst (old_first_fault old.count (stored_payload old 0)) fault
+  pub broken : IsTrue old.is_faithful → (IsStop fault → ⊥) → (fields : OldFields)
+      → SaysOldFields old.count (stored_payload old 0) fields → ⊥
+  pub caused : IsReadingFault old new fault
+
+-- one of two stores failed where that is said, of which the first is lent; and nothing is said of a full or unfinished
+-- store
+abbrev pub IsBringingFault : (old new below after : StoreView) → CatalogueFault → Type 0
+IsBringingFault old new below after Memory = Unit {0}
+IsBringingFault old new below after Store = Faulted old new ⊎ Faulted below after
+IsBringingFault old new below after (Damaged page) = Unit {0}
+IsBringingFault old new below after Malformed = Unit {0}
+IsBringingFault old new below after _ = ⊥
+
+-- what is read of the pages of a lent store, beside a cache of a new store that is asked for none, or why nothing is
+pub record ReadsLent {T : Type 0} (old new : StoreView) (below after : Cache)
+    (is_read : (ℕ → Option Payload) → T → Type 0) (none : (ℕ → Option Payload) → Type 0)
+    (result : Result T CatalogueFault) : Type 0 where
+  pub is : IfOk result (λ v. IsTrue below.store.is_faithful → (at : ℕ → Option Payload)
+      → ShowsStored old at → is_read at v)
+  pub broken : IfErr result (λ e. IsTrue below.store.is_faithful → (at : ℕ → Option Payload)
+      → ShowsStored old at → IsBroken e → none at)
+  pub stays : Stays old new
+  pub reads : OnlyReads below after
+  pub caused : IfErr result (IsBringingFault old new below.store after.store)

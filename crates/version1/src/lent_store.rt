@@ -1,10 +1,8 @@
 //! The pages of a lent store, which are read and never written.
-ghost use Rattle.std.specs.Prelude.{ℕ, ◌≡◌, ◌<◌, Option, Some, None, IsTrue, IfErr, IfOk, OnOk};
+ghost use Rattle.std.specs.Prelude.{◌≡◌, ◌<◌, Some, IsTrue, IfErr, IfOk, OnOk};
 ghost use Rattle.pages.specs.Store.{Stays};
 ghost use Rattle.pagecache.specs.Cache.{stored_payload};
-ghost use Rattle.pages.specs.declared.payload.Payload.{Payload};
-ghost use Rattle.register.specs.ChainReader.{rest_of, IsBroken};
-ghost use Rattle.version1.specs.OldReading.{IsLentFault, IsUnread, ShowsStored};
+ghost use Rattle.version1.specs.OldStore.{IsUnread, ReadsOn};
 
 use pages::{PageFault, PageStore, Payload, unseal};
 use register::{CatalogueFault, ChainReader};
@@ -41,13 +39,8 @@ pub(crate) fn read_sealed<S: PageStore>(
 /// Reads the next page of the chain from a lent store.
 fn load_lent<S: PageStore>(store: &mut S, reader: &mut ChainReader) -> Result<(), CatalogueFault>
     requires { 0 < reader.old.left }
-    ensures same { OnOk result ((at : ℕ → Option Payload) → ShowsStored (S.seen store.old) at
-        → rest_of at reader.new ≡ rest_of at reader.old) }
+    ensures reads { ReadsOn (S.seen store.old) (S.seen store.new) reader.old reader.new result }
     ensures left { OnOk result (reader.new.left < reader.old.left) }
-    ensures broken { IfErr result (λ e. (at : ℕ → Option Payload)
-        → ShowsStored (S.seen store.old) at → IsBroken e → rest_of at reader.old ≡ None) }
-    ensures stays { Stays (S.seen store.old) (S.seen store.new) }
-    ensures caused { IfErr result (IsLentFault (S.seen store.old) (S.seen store.new)) }
 {
     match read_sealed(store, reader.next_page()) {
         Ok(payload) => reader.take_page(&payload),
@@ -60,13 +53,8 @@ pub(crate) fn fill_lent<S: PageStore>(
     store: &mut S,
     reader: &mut ChainReader,
 ) -> Result<(), CatalogueFault>
-    ensures same { OnOk result ((at : ℕ → Option Payload) → ShowsStored (S.seen store.old) at
-        → rest_of at reader.new ≡ rest_of at reader.old) }
+    ensures reads { ReadsOn (S.seen store.old) (S.seen store.new) reader.old reader.new result }
     ensures ended { OnOk result (reader.new.left ≡ 0) }
-    ensures broken { IfErr result (λ e. (at : ℕ → Option Payload)
-        → ShowsStored (S.seen store.old) at → IsBroken e → rest_of at reader.old ≡ None) }
-    ensures stays { Stays (S.seen store.old) (S.seen store.new) }
-    ensures caused { IfErr result (IsLentFault (S.seen store.old) (S.seen store.new)) }
 {
     while reader.left() > 0 {
         load_lent(store, reader)?;

@@ -11,5 +11,5 @@ mod old_store;
 mod waiting;
 
 pub use migrating::migrate;
-pub use old_form::{MOST_OLD_LEGS, OldLeaf, laws, old_leaf};
+pub use old_form::{MOST_OLD_LEGS, OldLeaf, old_leaf};
 pub use old_legs::take_old_legs;

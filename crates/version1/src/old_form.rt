@@ -2,7 +2,7 @@
 ghost use Rattle.std.specs.Prelude.{◌≡◌, ◌+◌, ◌*◌, ◌≤◌, length};
 ghost use Rattle.tbnode.specs.Parts.{all_below};
 ghost use Rattle.tbnode.specs.Nodes.{as_leaf};
-ghost use Rattle.version1.specs.OldForm.{is_old_leg_at, is_old_leaf, old_node_of, OldInnersAreInners, OldLegsAreFlat, OldLegsAreLawful};
+ghost use Rattle.version1.specs.OldForm.{is_old_leg_at, is_old_leaf, old_node_of};
 
 use crate::old_laid::{is_old_leg, old_leg_in, old_ordinal_in};
 use legs::Leg;
@@ -161,13 +161,3 @@ pub fn old_leaf(payload: &Payload) -> Option<OldLeaf<'_>>
         _ => None,
     }
 }
-
-/// What holds of each payload, whoever wrote it, for the proofs of a caller. It does nothing.
-pub fn laws()
-    // The legs of each leaf of version 1 are lawful, whoever wrote it.
-    ensures old_legs { OldLegsAreLawful }
-    // They start and end at height 0.
-    ensures old_legs_flat { OldLegsAreFlat }
-    // An inner page of version 1 is one of the present version.
-    ensures old_inners { OldInnersAreInners }
-{}

@@ -4,8 +4,7 @@ ghost use Rattle.legs.specs.Costs.{ShapeView};
 ghost use Rattle.pages.specs.Store.{Store};
 ghost use Rattle.pages.specs.declared.payload.Payload.{Payload};
 ghost use Rattle.register.specs.Lasting.{IsReadingFault};
-ghost use Rattle.version1.specs.OldStore.{old_header_fault, IsOldShape};
-ghost use Rattle.version1.specs.OldReading.{IsOldHeaderFault, OldHeaderSays, SaysOldBody, SaysOldShape};
+ghost use Rattle.version1.specs.OldStore.{old_header_fault, IsOldHeaderFault, IsOldShape, SaysOldBody, SaysOldShape};
 ghost use Rattle.register.specs.Restoring.{result_of};
 ghost use Rattle.version1.specs.declared.old_header.OldFields.{OldFields};
 
@@ -107,7 +106,8 @@ fn old_fields_of(payload: &Payload) -> Option<OldFields>
 
 /// What the header of a finished store of version 1 says.
 pub(crate) fn old_header_of(payload: &Payload) -> Result<OldFields, CatalogueFault>
-    ensures says { IfOk result (λ old. OldHeaderSays payload.now old) }
+    ensures says { IfOk result (λ old. (old_header_fault payload.now ≡ None)
+        × SaysOldBody payload.now old) }
     ensures fault { IfErr result (IsOldHeaderFault payload.now) }
     ensures caused { IfErr result (λ e. (old new : Store) → IsReadingFault old new e) }
 {

@@ -1,10 +1,9 @@
 //! The legs of a lent store of version 1.
-ghost use Rattle.std.specs.Prelude.{ℕ, ◌≡◌, ◌≢◌, ◌+◌, ◌-◌, ◌<◌, List, Some, [], ◌⊎◌, None, IsErrOf, IfOk, IfErr, IsTrue, OnOk};
-ghost use Rattle.legs.specs.Asking.{IsLater};
-ghost use Rattle.legs.specs.Index.{HasRisen, MayRefuseLeg};
+ghost use Rattle.std.specs.Prelude.{◌≡◌, ◌≢◌, ◌+◌, ◌-◌, ◌<◌, List, Some, None, IfOk, IfErr, IsTrue, OnOk};
+ghost use Rattle.legs.specs.Index.{MayRefuseLeg};
 ghost use Rattle.legs.specs.Legs.{LegView};
 ghost use Rattle.legs.specs.declared.index.IndexFault.{IndexFault};
-ghost use Rattle.pages.specs.Store.{Faulted, Stays};
+ghost use Rattle.pages.specs.Store.{Stays};
 ghost use Rattle.pagecache.specs.Cache.{fresh, payload_of};
 ghost use Rattle.version1.specs.OldForm.{old_node_of};
 ghost use Rattle.treecheck.specs.Check.{HoldChains};
@@ -13,7 +12,8 @@ ghost use Rattle.tbtree.specs.Turn.{ComeInTurn, IsRising};
 ghost use Rattle.tbtree.specs.Descent.{legs_in};
 ghost use Rattle.treecheck.specs.Checking.{Agree};
 ghost use Rattle.chains.specs.Reads.{Reads};
-ghost use Rattle.version1.specs.OldLegs.{pages_of_old, unsealing, AreAmong, AreOpened, AreReadable, AreSurveyed, HaveEachOf, HaveLegsOf, IsNumbered, IsReadable, Opens, StandByOrdinal};
+ghost use Rattle.version1.specs.Migrating.{IsReady, TakesFrom, TakesLegs};
+ghost use Rattle.version1.specs.OldLegs.{unsealing, AreAmong, AreOpened, AreReadable, AreSurveyed, HaveEachOf, HaveLegsOf, IsNumbered, IsReadable, Opens, StandByOrdinal};
 ghost use Rattle.treecheck.specs.Walking.{after, pages_by, IsNextNode, Notes};
 ghost use Rattle.treecheck.specs.declared.walking.Met.{Met};
 
@@ -158,7 +158,6 @@ fn survey_leaves<S: PageStore>(
     ensures surveyed { IfOk result (λ survey. IsTrue (S.seen store.old).is_faithful
         → AreSurveyed (pages_by old_node_of (fresh (S.seen store.old) 1)) most rows
         tracks.now.legs places.now tracks.now.tracks survey.leaves.items) }
-    ensures agree { OnOk result (Agree tracks.now rows tracks.now.legs) }
     ensures only { IfErr result (λ fault. IsTrue (S.seen store.old).is_faithful
         → Agree tracks.now rows tracks.now.legs → (legs : List LegView)
         → HoldChains (pages_by old_node_of (fresh (S.seen store.old) 1)) most rows tracks.now.legs
@@ -278,38 +277,10 @@ pub fn take_old_legs<S: PageStore, I: LegIndex>(
 ) -> Result<(), IndexFault>
     // A leaf has room for a leg.
     requires { 0 < most }
-    // Of a faithful store what comes into an index without legs is the list that its chains hold.
-    ensures brought { OnOk result (IsTrue (S.seen old.old).is_faithful → I.is_sound index.old
-        → I.content index.old ≡ [] → I.is_sound index.new
-        × HoldChains (pages_of_old (S.seen old.old)) most rows tracks.now.legs places.now
-        tracks.now.tracks (I.content index.new)) }
-
-    // The tracks have the numbers of what is brought.
-    ensures agree { OnOk result (Agree tracks.now rows tracks.now.legs) }
-
-    // Whole chains are brought, but for memory, a store that failed, or a full one.
-    ensures only { IfErr result (λ fault. IsTrue (S.seen old.old).is_faithful
-        → I.is_sound index.old → I.content index.old ≡ []
-        → Agree tracks.now rows tracks.now.legs → (legs : List LegView)
-        → HoldChains (pages_of_old (S.seen old.old)) most rows tracks.now.legs places.now
-        tracks.now.tracks legs → MayRefuseLeg fault) }
-
-    // The store is only read, and the index stays marked.
-    ensures stays { Stays (S.seen old.old) (S.seen old.new) }
-    // An index that was marked stays marked, on an error too.
-    ensures marked { IsTrue (S.seen old.old).is_faithful → I.is_sound index.old
-        → I.content index.old ≡ [] → I.is_marked index.old → I.is_marked index.new }
-    // The index keeps its shape, and none of its counts falls.
-    ensures later { IsLater I.Listed index.old index.new }
-
-    // Why it is refused.
-    ensures store { IsErrOf result IndexFault.Store
-        → Faulted (S.seen old.old) (S.seen old.new)
-        ⊎ HasRisen (I.faults index.old) (I.faults index.new) }
-    // `StoreFull` is returned only if the index's store is full.
-    ensures full { IsErrOf result IndexFault.StoreFull → I.is_store_full index.new }
+    // The legs of the old store come into the index, or it is said why not.
+    ensures { TakesLegs I.Listed (S.seen old.old) (S.seen old.new) most rows tracks.now places.now
+        index.old index.new result }
 {
-    treecheck::laws();
     let survey = match survey_leaves(alloc, old, most, places, tracks, rows) {
         Ok(survey) => survey,
         Err(fault) => return Err(of_tree(fault)),
@@ -333,25 +304,21 @@ fn bring<S: PageStore, I: LegIndex>(
     legs: u64,
     index: &mut I,
 ) -> Result<(), IndexFault>
-    ensures brought { OnOk result (IsTrue (S.seen old.old).is_faithful → I.is_sound index.old
-        → I.content index.old ≡ [] → (list : List LegView)
+    ensures brought { OnOk result (IsReady I.Listed (S.seen old.old) index.old
+        → (list : List LegView)
         → HaveLegsOf (pages_by old_node_of (fresh (S.seen old.old) 1)) leaves.now list
         → IsNumbered legs list → I.is_sound index.new × (I.content index.new ≡ list)) }
-    ensures only { IfErr result (λ fault. IsTrue (S.seen old.old).is_faithful
-        → I.is_sound index.old → I.content index.old ≡ [] → (list : List LegView)
+    ensures only { IfErr result (λ fault. IsReady I.Listed (S.seen old.old) index.old
+        → (list : List LegView)
         → HaveLegsOf (pages_by old_node_of (fresh (S.seen old.old) 1)) leaves.now list
         → HaveEachOf (pages_by old_node_of (fresh (S.seen old.old) 1)) leaves.now list
         → IsNumbered legs list → MayRefuseLeg fault) }
-    ensures stays { Stays (S.seen old.old) (S.seen old.new) }
-    ensures marked { IsTrue (S.seen old.old).is_faithful → I.is_sound index.old
-        → I.content index.old ≡ [] → I.is_marked index.old → (list : List LegView)
+    ensures marked { IsReady I.Listed (S.seen old.old) index.old → I.is_marked index.old
+        → (list : List LegView)
         → HaveLegsOf (pages_by old_node_of (fresh (S.seen old.old) 1)) leaves.now list
         → IsNumbered legs list → I.is_marked index.new }
-    ensures store { IsErrOf result IndexFault.Store
-        → Faulted (S.seen old.old) (S.seen old.new)
-        ⊎ HasRisen (I.faults index.old) (I.faults index.new) }
-    ensures full { IsErrOf result IndexFault.StoreFull → I.is_store_full index.new }
-    ensures later { IsLater I.Listed index.old index.new }
+    ensures takes { TakesFrom I.Listed (S.seen old.old) (S.seen old.new) index.old index.new
+        result }
 {
     let mut opened = HashMap::with_hasher(alloc, keys);
     let mut waiting = Vec::new(alloc);

@@ -1,22 +1,15 @@
 //! The catalogue of a finished store of version 1, which is lent and read.
-ghost use Rattle.std.specs.Prelude.{ℕ, ◌≡◌, ◌≤◌, List, None, Option, IsTrue, IfErr, IfOk};
-ghost use Rattle.legs.specs.Book.{Book};
-ghost use Rattle.legs.specs.Costs.{ShapeView};
-ghost use Rattle.legs.specs.Limits.{LimitsView};
+ghost use Rattle.std.specs.Prelude.{◌≡◌, ◌≤◌, List, Option, IsTrue, IfErr, IfOk};
 ghost use Rattle.pages.specs.Store.{Stays};
 ghost use Rattle.pagecache.specs.Cache.{stored_payload};
 ghost use Rattle.chains.specs.Reads.{OnlyReads};
-ghost use Rattle.pages.specs.declared.payload.Payload.{Payload};
-ghost use Rattle.register.specs.ChainReader.{IsBroken};
-ghost use Rattle.register.specs.Lasting.{ComesFirst, IsReadingFault, IsStop};
-ghost use Rattle.version1.specs.OldReading.{IsBringingFault, ShowsStored, SaysOldFields};
-ghost use Rattle.version1.specs.OldStore.{old_first_fault, AnswersOld, AnswersOldBook, HoldsOldBook, IsOldReadingFault};
+ghost use Rattle.version1.specs.Migrating.{IsReadOld, NotMigrated};
+ghost use Rattle.version1.specs.OldStore.{NoOldHeader, ReadsLent, SaysOldFields};
 ghost use Rattle.register.specs.Restoring.{HoldsContents, IsRest};
 ghost use Rattle.register.specs.Saved.{CatalogueView};
 ghost use Rattle.register.specs.Text.{AreFew};
 ghost use Rattle.tbtree.specs.declared.tree.Place.{Place};
 ghost use Rattle.register.specs.declared.contents.Contents.{Contents};
-ghost use Rattle.version1.specs.declared.old_header.OldFields.{OldFields};
 
 use crate::lent_store::{fill_lent, read_sealed};
 use crate::old_header::{OldFields, old_header_of};
@@ -47,15 +40,8 @@ fn read_old_header<S: PageStore>(lent: &mut S) -> Result<OldFields, CatalogueFau
     ensures says { IfOk result (λ old. IsTrue (S.seen lent.old).is_faithful
         → SaysOldFields (S.seen lent.old).count (stored_payload (S.seen lent.old) 0) old) }
     ensures leaf { IfOk result (λ old. 2 ≤ old.leaf) }
-    ensures finished { IfOk result (λ old. IsTrue (S.seen lent.old).is_faithful
-        → old_first_fault (S.seen lent.old).count (stored_payload (S.seen lent.old) 0) ≡ None) }
-    ensures first { IfErr result (λ e. IsTrue (S.seen lent.old).is_faithful → ComesFirst
-        (old_first_fault (S.seen lent.old).count (stored_payload (S.seen lent.old) 0)) e) }
-    ensures broken { IfErr result (λ e. IsTrue (S.seen lent.old).is_faithful → (IsStop e → ⊥)
-        → (old : OldFields) → SaysOldFields (S.seen lent.old).count
-        (stored_payload (S.seen lent.old) 0) old → ⊥) }
+    ensures refused { IfErr result (NoOldHeader (S.seen lent.old) (S.seen lent.new)) }
     ensures stays { Stays (S.seen lent.old) (S.seen lent.new) }
-    ensures caused { IfErr result (IsReadingFault (S.seen lent.old) (S.seen lent.new)) }
 {
     match read_sealed(lent, 0) {
         Ok(payload) => old_header_of(&payload),
@@ -72,18 +58,12 @@ fn read_old_contents<S: PageStore, T: PageStore>(
     fields: &Fields,
 ) -> Result<Option<Contents>, CatalogueFault>
     requires { cache.old.count ≡ 0 }
-    ensures holds { IfOk result (λ contents. IsTrue cache.old.store.is_faithful
-        → (at : ℕ → Option Payload) → ShowsStored (S.seen lent.old) at
-        → HoldsContents at (S.seen lent.old).count fields.now.first fields.now.length contents) }
-    ensures broken { IfErr result (λ e. IsTrue cache.old.store.is_faithful
-        → (at : ℕ → Option Payload) → ShowsStored (S.seen lent.old) at → IsBroken e
-        → (contents : Option Contents) → AreFew fields.now.limits.legs contents
+    ensures { ReadsLent (S.seen lent.old) (S.seen lent.new) cache.old cache.new
+        (λ at contents. HoldsContents at (S.seen lent.old).count fields.now.first
+        fields.now.length contents)
+        (λ at. (contents : Option Contents) → AreFew fields.now.limits.legs contents
         → HoldsContents at (S.seen lent.old).count fields.now.first fields.now.length contents
-        → ⊥) }
-    ensures stays { Stays (S.seen lent.old) (S.seen lent.new) }
-    ensures reads { OnlyReads cache.old cache.new }
-    ensures caused { IfErr result (IsBringingFault (S.seen lent.old) (S.seen lent.new)
-        cache.old.store cache.new.store) }
+        → ⊥) result }
 {
     if fields.length.div_ceil(MOST_USED) > u64::from(lent.len()) {
         return Err(CatalogueFault::Malformed);
@@ -103,17 +83,10 @@ fn read_old_rest<S: PageStore, T: PageStore>(
     fields: &Fields,
 ) -> Result<(Catalogue, Vec<Place>), CatalogueFault>
     requires { cache.old.count ≡ 0 }
-    ensures rest { IfOk result (λ r. IsTrue cache.old.store.is_faithful
-        → (at : ℕ → Option Payload) → ShowsStored (S.seen lent.old) at
-        → IsRest at (S.seen lent.old).count fields.now r.0 r.1.items) }
-    ensures broken { IfErr result (λ e. IsTrue cache.old.store.is_faithful
-        → (at : ℕ → Option Payload) → ShowsStored (S.seen lent.old) at → IsBroken e
-        → (c : CatalogueView) (places : List Place)
-        → IsRest at (S.seen lent.old).count fields.now c places → ⊥) }
-    ensures stays { Stays (S.seen lent.old) (S.seen lent.new) }
-    ensures reads { OnlyReads cache.old cache.new }
-    ensures caused { IfErr result (IsBringingFault (S.seen lent.old) (S.seen lent.new)
-        cache.old.store cache.new.store) }
+    ensures { ReadsLent (S.seen lent.old) (S.seen lent.new) cache.old cache.new
+        (λ at r. IsRest at (S.seen lent.old).count fields.now r.0 r.1.items)
+        (λ at. (c : CatalogueView) (places : List Place)
+        → IsRest at (S.seen lent.old).count fields.now c places → ⊥) result }
 {
     let count = lent.len();
     if !is_within(count, fields) {
@@ -137,35 +110,12 @@ pub(crate) fn read_old<S: PageStore, T: PageStore>(
     cache: &mut PageCache<T>,
 ) -> Result<OldRestored, CatalogueFault>
     requires { cache.old.count ≡ 0 }
-    ensures kept { IfOk result (λ r. IsTrue (S.seen lent.old).is_faithful
-        → IsTrue cache.old.store.is_faithful → AnswersOld (stored_payload (S.seen lent.old))
-        (S.seen lent.old).count r.catalogue r.leaf r.shape r.places.items) }
-
-    ensures leaf { IfOk result (λ r. 2 ≤ r.leaf) }
-
-    // A store whose pages hold a book is read, and gives that book but for its legs.
-    ensures book { IfOk result (λ r. IsTrue (S.seen lent.old).is_faithful
-        → IsTrue cache.old.store.is_faithful
-        → (shape : ShapeView) (limits : LimitsView) (book : Book)
-        → HoldsOldBook (S.seen lent.old) shape limits book
-        → AnswersOldBook (S.seen lent.old) shape limits book r.catalogue r.leaf r.shape
-        r.places.items) }
-    ensures holds { IfErr result (λ e. IsTrue (S.seen lent.old).is_faithful
-        → IsTrue cache.old.store.is_faithful
-        → (shape : ShapeView) (limits : LimitsView) (book : Book)
-        → HoldsOldBook (S.seen lent.old) shape limits book → IsStop e) }
-
-    // Page 0 comes first.
-    ensures first { IfErr result (λ e. IsTrue (S.seen lent.old).is_faithful → ComesFirst
-        (old_first_fault (S.seen lent.old).count (stored_payload (S.seen lent.old) 0)) e) }
-    ensures finished { IfOk result (λ r. IsTrue (S.seen lent.old).is_faithful
-        → old_first_fault (S.seen lent.old).count (stored_payload (S.seen lent.old) 0) ≡ None) }
-
-    // The store stays as it is.
+    ensures read { IfOk result (λ r. IsReadOld (S.seen lent.old) cache.old.store r.catalogue r.leaf
+        r.shape r.places.items) }
+    ensures refused { IfErr result (NotMigrated (S.seen lent.old) (S.seen lent.new)
+        cache.old.store cache.new.store) }
     ensures stays { Stays (S.seen lent.old) (S.seen lent.new) }
     ensures reads { OnlyReads cache.old cache.new }
-    ensures caused { IfErr result (IsOldReadingFault (S.seen lent.old) (S.seen lent.new)
-        cache.old.store cache.new.store) }
 {
     let old = read_old_header(lent)?;
     let (catalogue, places) = read_old_rest(alloc, keys, lent, cache, &old.fields)?;

@@ -1,53 +1,57 @@
-use Rattle.std.proofs.Common.{◌∙◌}
-use Rattle.catalogue.proofs.FinishLemmas.{finishes, unwritten}
-use Rattle.catalogue.proofs.RefusedLemmas.{not_zero, reads_others, sets_others, OnlyFirst}
-use Rattle.catalogue.proofs.ResultLemmas.{on_ok}
+use Rattle.std.proofs.Common.{arith, subst, sym}
+use Rattle.pagecache.proofs.CallerLemmas.{refused_after}
+use Rattle.pagecache.specs.Cache.{Cache}
+use Rattle.register.proofs.ReaderLemmas.{if_err, on_err_and, on_ok}
+use Rattle.catalogue.specs.Finishing.{FinishesAll}
+use Rattle.catalogue.specs.Holding.{IsUnfinishedStore}
+use Rattle.catalogue.proofs.FinishLemmas.{finishes, reads_others, sets_others, stopped_after, then_others, unwritten}
 use Rattle.catalogue.proofs.finishing.finish.Goals as goal
 
-pub returns-clause-finishes : goal.returns-clause-finishes
-returns-clause-finishes g c =
-    let a = c.args.index.now.cache in
-    let b = c.write_all.new.index.cache in
-    let d = c.set_state.new.index.cache in
-    on_ok c.write_all-2.result (λ all f counts.
-    finishes a b c.write_all.ensures.stays c.in_ok-write_all.ensures.written f d c.in_ok-set_state.ensures.sets c.write_all-2.new.index.cache c.write_all-2.ensures.stays all c.write_all.ensures.length c.write_all-2.ensures.length counts) c.write_all-2.ensures.written
+pub returns-in_err-flush : goal.returns-in_err-flush
+returns-in_err-flush g c =
+    let a = c.args.cache.now in
+    let b = c.flush.new.self in
+    let e = c.in_err-flush.field-0.0 in
+    let f = c.in_err-flush.ensures in
+    on_err_and (λ r. FinishesAll a b r) c.from_residual.result e c.from_residual.ensures.1 (record {
+      finishes = tt;
+      synced = tt;
+      others = reads_others a b f.stays f.unsynced f.length;
+      unfinished = λ memory fa some was says. subst (λ (k : Cache). IsUnfinishedStore k.store) (sym (f.memory memory)) was;
+      caused = stopped_after a a b 0 e (omega arith) f.cause;
+    })
 
-pub returns-clause-unfinished : goal.returns-clause-unfinished
-returns-clause-unfinished g c = λ memory f some header.
-    let a = c.args.index.now.cache in
-    let b = c.write_all.new.index.cache in
-    let d = c.set_state.new.index.cache in
-    unwritten a b c.write_all.ensures.stays c.in_ok-write_all.ensures.written f d c.in_ok-set_state.ensures.sets c.write_all-2.new.index.cache (c.write_all-2.ensures.memory memory) some header
+pub returns-in_err-set_state : goal.returns-in_err-set_state
+returns-in_err-set_state g c =
+    let a = c.args.cache.now in
+    let b = c.flush.new.self in
+    let d = c.set_state.new.cache in
+    let e = c.in_err-set_state.field-0.0 in
+    let f = c.in_ok-flush.ensures in
+    let r = c.in_err-set_state.ensures.rests in
+    on_err_and (λ r. FinishesAll a d r) c.from_residual-in_err-set_state.result e c.from_residual-in_err-set_state.ensures.1 (record {
+      finishes = tt;
+      synced = tt;
+      others = then_others a b d (reads_others a b f.stays f.unsynced f.length) (reads_others b d r.stays r.unsynced r.length);
+      unfinished = λ memory fa some was says. unwritten a b f.stays f.written fa d r.stays.keeps some says;
+      caused = refused_after a b d 0 e f.stays c.in_err-set_state.ensures.caused;
+    })
 
-pub returns-in_err-write_all-clause-others : goal.returns-in_err-write_all-clause-others
-returns-in_err-write_all-clause-others g c = λ f clean. (reads_others _ _ c.write_all.ensures.stays f clean).1
-
-pub returns-in_err-set_state-clause-others : goal.returns-in_err-set_state-clause-others
-returns-in_err-set_state-clause-others g c = λ f clean.
-    let b = reads_others _ _ c.write_all.ensures.stays f clean in
-    let d = reads_others _ _ c.in_err-set_state.ensures.rests.stays (c.write_all.ensures.stays.keeps.store.faithful ∙ f) b.0 in
-    d.1 ∙ b.1
-
-pub returns-clause-others : goal.returns-clause-others
-returns-clause-others g c = λ f clean.
-    let b = reads_others _ _ c.write_all.ensures.stays f clean in
-    let fb = c.write_all.ensures.stays.keeps.store.faithful ∙ f in
+pub returns : goal.returns
+returns g c =
+    let a = c.args.cache.now in
+    let b = c.flush.new.self in
+    let d = c.set_state.new.cache in
+    let k = c.flush-2.new.self in
+    let f = c.in_ok-flush.ensures in
     let sets = c.in_ok-set_state.ensures.sets in
-    let d = sets_others _ _ sets.lends.writes fb b.0 in
-    let e = reads_others _ _ c.write_all-2.ensures.stays (sets.lends.writes.keeps.store.faithful ∙ fb) d.0 in
-    e.1 ∙ d.1 ∙ b.1
-
-pub returns-in_err-write_all-clause-others_synced : goal.returns-in_err-write_all-clause-others_synced
-returns-in_err-write_all-clause-others_synced g c = λ clean synced. c.write_all.ensures.reads.unsynced.but_first clean synced
-
-pub returns-in_err-set_state-clause-others_synced : goal.returns-in_err-set_state-clause-others_synced
-returns-in_err-set_state-clause-others_synced g c = λ clean synced.
-    let b = c.write_all.ensures.reads in
-    c.in_err-set_state.ensures.rests.unsynced.but_first (λ n h. b.changed n (clean n h)) (b.unsynced.but_first clean synced)
-
-pub returns-clause-others_synced : goal.returns-clause-others_synced
-returns-clause-others_synced g c = λ clean synced.
-    let b = c.write_all.ensures.reads in
-    let l = c.in_ok-set_state.ensures.sets.lends in
-    let still : OnlyFirst c.write_all.new.index.cache = λ n h. b.changed n (clean n h) in
-    c.write_all-2.ensures.reads.unsynced.but_first (λ n h. l.writes.changed n (not_zero n h) (still n h)) (l.unsynced.but_first still (b.unsynced.but_first clean synced))
+    let l = c.flush-2.ensures in
+    let first = then_others a b d (reads_others a b f.stays f.unsynced f.length) (sets_others b d _ sets.lends) in
+    let others = then_others a d k first (reads_others d k l.stays l.unsynced l.length) in
+    record {
+      finishes = on_ok c.flush-2.result (λ all fa counts. finishes a b f.stays f.written fa d sets k l.stays all others counts) l.written;
+      synced = l.synced;
+      others = others;
+      unfinished = λ memory fa some was says. subst (λ (x : Cache). IsUnfinishedStore x.store) (sym (l.memory memory)) (unwritten a b f.stays f.written fa d sets.lends.writes.keeps some says);
+      caused = if_err _ _ c.flush-2.result (λ e h. stopped_after a d k 0 e first.store.faults h) l.cause;
+    }

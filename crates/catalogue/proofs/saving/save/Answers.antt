@@ -1,8 +1,8 @@
-use Rattle.std.proofs.Common.{ℕ, List, ◌≡◌, ◌<◌, ◌∙◌, [], ap, sym, subst, IsTrue}
+use Rattle.std.proofs.Common.{◌≡◌, ◌<◌, ◌∙◌, [], ap, sym, subst, IsTrue}
 use Rattle.pagecache.specs.Cache.{Cache}
-use Rattle.tbtree.specs.declared.tree.Place.{Place}
 use Rattle.boxsearch.specs.Beside.{with_cache, IsBeside}
-use Rattle.boxsearch.specs.Index.{content, IndexView}
+use Rattle.boxsearch.specs.Index.{content, IndexView, IsSoundIndex}
+use Rattle.boxsearch.proofs.StartLemmas.{beside_content, beside_sound}
 use Rattle.register.specs.Saved.{KeepsFront}
 use Rattle.catalogue.proofs.LentLemmas.{lent}
 use Rattle.catalogue.proofs.ResultLemmas.{on_ok}
@@ -23,17 +23,17 @@ index_is g c =
 of_index : (g : given.Over) (c : goal.After-put_places g) (P : Cache → Cache → Type 0) → P c.cache_mut.result.now c.keep-result.new.cache → P c.args.index.now.cache c.put_places.new.self.cache
 of_index g c P = lent P c.args.index.now c.put_places.new.self c.cache_mut.result.now c.keep-result.new.cache (lent_is g c) (index_is g c)
 
--- and of its places
-of_places : (g : given.Over) (c : goal.After-put_places g) (P : List Place → Type 0) → P c.deref.result.now → P c.put_places.new.self.places
-of_places g c P = subst P (c.deref.ensures.value ∙ c.take_places-places.ensures.taken ∙ sym (ap (λ (i : IndexView). i.places) (index_is g c)))
-
 pub returns-clause-front : goal.returns-clause-front
 returns-clause-front g c = on_ok c.keep-result.result (of_index g c (λ old new. IsTrue old.store.is_faithful → 0 < old.count → KeepsFront old new)) c.keep-result.ensures.front
 
+-- the pages of the tree say what they said
+beside : (g : given.Over) (c : goal.After-put_places g) → (c.cache_mut.result.now.count ≡ c.cache_mut.result.now.store.count → c.keep-result.new.cache.count ≡ c.keep-result.new.cache.store.count) → IsBeside c.args.index.now.cache c.keep-result.new.cache
+beside g c length = subst (λ (x : Cache). IsBeside x c.keep-result.new.cache) (lent_is g c) (record { faithful = c.keep-result.ensures.later.store.faithful; length = length; tree = c.keep-result.ensures.tree })
+
 pub returns-clause-content : goal.returns-clause-content
-returns-clause-content g c =
-    let i : IndexView = c.args.index.now in
-    let d : Cache = c.keep-result.new.cache in
-    on_ok c.keep-result.result (λ length.
-    let beside : IsBeside i.cache d = subst (λ (x : Cache). IsBeside x d) (lent_is g c) (record { faithful = c.keep-result.ensures.later.store.faithful; length = length; tree = c.keep-result.ensures.tree }) in
-    ap (λ x. content x) (index_is g c) ∙ c.laws.ensures.content i d [] beside) c.keep-result.ensures.length
+returns-clause-content g c = on_ok c.keep-result.result (λ length.
+    ap (λ x. content x) (index_is g c) ∙ beside_content c.args.index.now c.keep-result.new.cache [] (beside g c length)) c.keep-result.ensures.length
+
+pub returns-clause-sound : goal.returns-clause-sound
+returns-clause-sound g c = on_ok c.keep-result.result (λ length sound.
+    subst IsSoundIndex (sym (index_is g c)) (beside_sound c.args.index.now c.keep-result.new.cache [] (beside g c length) sound)) c.keep-result.ensures.length

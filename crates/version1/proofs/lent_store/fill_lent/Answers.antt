@@ -1,10 +1,10 @@
-use Rattle.std.proofs.Common.{ℕ, ◌≡◌, ◌∙◌, sym, Option, None}
-use Rattle.std.proofs.lemmas.Result.{err_from_is_err_and}
-use Rattle.pages.specs.declared.payload.Payload.{Payload}
-use Rattle.register.specs.ChainReader.{rest_of, IsBroken}
-use Rattle.version1.specs.OldReading.{IsLentFault, ShowsStored}
-use Rattle.register.proofs.ReaderLemmas.{if_err_of}
-use Rattle.version1.proofs.LentLemmas.{later_fault, still_stored, stays_trans}
+use Rattle.std.proofs.Common.{◌∙◌, sym}
+use Rattle.pagecache.specs.Cache.{fresh}
+use Rattle.register.proofs.ReaderLemmas.{later_fault, on_err_and}
+use Rattle.version1.specs.OldStore.{ReadsOn}
+use Rattle.version1.proofs.LentLemmas.{still_stored}
+use Rattle.version1.proofs.OldLemmas.{reads_stays}
+use Rattle.version1.proofs.TakingLemmas.{stays_trans}
 use Rattle.version1.proofs.lent_store.fill_lent.Goals as goal
 
 pub loop-store-preserved : goal.loop-store-preserved
@@ -12,25 +12,26 @@ loop-store-preserved g c =
     let a = g.S.PageStore.seen c.args.store.now in
     let b = g.S.PageStore.seen c.loop-store.store in
     let i = c.loop-store.invariant in
+    let r = c.in_ok-load_lent.ensures.reads in
     record {
-      stays = stays_trans a b (g.S.PageStore.seen c.load_lent.new.store) i.stays c.in_ok-load_lent.ensures.stays;
-      same = λ at shows. c.in_ok-load_lent.ensures.same at (still_stored a b i.stays at shows) ∙ i.same at shows;
+      stays = stays_trans a b (g.S.PageStore.seen c.load_lent.new.store) i.stays r.stays;
+      same = λ at shows. r.same at (still_stored a b i.stays at shows) ∙ i.same at shows;
     }
 
-pub returns-in_err-load_lent-clause-broken : goal.returns-in_err-load_lent-clause-broken
-returns-in_err-load_lent-clause-broken g c =
-    let p = err_from_is_err_and c.from_residual.result c.from_residual.ensures.1 in
-    let a = g.S.PageStore.seen c.args.store.now in
-    let b = g.S.PageStore.seen c.loop-store.store in
-    let i = c.loop-store.invariant in
-    if_err_of (λ e. (at : ℕ → Option Payload) → ShowsStored a at → IsBroken e → rest_of at c.args.reader.now ≡ None) c.from_residual.result p.0 c.in_err-load_lent.field-0.0 p.1 p.2
-    (λ at shows broken. sym (i.same at shows) ∙ c.in_err-load_lent.ensures.broken at (still_stored a b i.stays at shows) broken)
+pub returns-clause-reads : goal.returns-clause-reads
+returns-clause-reads g c = record { same = c.loop-store.invariant.same; broken = tt; stays = c.loop-store.invariant.stays; caused = tt }
 
-pub returns-in_err-load_lent-clause-caused : goal.returns-in_err-load_lent-clause-caused
-returns-in_err-load_lent-clause-caused g c =
-    let p = err_from_is_err_and c.from_residual.result c.from_residual.ensures.1 in
+pub returns-in_err-load_lent-clause-reads : goal.returns-in_err-load_lent-clause-reads
+returns-in_err-load_lent-clause-reads g c =
     let a = g.S.PageStore.seen c.args.store.now in
     let b = g.S.PageStore.seen c.loop-store.store in
     let d = g.S.PageStore.seen c.load_lent.new.store in
-    if_err_of (λ e. IsLentFault a d e) c.from_residual.result p.0 c.in_err-load_lent.field-0.0 p.1 p.2
-    (later_fault a b d c.in_err-load_lent.field-0.0 c.loop-store.invariant.stays c.in_err-load_lent.ensures.stays c.in_err-load_lent.ensures.caused)
+    let e = c.in_err-load_lent.field-0.0 in
+    let i = c.loop-store.invariant in
+    let r = c.in_err-load_lent.ensures.reads in
+    on_err_and (λ x. ReadsOn a d c.args.reader.now c.load_lent.new.reader x) c.from_residual.result e c.from_residual.ensures.1 (record {
+      same = tt;
+      broken = λ at shows broken. sym (i.same at shows) ∙ r.broken at (still_stored a b i.stays at shows) broken;
+      stays = stays_trans a b d i.stays r.stays;
+      caused = later_fault (fresh a 1) (fresh b 1) (fresh d 1) e (reads_stays a b i.stays) r.caused;
+    })

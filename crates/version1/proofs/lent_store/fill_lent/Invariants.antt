@@ -2,7 +2,7 @@ use Rattle.std.proofs.Common.{ℕ, ◌≡◌, Option}
 use Rattle.pages.specs.Store.{Stays}
 use Rattle.pages.specs.declared.payload.Payload.{Payload}
 use Rattle.register.specs.ChainReader.{rest_of}
-use Rattle.version1.specs.OldReading.{ShowsStored}
+use Rattle.version1.specs.OldStore.{ShowsStored}
 use Rattle.version1.proofs.lent_store.fill_lent.Given as goal
 
 abbrev pub invariant-loop-store : goal.invariant-loop-store

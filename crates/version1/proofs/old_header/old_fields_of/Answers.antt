@@ -1,6 +1,6 @@
 use Rattle.std.proofs.Common.{◌≡◌, length, refl, sym, ◌∙◌, rules}
 use Rattle.legs.specs.Limits.{IsLimits}
-use Rattle.version1.specs.OldReading.{as_written}
+use Rattle.version1.specs.OldStore.{as_written}
 use Rattle.version1.proofs.OldHeaderLemmas.{old_fields_are, old_says}
 use Rattle.version1.proofs.old_header.old_fields_of.Goals as goal
 

@@ -1,4 +1,4 @@
-use Rattle.std.proofs.Common.{length, arith, ◌≡◌, ◌+◌, ◌∙◌, inl, inr, Err, IsErrOf, IsTrue, List, [], ℕ, Some, nat_eq, refl, sym, ap, subst}
+use Rattle.std.proofs.Common.{rules, length, arith, ◌≡◌, ◌+◌, ◌∙◌, inl, inr, Err, IsErrOf, IsTrue, List, ℕ, Some, nat_eq, refl, sym, ap, subst}
 use Rattle.std.proofs.lemmas.List.{append-nil}
 use Rattle.std.proofs.lemmas.Result.{err_from_is_err_and}
 use Rattle.legs.specs.declared.index.IndexFault.TheVariants as index
@@ -10,6 +10,7 @@ use Rattle.version1.specs.OldForm.{old_node_of}
 use Rattle.legs.specs.Index.{MayRefuseLeg}
 use Rattle.legs.specs.Legs.{LegView}
 use Rattle.legs.specs.declared.listed.Listed.{Ghosts}
+use Rattle.version1.specs.Migrating.{IsReady}
 use Rattle.version1.specs.OldLegs.{AreOpened, AreReadable, HaveLegsOf, IsNumbered, StandByOrdinal}
 use Rattle.treecheck.specs.Walking.{pages_by}
 use Rattle.treecheck.specs.declared.walking.Met.{Met}
@@ -46,11 +47,11 @@ module _ (first now : Store) (stays : Stays first now) (fa : IsTrue first.is_fai
   }
 
 -- where the leg is not put, it is the next one
-next_refused : (g : given.Over) (c : goal.After-drop-opened-in_err-put_behind g) → IsTrue (g.S.PageStore.seen c.args.old.now).is_faithful → g.I.Listed.is_sound c.args.index.now → g.I.Listed.content c.args.index.now ≡ []
+next_refused : (g : given.Over) (c : goal.After-drop-opened-in_err-put_behind g) → IsReady g.I.Listed (g.S.PageStore.seen c.args.old.now) c.args.index.now
     → (list : List LegView) → HaveLegsOf (pages_by old_node_of (fresh (g.S.PageStore.seen c.args.old.now) 1)) c.args.leaves.now list → IsNumbered c.args.legs list
     → StandsNext g.I.Listed c.args.index.now c.legs.index c.legs.opened.entries c.open_next.new.opened.entries c.legs.waiting.items c.legs.ordinal-counter c.args.legs list c.in-Some.leg
-next_refused g c fa sound empty list have numbered =
-    stands_next (g.S.PageStore.seen c.args.old.now) (g.S.PageStore.seen c.legs.old) c.legs.invariant.stays fa g.I.Listed c.args.leaves.now (c.legs.invariant.brought fa sound empty list have numbered) have numbered c.in-Ok.ensures.opened
+next_refused g c ready list have numbered =
+    stands_next (g.S.PageStore.seen c.args.old.now) (g.S.PageStore.seen c.legs.old) c.legs.invariant.stays ready.faithful g.I.Listed c.args.leaves.now (c.legs.invariant.brought ready list have numbered) have numbered c.in-Ok.ensures.opened
     (sym c.remove.ensures.value ∙ c.in-Some.is)
 
 pub legs-init : goal.legs-init
@@ -58,7 +59,7 @@ legs-init g c = record {
   stays = stays_refl (g.S.PageStore.seen c.args.old.now);
   later = later_refl g.I.Listed c.args.index.now;
   few = (let e = ap length c.new-waiting.ensures.items in omega (arith, e));
-  brought = λ fa sound empty list have numbered. brought_none g.I.Listed c.args.index.now c.with_hasher-opened.result.entries c.new-waiting.result.items c.args.legs list c.with_hasher-opened.ensures.empty c.new-waiting.ensures.items sound empty numbered;
+  brought = λ ready list have numbered. brought_none g.I.Listed c.args.index.now c.with_hasher-opened.result.entries c.new-waiting.result.items c.args.legs list c.with_hasher-opened.ensures.empty c.new-waiting.ensures.items ready.sound ready.empty numbered;
   opened = λ fa rises. opened_none (pages_by old_node_of (fresh (g.S.PageStore.seen c.args.old.now) 1)) c.args.leaves.now c.with_hasher-opened.result.entries;
 }
 
@@ -68,93 +69,101 @@ legs-preserved g c =
     let now = g.S.PageStore.seen c.legs.old in
     let inv = c.legs.invariant in
     let n = c.legs.ordinal-counter in
+    let put = c.in_ok-put_behind.ensures in
     record {
       stays = stays_trans first now (g.S.PageStore.seen c.open_next.new.store) inv.stays c.open_next.ensures.stays;
-      later = later_trans g.I.Listed c.args.index.now c.legs.index c.put_behind.new.index inv.later c.put_behind.ensures.later;
-      few = c.in_ok-put_behind.ensures.few;
-      brought = λ fa sound empty list have numbered.
-          let k = stands_next first now inv.stays fa g.I.Listed c.args.leaves.now (inv.brought fa sound empty list have numbered) have numbered c.in-Ok.ensures.opened (sym c.remove.ensures.value ∙ c.in-Some.is) in
+      later = later_trans g.I.Listed c.args.index.now c.legs.index c.put_behind.new.index inv.later put.puts.later;
+      few = put.few;
+      brought = λ ready list have numbered.
+          let k = stands_next first now inv.stays ready.faithful g.I.Listed c.args.leaves.now (inv.brought ready list have numbered) have numbered c.in-Ok.ensures.opened (sym c.remove.ensures.value ∙ c.in-Some.is) in
           brought_on g.I.Listed k c.put_behind.new.index c.remove.new.self.entries c.put_behind.new.waiting.items (n + 1) refl
-          (stand_taken list c.open_next.new.opened.entries c.remove.new.self.entries (nat_eq n) k.stand c.remove.ensures.updates.0) c.in_ok-put_behind.ensures.holds c.in_ok-put_behind.ensures.marked;
+          (stand_taken list c.open_next.new.opened.entries c.remove.new.self.entries (nat_eq n) k.stand c.remove.ensures.updates.0) put.puts.holds put.puts.marked;
       opened = λ fa rises.
           opened_taken (pages_by old_node_of (fresh first 1)) c.args.leaves.now c.in-Ok.next n c.open_next.new.opened.entries c.remove.new.self.entries
           (opened_on first now inv.stays fa (inv.opened fa rises) (λ f. c.in-Ok.ensures.on f rises)) c.remove.ensures.updates.0;
     }
 
 pub returns-clause-brought : goal.returns-clause-brought
-returns-clause-brought g c = on_ok c.put_waiting.result (λ holds fa sound empty list have numbered.
-    let b = c.legs.invariant.brought fa sound empty list have numbered in
+returns-clause-brought g c = on_ok c.put_waiting.result (λ holds ready list have numbered.
+    let b = c.legs.invariant.brought ready list have numbered in
     let h = holds b.may in
-    (h.may.0, sym (append-nil (g.I.Listed.content c.put_waiting.new.index)) ∙ h.content ∙ b.content ∙ all_taken c.args.legs c.legs.ordinal-counter list numbered c.legs-test.false)) c.put_waiting.ensures.holds
+    (h.may.0, sym (append-nil (g.I.Listed.content c.put_waiting.new.index)) ∙ h.content ∙ b.content ∙ all_taken c.args.legs c.legs.ordinal-counter list numbered c.legs-test.false)) c.put_waiting.ensures.puts.holds
 
 pub returns-clause-only : goal.returns-clause-only
-returns-clause-only g c = on_err c.put_waiting.result (λ fault may fa sound empty list have each numbered.
-    may (c.legs.invariant.brought fa sound empty list have numbered).may) c.put_waiting.ensures.only
-
-pub returns-clause-store : goal.returns-clause-store
-returns-clause-store g c = λ e.
-    inr (risen_after (g.I.Listed.faults c.args.index.now) (g.I.Listed.faults c.legs.index) (g.I.Listed.faults c.put_waiting.new.index) c.legs.invariant.later.faults (c.put_waiting.ensures.store e))
-
-pub returns-clause-stays : goal.returns-clause-stays
-returns-clause-stays g c = c.legs.invariant.stays
-
-pub returns-clause-later : goal.returns-clause-later
-returns-clause-later g c = later_trans g.I.Listed c.args.index.now c.legs.index c.put_waiting.new.index c.legs.invariant.later c.put_waiting.ensures.later
+returns-clause-only g c = on_err c.put_waiting.result (λ fault may ready list have each numbered.
+    may (c.legs.invariant.brought ready list have numbered).may) c.put_waiting.ensures.puts.only
 
 pub returns-clause-marked : goal.returns-clause-marked
-returns-clause-marked g c = λ fa sound empty marked list have numbered.
-    let b = c.legs.invariant.brought fa sound empty list have numbered in
-    c.put_waiting.ensures.marked b.may (b.marked marked)
+returns-clause-marked g c = λ ready marked list have numbered.
+    let b = c.legs.invariant.brought ready list have numbered in
+    c.put_waiting.ensures.puts.marked b.may (b.marked marked)
 
-pub returns-in-Err-clause-stays : goal.returns-in-Err-clause-stays
-returns-in-Err-clause-stays g c = stays_trans (g.S.PageStore.seen c.args.old.now) (g.S.PageStore.seen c.legs.old) (g.S.PageStore.seen c.open_next.new.store) c.legs.invariant.stays c.open_next.ensures.stays
-
-pub returns-in_default-clause-stays : goal.returns-in_default-clause-stays
-returns-in_default-clause-stays g c = stays_trans (g.S.PageStore.seen c.args.old.now) (g.S.PageStore.seen c.legs.old) (g.S.PageStore.seen c.open_next.new.store) c.legs.invariant.stays c.open_next.ensures.stays
-
-pub returns-in_err-put_behind-clause-stays : goal.returns-in_err-put_behind-clause-stays
-returns-in_err-put_behind-clause-stays g c = stays_trans (g.S.PageStore.seen c.args.old.now) (g.S.PageStore.seen c.legs.old) (g.S.PageStore.seen c.open_next.new.store) c.legs.invariant.stays c.open_next.ensures.stays
-
-pub returns-in-Err-clause-later : goal.returns-in-Err-clause-later
-returns-in-Err-clause-later g c = c.legs.invariant.later
+pub returns-clause-takes : goal.returns-clause-takes
+returns-clause-takes g c =
+    let i = c.legs.invariant in
+    record {
+      stays = i.stays;
+      later = later_trans g.I.Listed c.args.index.now c.legs.index c.put_waiting.new.index i.later c.put_waiting.ensures.puts.later;
+      store = λ e. inr (risen_after (g.I.Listed.faults c.args.index.now) (g.I.Listed.faults c.legs.index) (g.I.Listed.faults c.put_waiting.new.index) i.later.faults (c.put_waiting.ensures.puts.store e));
+      full = c.put_waiting.ensures.puts.full;
+    }
 
 pub returns-in-Err-clause-marked : goal.returns-in-Err-clause-marked
-returns-in-Err-clause-marked g c = λ fa sound empty marked list have numbered. (c.legs.invariant.brought fa sound empty list have numbered).marked marked
+returns-in-Err-clause-marked g c = λ ready marked list have numbered. (c.legs.invariant.brought ready list have numbered).marked marked
 
-pub returns-in_default-clause-later : goal.returns-in_default-clause-later
-returns-in_default-clause-later g c = c.legs.invariant.later
+pub returns-in-Err-clause-takes : goal.returns-in-Err-clause-takes
+returns-in-Err-clause-takes g c =
+    let first = g.S.PageStore.seen c.args.old.now in
+    let now = g.S.PageStore.seen c.legs.old in
+    let after = g.S.PageStore.seen c.open_next.new.store in
+    let i = c.legs.invariant in
+    record {
+      stays = stays_trans first now after i.stays c.open_next.ensures.stays;
+      later = i.later;
+      store = λ e. inl (risen_after first.faults now.faults after.faults i.stays.keeps.faults
+          (store_failed now after c.in-Err.fault c.in-Err.ensures.caused (sym c.of_tree.ensures ∙ same_err c.of_tree.result index.Store e)));
+      full = search rules;
+    }
 
 pub returns-in_default-clause-marked : goal.returns-in_default-clause-marked
-returns-in_default-clause-marked g c = λ fa sound empty marked list have numbered. (c.legs.invariant.brought fa sound empty list have numbered).marked marked
+returns-in_default-clause-marked g c = λ ready marked list have numbered. (c.legs.invariant.brought ready list have numbered).marked marked
 
-pub returns-in_err-put_behind-clause-later : goal.returns-in_err-put_behind-clause-later
-returns-in_err-put_behind-clause-later g c = later_trans g.I.Listed c.args.index.now c.legs.index c.put_behind.new.index c.legs.invariant.later c.put_behind.ensures.later
+pub returns-in_default-clause-takes : goal.returns-in_default-clause-takes
+returns-in_default-clause-takes g c = record {
+  stays = stays_trans (g.S.PageStore.seen c.args.old.now) (g.S.PageStore.seen c.legs.old) (g.S.PageStore.seen c.open_next.new.store) c.legs.invariant.stays c.open_next.ensures.stays;
+  later = c.legs.invariant.later;
+  store = search rules;
+  full = search rules;
+}
 
 pub returns-in_err-put_behind-clause-marked : goal.returns-in_err-put_behind-clause-marked
-returns-in_err-put_behind-clause-marked g c = λ fa sound empty marked list have numbered.
-    let k = next_refused g c fa sound empty list have numbered in
-    c.put_behind.ensures.marked (next_waits g.I.Listed k) (k.brought.marked marked)
+returns-in_err-put_behind-clause-marked g c = λ ready marked list have numbered.
+    let k = next_refused g c ready list have numbered in
+    c.put_behind.ensures.puts.marked (next_waits g.I.Listed k) (k.brought.marked marked)
 
-pub returns-in_err-put_behind-clause-store : goal.returns-in_err-put_behind-clause-store
-returns-in_err-put_behind-clause-store g c = λ e.
+pub returns-in_err-put_behind-clause-takes : goal.returns-in_err-put_behind-clause-takes
+returns-in_err-put_behind-clause-takes g c =
+    let i = c.legs.invariant in
+    let put = c.in_err-put_behind.ensures.puts in
     let p = err_from_is_err_and c.from_residual.result c.from_residual.ensures.1 in
-    inr (risen_after (g.I.Listed.faults c.args.index.now) (g.I.Listed.faults c.legs.index) (g.I.Listed.faults c.put_behind.new.index) c.legs.invariant.later.faults
-    (c.put_behind.ensures.store (subst (λ r. IsErrOf r index.Store) (p.1 ∙ ap (λ x. Err x) p.2 ∙ sym c.in_err-put_behind.was) e)))
-
-pub returns-in-Err-clause-store : goal.returns-in-Err-clause-store
-returns-in-Err-clause-store g c = λ e.
-    inl (risen_after (g.S.PageStore.seen c.args.old.now).faults (g.S.PageStore.seen c.legs.old).faults (g.S.PageStore.seen c.open_next.new.store).faults c.legs.invariant.stays.keeps.faults
-    (store_failed (g.S.PageStore.seen c.legs.old) (g.S.PageStore.seen c.open_next.new.store) c.in-Err.fault c.in-Err.ensures.caused (sym c.of_tree.ensures ∙ same_err c.of_tree.result index.Store e)))
+    record {
+      stays = stays_trans (g.S.PageStore.seen c.args.old.now) (g.S.PageStore.seen c.legs.old) (g.S.PageStore.seen c.open_next.new.store) i.stays c.open_next.ensures.stays;
+      later = later_trans g.I.Listed c.args.index.now c.legs.index c.put_behind.new.index i.later put.later;
+      store = λ e. inr (risen_after (g.I.Listed.faults c.args.index.now) (g.I.Listed.faults c.legs.index) (g.I.Listed.faults c.put_behind.new.index) i.later.faults
+          (put.store (subst (λ r. IsErrOf r index.Store) (p.1 ∙ ap (λ x. Err x) p.2) e)));
+      full = λ e. put.full (subst (λ r. IsErrOf r index.StoreFull) (p.1 ∙ ap (λ x. Err x) p.2) e);
+    }
 
 pub returns-in-Err-clause-only : goal.returns-in-Err-clause-only
-returns-in-Err-clause-only g c = λ fa sound empty list have each numbered.
+returns-in-Err-clause-only g c = λ ready list have each numbered.
     let inv = c.legs.invariant in
-    let same = same_nodes (g.S.PageStore.seen c.args.old.now) (g.S.PageStore.seen c.legs.old) inv.stays fa in
+    let same = same_nodes (g.S.PageStore.seen c.args.old.now) (g.S.PageStore.seen c.legs.old) inv.stays ready.faithful in
     subst MayRefuseLeg (sym c.of_tree.ensures)
-    (allowed_leg c.in-Err.fault (c.in-Err.ensures.only (inv.stays.keeps.faithful ∙ fa) (subst (λ nodes. AreReadable nodes c.args.leaves.now) (sym same) each.readable)))
+    (allowed_leg c.in-Err.fault (c.in-Err.ensures.only (inv.stays.keeps.faithful ∙ ready.faithful) (subst (λ nodes. AreReadable nodes c.args.leaves.now) (sym same) each.readable)))
 
 pub returns-in_default-clause-only : goal.returns-in_default-clause-only
-returns-in_default-clause-only g c = λ fa sound empty list have each numbered.
+returns-in_default-clause-only g c = λ ready list have each numbered.
+    let fa = ready.faithful in
     let n = c.legs.ordinal-counter in
     let nodes = pages_by old_node_of (fresh (g.S.PageStore.seen c.args.old.now) 1) in
     let there = next_opened nodes c.args.leaves.now c.in-Ok.next n c.args.legs list c.open_next.new.opened.entries each numbered c.legs-test.true
@@ -164,5 +173,5 @@ returns-in_default-clause-only g c = λ fa sound empty list have each numbered.
 pub returns-in_err-put_behind-clause-only : goal.returns-in_err-put_behind-clause-only
 returns-in_err-put_behind-clause-only g c =
     let p = err_from_is_err_and c.from_residual.result c.from_residual.ensures.1 in
-    rw (p.1, p.2) (λ fa sound empty list have each numbered.
-    c.in_err-put_behind.ensures.only (next_waits g.I.Listed (next_refused g c fa sound empty list have numbered)))
+    rw (p.1, p.2) (λ ready list have each numbered.
+    c.in_err-put_behind.ensures.puts.only (next_waits g.I.Listed (next_refused g c ready list have numbered)))

@@ -3,6 +3,7 @@ use Rattle.std.proofs.lemmas.Bool.{true≢false}
 use Rattle.std.proofs.lemmas.Result.{err_from_is_err_and}
 use Rattle.pagecache.specs.Cache.{IsSettled}
 use Rattle.boxsearch.specs.Index.{words}
+use Rattle.catalogue.proofs.StateLemmas.{marked_state, rest_state}
 use Rattle.trajdb.specs.Db.{DbView}
 use Rattle.trajdb.specs.Faults.{run_fault_of}
 use Rattle.trajdb.specs.declared.RunFault.TheVariants.{Failed}
@@ -24,7 +25,7 @@ returns-in_err-check_index-clause-only g c =
     let settled = subst (λ (d : DbView). IsSettled d.index.cache) c.self.view_is c.page_count.ensures.settled in
     rw (p.1, p.2) (λ sound pages idle.
     let s = leaves.sound sound in
-    let says = says_of old c.laws.ensures.finished_state c.laws.ensures.marked_state settled sound pages idle c.requires in
+    let says = says_of old rest_state marked_state settled sound pages idle c.requires in
     question_fault c.in_err-check_index.field-0.0 (c.in_err-check_index.ensures.only s.index (tracks_of mid s.tracks.names c.flush.ensures.legs s) (says_still old mid leaves.begun (c.flush.ensures.payloads sound.index.faithful 0) says)))
 
 pub returns-in_err-check_index-clause-works : goal.returns-in_err-check_index-clause-works
@@ -55,7 +56,7 @@ returns-clause-sound g c = λ fa.
     let new = c.check_index.new.self in
     let e = c.in_ok-check_index.ensures in
     let mid = c.flush.ensures.faithful ∙ fa in
-    sound_of new e.names e.legs (c.laws-2.ensures.in_turn new.index (e.sound mid)) e.limits (e.sound mid) (e.tracks mid) (c.keeps_law.ensures.0 c.if-not-keeps_law.false)
+    sound_of new e.names e.legs (c.laws.ensures.in_turn new.index (e.sound mid)) e.limits (e.sound mid) (e.tracks mid) (c.keeps_law.ensures.0 c.if-not-keeps_law.false)
 
 pub returns-clause-has_pages : goal.returns-clause-has_pages
 returns-clause-has_pages g c = λ fa.
@@ -64,7 +65,7 @@ returns-clause-has_pages g c = λ fa.
     let mid = c.flush.ensures.faithful ∙ fa in
     let settled = subst (λ (d : DbView). IsSettled d.index.cache) c.self-2.view_is c.page_count-2.ensures.settled in
     let clean = e.leaves.index.clean c.in_ok-flush.ensures.written in
-    has_pages_of new (c.laws-2.ensures.marked new.index (e.sound mid) settled clean) clean (e.says mid)
+    has_pages_of new (c.laws.ensures.marked new.index (e.sound mid) settled clean) clean (e.says mid)
 
 pub returns-clause-report : goal.returns-clause-report
 returns-clause-report g c = λ fa.

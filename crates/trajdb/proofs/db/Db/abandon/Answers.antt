@@ -2,7 +2,7 @@ use Rattle.std.proofs.Common.{◌∙◌, ap, sym, subst}
 use Rattle.pages.specs.Store.{IsLawful}
 use Rattle.boxsearch.specs.Index.{IndexView}
 use Rattle.catalogue.specs.Holding.{IsUnfinishedStore}
-use Rattle.catalogue.proofs.CloseLemmas.{says_stored}
+use Rattle.catalogue.proofs.StateLemmas.{marked_store}
 use Rattle.trajdb.specs.Db.{DbView, HasPages}
 use Rattle.trajdb.specs.Lasting.{IsSafe}
 use Rattle.trajdb.proofs.SafeLemmas.{left_safe}
@@ -21,4 +21,4 @@ returns-clause-unfinished g c = λ pages begun.
     let index = c.into_parts-index.ensures.index in
     let store = c.rest.ensures.store ∙ ap (λ (x : IndexView). x.cache.store) index in
     let marked = (subst HasPages (sym c.self.view_is) pages).begun (ap (λ (d : DbView). d.begun) c.self.view_is ∙ begun) in
-    subst IsUnfinishedStore (sym store) (says_stored core.index.cache (record { payload = marked.payload; sealed = marked.sealed; unfinished = marked.unfinished }))
+    subst IsUnfinishedStore (sym store) (marked_store core.index.cache marked)

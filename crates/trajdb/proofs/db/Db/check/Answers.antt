@@ -2,6 +2,7 @@ use Rattle.std.proofs.Common.{rules, ◌≡◌, ◌∙◌, sym, false}
 use Rattle.boxsearch.specs.Index.{words}
 use Rattle.trajdb.specs.Calls.{IsQuestionFault}
 use Rattle.trajdb.proofs.PageLemmas.{keeps_leaves}
+use Rattle.catalogue.proofs.RestLemmas.{rest_stays}
 use Rattle.trajdb.proofs.SafeLemmas.{leaves_store}
 use Rattle.trajdb.proofs.SoundLemmas.{while_alive}
 use Rattle.trajdb.proofs.db.Db.check.Goals as goal
@@ -41,4 +42,4 @@ returns-clause-call g c = record {
 pub returns-clause-keeps : goal.returns-clause-keeps
 returns-clause-keeps g c =
     let lives : c.self.inside.core.failed ≡ false = sym (λ i. (c.self-inside.view_is i).core.failed) ∙ c.if-self.false in
-    rw (← c.self.view_is) (leaves_store c.laws.ensures.rests _ _ c.check.ensures.leaves lives)
+    rw (← c.self.view_is) (leaves_store rest_stays _ _ c.check.ensures.leaves lives)

@@ -15,6 +15,7 @@ use Rattle.trajdb.specs.Faults.{closed_answer}
 use Rattle.trajdb.specs.Promises.{CloseCall}
 use Rattle.trajdb.specs.Lasting.{IsIdle, IsSafe}
 use Rattle.trajdb.proofs.LastingLemmas.{rest_book, closed_caused, closed_holds, closed_only, closed_ordered, closed_refused, closed_then, closed_unfinished}
+use Rattle.catalogue.proofs.RestLemmas.{rest_holds}
 use Rattle.trajdb.proofs.SafeLemmas.{left_safe}
 use Rattle.trajdb.proofs.db.Db.close.Goals as goal
 
@@ -52,7 +53,7 @@ returns-then-not-begun g c = record {
       let store = c.rest-then-not-begun.ensures.store ∙ ap (λ (x : IndexView). x.cache.store) index in
       subst (λ (d : DbView). HoldsBook (g.S.PageStore.seen c.rest-then-not-begun.result) d.index.tree.shape d.limits d.book) is
       (subst (λ (s : Store). HoldsBook s core.index.tree.shape core.limits core.book) (sym store)
-      (rest_book c.laws.ensures.holds core c.into_parts-catalogue.ensures.legs lawful settled (subst IsSoundDb (sym is) sound) (subst IsIdle (sym is) idle) begun lives));
+      (rest_book rest_holds core c.into_parts-catalogue.ensures.legs lawful settled (subst IsSoundDb (sym is) sound) (subst IsIdle (sym is) idle) begun lives));
   synced = λ begun.
       let rests : c.self.inside.core.begun ≡ false = sym (λ i. (c.self-inside.view_is i).core.begun) ∙ c.if-not-begun.true in
       absurd (false≢true (sym rests ∙ ap (λ (d : DbView). d.begun) c.self.view_is ∙ begun));
@@ -78,30 +79,30 @@ returns g c =
     let lives : core.failed ≡ false = sym (λ i. (c.self-inside.view_is i).core.failed) ∙ c.if-failed.false in
     let closes : CloseCall core s (closed_answer answer) = record {
       holds =
-          let first = subst (λ (x : IndexView). OnOk answer (IsSoundIndex x → IsMarked x.cache → (book : Book) → IsOfBook parts.limits book parts → content x ≡ book.legs → HoldsBook s x.tree.shape parts.limits book)) of.index c.close-store.ensures.holds in
+          let first = subst (λ (x : IndexView). OnOk answer (IsSoundIndex x → IsMarked x.cache → (book : Book) → IsOfBook parts.limits book parts → content x ≡ book.legs → HoldsBook s x.tree.shape parts.limits book)) of.index c.close-store.ensures.call.holds in
           let second = subst (λ (k : CatalogueView). OnOk answer (IsSoundIndex core.index → IsMarked core.index.cache → (book : Book) → IsOfBook k.limits book k → content core.index ≡ book.legs → HoldsBook s core.index.tree.shape k.limits book)) of.catalogue first in
           closed_holds core s answer of.legs second begun;
-      synced = closed_then (core.begun ≡ true) (IsSynced s) answer c.close-store.ensures.synced;
+      synced = closed_then (core.begun ≡ true) (IsSynced s) answer c.close-store.ensures.call.synced;
       only =
-          let first = subst (λ (x : IndexView). IfErr answer (λ fault. IsSoundIndex x → (book : Book) → IsOfBook parts.limits book parts → content x ≡ book.legs → IsSavingStop fault)) of.index c.close-store.ensures.only in
+          let first = subst (λ (x : IndexView). IfErr answer (λ fault. IsSoundIndex x → (book : Book) → IsOfBook parts.limits book parts → content x ≡ book.legs → IsSavingStop fault)) of.index c.close-store.ensures.call.only in
           let second = subst (λ (k : CatalogueView). IfErr answer (λ fault. IsSoundIndex core.index → (book : Book) → IsOfBook k.limits book k → content core.index ≡ book.legs → IsSavingStop fault)) of.catalogue first in
           closed_only core answer of.legs second;
       unfinished =
-          let first = subst (λ (x : IndexView). IfErr answer (λ fault. IsNoStoreFault fault → IsMarked x.cache → IsUnfinishedStore s)) of.index c.close-store.ensures.unfinished in
+          let first = subst (λ (x : IndexView). IfErr answer (λ fault. IsNoStoreFault fault → IsMarked x.cache → IsUnfinishedStore s)) of.index c.close-store.ensures.call.unfinished in
           closed_unfinished core s answer first begun;
       refused =
-          let first = subst (λ (x : IndexView). OnErr answer (IsSoundIndex x → IsMarked x.cache → (book : Book) → IsOfBook parts.limits book parts → content x ≡ book.legs → IsUnfinishedStore s ⊎ HoldsButFirst s x.tree.shape parts.limits book)) of.index c.close-store.ensures.refused in
+          let first = subst (λ (x : IndexView). OnErr answer (IsSoundIndex x → IsMarked x.cache → (book : Book) → IsOfBook parts.limits book parts → content x ≡ book.legs → IsUnfinishedStore s ⊎ HoldsButFirst s x.tree.shape parts.limits book)) of.index c.close-store.ensures.call.refused in
           let second = subst (λ (k : CatalogueView). OnErr answer (IsSoundIndex core.index → IsMarked core.index.cache → (book : Book) → IsOfBook k.limits book k → content core.index ≡ book.legs → IsUnfinishedStore s ⊎ HoldsButFirst s core.index.tree.shape k.limits book)) of.catalogue first in
           closed_refused core s answer of.legs second begun;
       ordered =
-          let first = subst (λ (x : IndexView). OnErr answer (IsMarked x.cache → IsUnfinishedStore s ⊎ IsSyncedButFirst s)) of.index c.close-store.ensures.ordered in
+          let first = subst (λ (x : IndexView). OnErr answer (IsMarked x.cache → IsUnfinishedStore s ⊎ IsSyncedButFirst s)) of.index c.close-store.ensures.call.ordered in
           closed_ordered core s answer first;
       idle = λ _ rests. absurd (false≢true (sym rests ∙ begun));
       failed = λ failed. absurd (false≢true (sym lives ∙ failed));
-      keeps = subst (λ (x : IndexView). Keeps x.cache.store s) of.index c.close-store.ensures.keeps;
+      keeps = subst (λ (x : IndexView). Keeps x.cache.store s) of.index c.close-store.ensures.call.keeps;
       safe = λ failed. absurd (false≢true (sym lives ∙ failed));
       caused =
-          let first = subst (λ (x : IndexView). IfErr answer (closing.IsClosingFault x.cache.store s)) of.index c.close-store.ensures.caused in
+          let first = subst (λ (x : IndexView). IfErr answer (closing.IsClosingFault x.cache.store s)) of.index c.close-store.ensures.call.caused in
           closed_caused core s answer first;
     } in
     subst (λ r. CloseCall c.args.self s r) (sym c.closed.ensures) (subst (λ (d : DbView). CloseCall d s (closed_answer answer)) c.self.view_is closes)

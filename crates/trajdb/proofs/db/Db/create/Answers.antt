@@ -9,4 +9,4 @@ pub returns-in-Err-new-clause-left : goal.returns-in-Err-new-clause-left
 returns-in-Err-new-clause-left g c =
     let old = g.S.PageStore.seen c.args.store in
     let same = c.into_store.ensures ∙ ap (λ (v : Cache). v.store) (c.into_cache.ensures ∙ ap (λ (i : IndexView). i.cache) c.in-Err-new.ensures.refused) in
-    subst (λ s. IsLeft c.args.shape c.args.limits old s) (sym same) (left_written c.args.shape c.args.limits old c.in-Ok.index.cache.store (g.met.S.PageStore.lawful c.args.store) c.requires.empty c.in-Ok.ensures.stored)
+    subst (λ s. IsLeft c.args.shape c.args.limits old s) (sym same) (left_written c.args.shape c.args.limits old c.in-Ok.index.cache.store (g.met.S.PageStore.lawful c.args.store) c.requires.empty c.in-Ok.ensures.begun.stored)

@@ -1,3 +1,4 @@
+use Rattle.catalogue.proofs.RestLemmas.{rest_stays}
 use Rattle.trajdb.proofs.SafeLemmas.{keeps_store}
 use Rattle.trajdb.proofs.db.Db.load.Goals as goal
 
@@ -5,4 +6,4 @@ pub returns-clause-call : goal.returns-clause-call
 returns-clause-call g c = rw (← c.self.view_is) c.load.ensures
 
 pub returns-clause-keeps : goal.returns-clause-keeps
-returns-clause-keeps g c = rw (← c.self.view_is) (keeps_store c.laws.ensures.rests _ _ c.load.ensures.pages c.load.ensures.later.index (λ failed. (c.load.ensures.was_failed failed).1))
+returns-clause-keeps g c = rw (← c.self.view_is) (keeps_store rest_stays _ _ c.load.ensures.pages c.load.ensures.later.index (λ failed. (c.load.ensures.was_failed failed).1))
