@@ -31,7 +31,7 @@ returns-in-Err-closed-clause-left g c = λ fa fb shape limits book h.
 pub returns-in-Err-clause-left : goal.returns-in-Err-clause-left
 returns-in-Err-clause-left g c = λ fa fb shape limits book h.
     let e = c.in-Err.ensures in
-    over_open (g.T.PageStore.seen c.args.new) (g.T.PageStore.seen c.in-Err.store) c.in-Err.fault (e.holds fa fb shape limits book h) (e.left fa fb)
+    over_open (g.T.PageStore.seen c.args.new) (g.T.PageStore.seen c.in-Err.store) c.in-Err.fault (e.refused.holds fa fb shape limits book h) (e.left fa fb)
 
 pub returns-in-Err-closed-clause-caused : goal.returns-in-Err-closed-clause-caused
 returns-in-Err-closed-clause-caused g c =
