@@ -1,4 +1,6 @@
 //! Databases that are only asked.
+ghost use Rattle.std.specs.Prelude.{◌<◌};
+
 use crate::system::file::HeldFile;
 use crate::system::names::Names;
 use crate::system::opening::{absence_of, open_asked, sweep};
@@ -27,6 +29,20 @@ pub(crate) fn store_to_ask<'a, R: Files<File = File> + AllocGlobal>(
     open_asked(rt, &names)
 }
 
+/// How many pages a cache keeps where so many are asked for: from 1 to 2^24, which are 64 GiB. The table of a cache takes
+/// memory for each, before a page is read.
+pub(crate) fn cached_pages(asked: u32) -> u32
+    ensures { 0 < result }
+{
+    if asked < 1 {
+        1
+    } else if asked > 1 << 24 {
+        1 << 24
+    } else {
+        asked
+    }
+}
+
 /// The database of a store.
 pub(crate) fn database_to_ask<'a, R: AllocGlobal + RandomSource, S: PageStore + Drop>(
     rt: &R,
@@ -36,7 +52,7 @@ pub(crate) fn database_to_ask<'a, R: AllocGlobal + RandomSource, S: PageStore + 
     let Ok(keys) = RandomState::new(rt) else {
         return Err(Fault::Run(RunFault::Memory));
     };
-    match Db::open(rt.alloc(), keys, store, cache_pages.max(1) as usize) {
+    match Db::open(rt.alloc(), keys, store, cached_pages(cache_pages) as usize) {
         Ok(database) => Ok(database),
         Err((_store, fault)) => Err(Fault::Open(fault)),
     }

@@ -1,6 +1,7 @@
 //! `mftb run`: a script over the database that a file keeps.
 ghost use Rattle.std.specs.Prelude.{◌<◌, ◌≤◌, ◌^◌};
 
+use crate::commands::asking::cached_pages;
 use crate::commands::reading::read_files;
 use crate::explain::notes::{Given, tell, tell_made, tell_sources};
 use crate::explain::reach::{Reach, reach_of};
@@ -240,7 +241,7 @@ fn read_work<'a, R: rt::Files<File = File> + AllocGlobal + RandomSource>(
         keys,
         is_new: is_absent(rt, names.store.as_str()),
         limits: limits(run),
-        cache_pages: run.cache_pages.max(1),
+        cache_pages: cached_pages(run.cache_pages),
     };
     if how.is_new && run.store_mode == StoreMode::Existing {
         return Err(Fault::NoSuchStore);
