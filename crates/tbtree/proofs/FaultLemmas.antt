@@ -7,11 +7,8 @@ use Rattle.tbtree.specs.declared.fault.TreeFault.{TreeFault}
 use Rattle.tbtree.specs.declared.fault.TreeFault.TheVariants.{Cache as OfCache, Malformed, Spent}
 
 names_in_cache : (P R : ℕ → Type 0) (fault : CacheFault) → ((n : ℕ) → P n → R n) → NamesInCache P fault → NamesInCache R fault
-names_in_cache P R cache.NoPage f h = tt
-names_in_cache P R cache.Store f h = tt
 names_in_cache P R (cache.Damaged n) f h = f n h
-names_in_cache P R cache.StoreFull f h = tt
-names_in_cache P R cache.Memory f h = tt
+names_in_cache P R _ f h = tt
 
 pub names_then : (P Q R S : ℕ → Type 0) → ((n : ℕ) → P n → R n) → ((n : ℕ) → Q n → S n) → (fault : TreeFault) → NamesEach P Q fault → NamesEach R S fault
 names_then P Q R S f g (OfCache fault) h = names_in_cache P R fault f h

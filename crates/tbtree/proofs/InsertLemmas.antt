@@ -1,12 +1,13 @@
 -- One leg more, as insert's parts state it.
-use Rattle.std.proofs.Common.{ℕ, zero, suc, ◌+◌, ◌^◌, ◌%◌, ◌/◌, ◌<◌, ◌≤◌, ◌≡◌, ◌≢◌, All, Bool, true, List, [], ◌∷◌, ◌++◌, drop, map, length, refl, sym, ap, ◌∙◌, arith, subst, ⊎_elim, Option, Some, None, slice_get}
+use Rattle.std.proofs.Common.{ℕ, zero, suc, ◌+◌, ◌^◌, ◌%◌, ◌/◌, ◌<◌, ◌≤◌, ◌≡◌, ◌≢◌, All, true, false, List, [], ◌∷◌, ◌++◌, drop, map, length, refl, sym, ap, ◌∙◌, arith, subst, ⊎_elim, Option, Some, None, slice_get}
 use Rattle.std.specs.Prelude.{Result, Ok, Err, OnOk, ◌-◌, ◌*◌, ◌==◌, set, get_or}
 use Rattle.std.specs.List.{count_by}
-use Rattle.std.proofs.lemmas.Bool.{cases_eq, cases_lt}
+use Rattle.std.proofs.lemmas.Bool.{cases_eq, cases_lt, true≢false}
 use Rattle.std.proofs.Math.Nat.{pow-zero, mod-one, div-one, zero-mod}
 use Rattle.std.proofs.lemmas.List.{length_push, append-nil, append_assoc}
 use Rattle.std.proofs.lemmas.List.Elements.{All-cons, All-nil}
 use Rattle.legs.specs.Index.{CanFollow, CanFollowInTurn}
+use Rattle.pagecache.specs.Cache.{Cache}
 use Rattle.tbtree.specs.Nodes.{LeafView}
 use Rattle.tbtree.specs.Shape.{IsShape}
 use Rattle.tbtree.specs.Payloads.{TakesLegs, are_of_one_leaf}
@@ -22,7 +23,7 @@ use Rattle.tbtree.specs.Stands.{head_or_zero, page_at, pages_of, owner, marks, l
 use Rattle.tbtree.specs.Insert.{NamesLast}
 use Rattle.tbtree.specs.Way.{Hanging, Hung, Hangs}
 use Rattle.tbtree.specs.Insert.{Grows, Begins, IsPlace, Inserts}
-use Rattle.tbtree.specs.Joining.{AllJoined, Holds, Joined, Joins, JoinsAll}
+use Rattle.tbtree.specs.Joining.{AllJoined, Fills, Holds, InsertCall, JoinsAll}
 use Rattle.legs.specs.Legs.{LegView}
 use Rattle.tbtree.specs.declared.tree.Place.{Place}
 use Rattle.legs.specs.Boxes.{BoxView}
@@ -130,16 +131,8 @@ inserted new tree tree' legs pages f ys after el ei a = record {
   others = λ g other ne p. subst (λ n. PlaceStands leg_feature (legs ++ ys) (marks leg_feature (leaves leg_feature n (legs ++ ys)) (a.pages 0)) g other) (sym el) (a.others g other ne p);
 }
 
-one_joined : (new : Pages LegView BoxView) (tree tree' : TbTree) (legs : List LegView) (pages : ℕ → List ℕ) (y : LegView) (after : Place) → AllJoined new tree tree' legs pages y.feature (y ∷ []) after → Joined new tree tree' legs pages y after
-one_joined new tree tree' legs pages y after a = record { pages = a.pages; stands = a.stands; placed = a.placed; others = a.others }
-
 one_own : (f : ℕ) (y : LegView) → y.feature ≡ f → All (λ y. y.feature ≡ f) (y ∷ [])
 one_own f y e = All-cons (λ y. y.feature ≡ f) y [] e (All-nil (λ y. y.feature ≡ f))
-
--- one leg, as a list of legs
-pub joins_one : (old new : Pages LegView BoxView) (tree tree' : TbTree) (place after : Place) (y : LegView) (res : Result (Unit {0}) TreeFault) → JoinsAll old new tree tree' place after (y ∷ []) res → Joins old new tree tree' place after y res
-joins_one old new tree tree' place after y (Ok u) f legs pages st at w = one_joined new tree tree' legs pages y after (f y.feature legs pages st at (one_own y.feature y refl) (w, tt))
-joins_one old new tree tree' place after y (Err x) f legs pages st at w = f y.feature legs pages st at (one_own y.feature y refl) (w, tt)
 
 -- there is a leg where some are left over
 some_over : (n k : ℕ) → 0 < k % n → 0 < k
@@ -287,20 +280,39 @@ place_named old new tree tree' place place' ys x torn g legs pages st at all w =
           (cases_eq place.legs 0)),
     ))
 
--- whether a tree is spent is no matter of its pages
-respent : (nodes : Pages LegView BoxView) (tree : TbTree) (b b' : Bool) (legs : List LegView) (pages : ℕ → List ℕ) → Holds nodes (record tree { spent = b }) legs pages → Holds nodes (record tree { spent = b' }) legs pages
-respent nodes tree b b' legs pages v = record { tree_stands = v.tree_stands; leaves_are = v.leaves_are }
+module _ (old new : Cache) (tree tree' : TbTree) (place place' : Place) (ys : List LegView) (works : tree.spent ≡ false) where
+  -- what a tree that is marked as spent meanwhile takes
+  pub inserted_call : Fills old new (record tree { spent = true }) tree' place place' ys (Ok tt) → InsertCall old new tree (record tree' { spent = false }) place place' ys (Ok tt)
+  inserted_call f = record {
+    joins = λ _ fa g legs pages st at all w.
+        let i = f.joins fa g legs pages (record { tree_stands = st.tree_stands; leaves_are = st.leaves_are }) at all w in
+        record { pages = i.pages; stands = record { tree_stands = i.stands.tree_stands; leaves_are = i.stands.leaves_are }; placed = i.placed; others = i.others };
+    shape = f.shape;
+    passes = f.touches.passes;
+    length = f.touches.length;
+    caused = λ _. tt;
+    works = refl;
+    spent = tt;
+    was_spent = λ e. absurd (true≢false (sym e ∙ works));
+  }
 
-pub inserts_spent : (old new : Pages LegView BoxView) (tree tree' : TbTree) (a b b' : Bool) (place after : Place) (ys : List LegView) (res : Result (Unit {0}) TreeFault) → JoinsAll old new (record tree { spent = a }) tree' place after ys res
-    → JoinsAll old new (record tree { spent = b }) (record tree' { spent = b' }) place after ys res
-inserts_spent old new tree tree' a b b' place after ys (Ok u) h f legs pages st at all w =
-    let i = h f legs pages (respent old tree b a legs pages st) at all w in
-    record { pages = i.pages; stands = respent new tree' tree'.spent b' (legs ++ ys) i.pages i.stands; placed = i.placed; others = i.others }
-inserts_spent old new tree tree' a b b' place after ys (Err x) h f legs pages st at all w = h f legs pages (respent old tree b a legs pages st) at all w
+  pub refused_call : (x : TreeFault) → Fills old new (record tree { spent = true }) tree' place place' ys (Err x) → InsertCall old new tree tree' place place' ys (Err x)
+  refused_call x f = record {
+    joins = λ _ fa g legs pages st at all w. f.joins fa g legs pages (record { tree_stands = st.tree_stands; leaves_are = st.leaves_are }) at all w;
+    shape = f.shape;
+    passes = f.touches.passes;
+    length = tt;
+    caused = λ _. f.touches.caused;
+    works = tt;
+    spent = f.spent;
+    was_spent = λ e. absurd (true≢false (sym e ∙ works));
+  }
 
--- legs in turn are joined by a leg that may follow them
-pub inserts_joined : (old new : Pages LegView BoxView) (tree tree' : TbTree) (place after : Place) (y : LegView) (res : Result (Unit {0}) TreeFault) → Joins old new tree tree' place after y res → Inserts old new tree tree' place after y res
-inserts_joined old new tree tree' place after y (Ok u) f legs pages st at w =
-    let i = f legs pages (record { tree_stands = st.tree_stands; leaves_are = st.leaves_are }) at (can_join legs y st.in_turn w) in
-    record { pages = i.pages; stands = record { in_turn = follow_push [] legs y st.in_turn w; tree_stands = i.stands.tree_stands; leaves_are = i.stands.leaves_are }; placed = i.placed; others = i.others }
-inserts_joined old new tree tree' place after y (Err x) f legs pages st at w = f legs pages (record { tree_stands = st.tree_stands; leaves_are = st.leaves_are }) at (can_join legs y st.in_turn w)
+module _ (old new : Pages LegView BoxView) (tree tree' : TbTree) (place after : Place) (y : LegView) where
+  -- legs in turn are joined by a leg that may follow them
+  pub inserts_joined : (res : Result (Unit {0}) TreeFault) → JoinsAll old new tree tree' place after (y ∷ []) res → Inserts old new tree tree' place after y res
+  inserts_joined (Ok u) f legs pages st at w =
+      let i = f y.feature legs pages (record { tree_stands = st.tree_stands; leaves_are = st.leaves_are }) at (one_own y.feature y refl) (can_join legs y st.in_turn w, tt) in
+      record { pages = i.pages; stands = record { in_turn = follow_push [] legs y st.in_turn w; tree_stands = i.stands.tree_stands; leaves_are = i.stands.leaves_are }; placed = i.placed; others = i.others }
+  inserts_joined (Err x) f legs pages st at w =
+      f y.feature legs pages (record { tree_stands = st.tree_stands; leaves_are = st.leaves_are }) at (one_own y.feature y refl) (can_join legs y st.in_turn w, tt)

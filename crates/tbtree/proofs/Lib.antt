@@ -5,7 +5,6 @@ pub mod CoverLemmas
 pub mod Still
 pub mod HullLemmas
 pub mod Widening
-pub mod KindLemmas
 pub mod FullLemmas
 pub mod RoomLemmas
 pub mod BeginLemmas

@@ -1,5 +1,6 @@
 -- One call after another.
 use Rattle.std.proofs.Common.{◌∙◌, refl, arith, Result, Ok, Err}
+use Rattle.std.specs.Prelude.{IfOk}
 use Rattle.pages.specs.Store.{Store}
 use Rattle.pages.specs.Store as store
 use Rattle.pagecache.specs.Cache.{Cache}
@@ -39,15 +40,15 @@ passes_trans a b c p q = record {
 }
 
 caused_in_cache : (a b c : Cache) (e : CacheFault) → Passes a b → RefusesWriteInCache b c e → RefusesWriteInCache a c e
-caused_in_cache a b c cache.NoPage p h = h
 caused_in_cache a b c cache.Store p h = omega (arith, h, p.store.faults)
+caused_in_cache a b c cache.NoPage p h = h
 caused_in_cache a b c (cache.Damaged n) p h = h
 caused_in_cache a b c cache.StoreFull p h = h
-caused_in_cache a b c cache.Memory p h = tt
+caused_in_cache a b c cache.Memory p h = h
 
 pub caused_after : (a b c : Cache) (e : TreeFault) → Passes a b → RefusesWrite b c e → RefusesWrite a c e
 caused_after a b c (OfCache e) p h = caused_in_cache a b c e p h
-caused_after a b c (Malformed n) p h = tt
+caused_after a b c (Malformed n) p h = h
 caused_after a b c Spent p h = h
 
 -- no call, and one after another
@@ -57,6 +58,21 @@ touches_none a x = record { passes = passes_refl a; length = λ e. e; caused = t
 pub touches_then : {T U : Type 0} (a b c : Cache) (x : T) (r : Result U TreeFault) → Touches a b (Ok x) → Touches b c r → Touches a c r
 touches_then a b c x (Ok y) t u = record { passes = passes_trans a b c t.passes u.passes; length = λ e. u.length (t.length e); caused = tt }
 touches_then a b c x (Err e) t u = record { passes = passes_trans a b c t.passes u.passes; length = tt; caused = caused_after a b c e t.passes u.caused }
+
+-- an answer of another type, and a refusal of one
+pub touches_any : {T U : Type 0} {a b : Cache} {x : T} {y : U} → Touches a b (Ok x) → Touches a b (Ok y)
+touches_any t = record { passes = t.passes; length = t.length; caused = tt }
+
+pub refused_any : {T U : Type 0} {a b : Cache} {e : TreeFault} → Touches {T = T} a b (Err e) → Touches {T = U} a b (Err e)
+refused_any t = record { passes = t.passes; length = tt; caused = t.caused }
+
+pub if_ok : {T : Type 0} (r : Result T TreeFault) (P : T → Type 0) → ((x : T) → P x) → IfOk r P
+if_ok (Ok x) P h = h x
+if_ok (Err e) P h = tt
+
+pub on_ok : {T : Type 0} (r : Result T TreeFault) (P Q : T → Type 0) → ((x : T) → P x → Q x) → IfOk r P → IfOk r Q
+on_ok (Ok x) P Q f h = f x h
+on_ok (Err e) P Q f h = tt
 
 -- what a call after another may cite
 pub ruleset passing = (passes_trans, passes_refl, caused_after)

@@ -15,16 +15,12 @@ module _ {L B : Type 0} where
   -- the entries of a page, if it is an inner one
   abbrev pub entries_in : Option (Option (Node L B)) → List (EntryView B)
   entries_in (Some (Some (AnInner page))) = page.entries
-  entries_in (Some (Some (ALeaf leaf))) = []
-  entries_in (Some None) = []
-  entries_in None = []
+  entries_in _ = []
 
   -- the legs of a page, if it is a leaf
   abbrev pub legs_in : Option (Option (Node L B)) → List L
   legs_in (Some (Some (ALeaf leaf))) = leaf.legs
-  legs_in (Some (Some (AnInner page))) = []
-  legs_in (Some None) = []
-  legs_in None = []
+  legs_in _ = []
 
   -- what page p says as a page of a tree
   abbrev pub node_at : Pages L B → ℕ → Option (Option (Node L B))

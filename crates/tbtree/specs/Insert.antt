@@ -1,13 +1,14 @@
 -- A tree stands for a list of legs, and a leg more in it.
-use Rattle.std.specs.Prelude.{ℕ, ◌≡◌, ◌≢◌, ◌<◌, List, [], ◌∷◌, ◌++◌, set, length, slice_get, Some, Result}
+use Rattle.std.specs.Prelude.{ℕ, ◌≡◌, ◌≢◌, ◌<◌, List, [], ◌∷◌, ◌++◌, set, true, length, slice_get, Some, Result}
 use Rattle.legs.specs.Legs.{LegView}
 use Rattle.legs.specs.Boxes.{BoxView}
 use Rattle.legs.specs.Costs.{leg_feature, leaves_of}
 use Rattle.legs.specs.Hull.{Boxes, leg_boxes}
 use Rattle.legs.specs.Index.{CanFollow, CanFollowInTurn}
 use Rattle.tbtree.specs.Faults.{GivesWrite}
-use Rattle.tbtree.specs.Nodes.{Pages, LeafView, ALeaf, Adds, Links}
-use Rattle.tbtree.specs.Stands.{marks, new_leaf, page_at, PlaceStands, TreeStands}
+use Rattle.tbtree.specs.Nodes.{Pages, LeafView, ALeaf, Adds, HasLastLeaf, Links}
+use Rattle.tbtree.specs.Payloads.{are_of_one_leaf}
+use Rattle.tbtree.specs.Stands.{marks, new_leaf, owner, page_at, PlaceStands, TreeStands}
 use Rattle.tbtree.specs.declared.tree.Place.{Place}
 use Rattle.tbtree.specs.declared.tree.TbTree.{TbTree}
 use Rattle.tbtree.specs.declared.fault.TreeFault.{TreeFault}
@@ -66,6 +67,12 @@ Inserts old new tree tree' place place' y result =
     → IsPlace tree legs pages y.feature place
     → CanFollow legs y
     → GivesWrite result (λ _. Inserted new tree tree' legs pages y place')
+
+-- a leaf of ys may be begun behind the leaf last, where there is one
+pub record CanBegin (nodes : Pages LegView BoxView) (last : ℕ) (ys : List LegView) : Type 0 where
+  pub there : last < nodes.count
+  pub end : 0 < last → HasLastLeaf nodes last (owner leg_feature ys)
+  pub one : are_of_one_leaf ys ≡ true
 
 -- a place that has legs names their last leaf, and one that has none names none
 abbrev pub NamesLast : Place → Type 0

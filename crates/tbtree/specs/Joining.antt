@@ -1,18 +1,21 @@
--- A leg more in a tree, whatever the order in which the legs before it came.
-use Rattle.std.specs.Prelude.{ℕ, ◌≡◌, ◌≢◌, ◌<◌, ◌≤◌, List, [], ◌∷◌, ◌++◌, length, All, Result}
+-- More legs in a tree, whatever the order in which the legs before it came.
+use Rattle.std.specs.Prelude.{ℕ, ◌≡◌, ◌≢◌, ◌<◌, ◌≤◌, true, false, List, [], ◌∷◌, ◌++◌, length, All, Result, Err, IfErr, IsTrue, OnErr, OnOk}
 use Rattle.legs.specs.Legs.{LegView}
 use Rattle.legs.specs.Boxes.{BoxView}
 use Rattle.legs.specs.Costs.{leg_feature, leaves_of}
 use Rattle.legs.specs.Hull.{leg_boxes}
 use Rattle.legs.specs.Index.{feature_count}
-use Rattle.tbtree.specs.Faults.{GivesWrite}
-use Rattle.tbtree.specs.Nodes.{Pages}
+use Rattle.pagecache.specs.Cache.{Cache}
+use Rattle.tbtree.specs.Faults.{GivesWrite, RefusesWrite}
+use Rattle.tbtree.specs.Nodes.{Pages, pages_of_cache}
+use Rattle.tbtree.specs.Passes.{KeepsLength, Passes, Touches}
 use Rattle.tbtree.specs.Stands.{TreeStands}
 use Rattle.tbtree.specs.Insert.{IsPlace, Stands}
 use Rattle.tbtree.specs.Order.{in_blocks}
 use Rattle.tbtree.specs.declared.tree.Place.{Place}
 use Rattle.tbtree.specs.declared.tree.TbTree.{TbTree}
 use Rattle.tbtree.specs.declared.fault.TreeFault.{TreeFault}
+use Rattle.tbtree.specs.declared.fault.TreeFault.TheVariants.{Spent}
 
 -- the pages and the tree's value stand for the leaves of the legs, which may have come in any order
 pub record Holds (nodes : Pages LegView BoxView) (tree : TbTree) (legs : List LegView)
@@ -24,25 +27,6 @@ pub record Holds (nodes : Pages LegView BoxView) (tree : TbTree) (legs : List Le
 -- a leg may join legs: its ordinal is above those of its feature's legs
 abbrev pub CanJoin : List LegView → LegView → Type 0
 CanJoin legs y = All (λ l. l.feature ≡ y.feature → l.ordinal < y.ordinal) legs
-
--- they hold the legs with y at the end, and each feature has its place
-pub record Joined (nodes : Pages LegView BoxView) (old tree : TbTree) (legs : List LegView)
-    (old_pages : ℕ → List ℕ) (y : LegView) (place : Place) : Type 0 where
-  pub pages : ℕ → List ℕ
-  pub stands : Holds nodes tree (legs ++ y ∷ []) pages
-  pub placed : IsPlace tree (legs ++ y ∷ []) pages y.feature place
-  pub others : (f : ℕ) (other : Place) → f ≢ y.feature → IsPlace old legs old_pages f other
-      → IsPlace tree (legs ++ y ∷ []) pages f other
-
--- pages that hold legs hold them with a leg more that may join, or a refusal that good pages allow
-abbrev pub Joins : (old new : Pages LegView BoxView) (tree tree' : TbTree) (place place' : Place)
-    (y : LegView) (result : Result (Unit {0}) TreeFault) → Type 0
-Joins old new tree tree' place place' y result =
-    (legs : List LegView) (pages : ℕ → List ℕ)
-    → Holds old tree legs pages
-    → IsPlace tree legs pages y.feature place
-    → CanJoin legs y
-    → GivesWrite result (λ _. Joined new tree tree' legs pages y place')
 
 -- legs of one feature may join legs, one after another
 abbrev pub CanJoinInTurn : List LegView → List LegView → Type 0
@@ -69,6 +53,37 @@ JoinsAll old new tree tree' place place' ys result =
     → All (λ y. y.feature ≡ f) ys
     → CanJoinInTurn legs ys
     → GivesWrite result (λ _. AllJoined new tree tree' legs pages f ys place')
+
+-- what putting legs of one feature in does to a tree that is not spent, to the feature's place and to the cache
+pub record Fills (old new : Cache) (tree tree' : TbTree) (place place' : Place) (ys : List LegView)
+    (result : Result (Unit {0}) TreeFault) : Type 0 where
+  pub joins : IsTrue old.store.is_faithful
+      → JoinsAll (pages_of_cache old) (pages_of_cache new) tree tree' place place' ys result
+  pub spent : tree'.spent ≡ tree.spent
+  pub shape : tree'.shape ≡ tree.shape
+  pub touches : Touches old new result
+
+-- what an insertion of legs of one feature does
+pub record InsertCall (old new : Cache) (tree tree' : TbTree) (place place' : Place)
+    (ys : List LegView) (result : Result (Unit {0}) TreeFault) : Type 0 where
+  -- pages that hold legs in any order hold them with these, each of which has an ordinal above those of its feature's
+  -- legs before it
+  pub joins : tree.spent ≡ false → IsTrue old.store.is_faithful
+      → JoinsAll (pages_of_cache old) (pages_of_cache new) tree tree' place place' ys result
+  -- the tree keeps its shape
+  pub shape : tree'.shape ≡ tree.shape
+  -- page 0 is kept, and nothing goes, over any pages
+  pub passes : Passes old new
+  -- after `Ok` the cache counts all pages of the store, if it did before
+  pub length : OnOk result (KeepsLength old new)
+  -- the store failed or is full only if it did or is, and a page that is said to be damaged has no payload
+  pub caused : tree.spent ≡ false → IfErr result (RefusesWrite old new)
+  -- after `Ok` the tree is not spent, and after an error it is
+  pub works : OnOk result (tree'.spent ≡ false)
+  pub spent : OnErr result (tree'.spent ≡ true)
+  -- a spent tree refuses, and nothing changes
+  pub was_spent : tree.spent ≡ true → (result ≡ Err Spent)
+      × (tree' ≡ tree) × (place' ≡ place) × (new ≡ old)
 
 -- a leg may be put into the index of some legs: it may join them, and its feature is there, or is the next one
 pub record CanTake (legs : List LegView) (leg : LegView) : Type 0 where

@@ -139,9 +139,3 @@ pub record HasCover {L B : Type 0} (s : Boxes L B) (nodes : Pages L B) (p : ℕ)
   pub is : nodes.at p ≡ Some (Some node)
   pub box : B
   pub cover : cover_of_page s node ≡ Some box
-
--- each leaf that is there is as it was
-abbrev pub KeepsLeaves : {L B : Type 0} → Pages L B → Pages L B → Type 0
-KeepsLeaves {L = L} old new =
-    (p : ℕ) (leaf : LeafView L) → old.at p ≡ Some (Some (ALeaf leaf))
-    → new.at p ≡ Some (Some (ALeaf leaf))

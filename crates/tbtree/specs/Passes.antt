@@ -1,8 +1,8 @@
 -- What every call of the tree leaves of the cache, answered or not, whatever its pages hold.
-use Rattle.std.specs.Prelude.{◌≡◌, ◌≤◌, ◌<◌, ◌^◌, ◌-◌, min, false, IsTrue, IfErr, OnOk, Result}
+use Rattle.std.specs.Prelude.{ℕ, ◌≡◌, ◌≤◌, ◌<◌, ◌^◌, ◌+◌, ◌-◌, min, false, IsTrue, IfErr, IfOk, OnOk, Result}
 use Rattle.pages.specs.Store as store
 use Rattle.pagecache.specs.Cache.{Cache, payload_of, page_of, is_changed}
-use Rattle.tbtree.specs.Faults.{RefusesWrite}
+use Rattle.tbtree.specs.Faults.{MayRefuseWrite, RefusesWrite}
 use Rattle.tbtree.specs.declared.fault.TreeFault.{TreeFault}
 
 -- the cache is the same one: page 0 is kept, and neither pages nor asks grow fewer
@@ -30,3 +30,20 @@ pub record Touches {T : Type 0} (old new : Cache) (result : Result T TreeFault) 
   pub length : OnOk result (KeepsLength old new)
   -- refused: what the fault says is so
   pub caused : IfErr result (RefusesWrite old new)
+
+-- a call that changes pages one by one: what it gives, and that it is refused over good pages only as they allow
+pub record Edits {T : Type 0} (old new : Cache) (asks : ℕ) (result : Result T TreeFault)
+    (Given : T → Type 0) (Good : Type 0) : Type 0 where
+  pub gives : IsTrue old.store.is_faithful → IfOk result Given
+  pub only : IsTrue old.store.is_faithful → Good → IfErr result MayRefuseWrite
+  pub touches : Touches old new result
+  -- at most so many pages were asked for
+  pub asked : new.asked ≤ old.asked + asks
+
+-- a call that writes pages of the tree: what it says over a faithful store. If it was answered, it asked for so many pages
+-- at most, and left so many of these
+pub record Writes {T : Type 0} (old new : Cache) (result : Result T TreeFault) (asks : T → ℕ)
+    (spare : ℕ) (Says : Type 0) : Type 0 where
+  pub says : IsTrue old.store.is_faithful → Says
+  pub touches : Touches old new result
+  pub asked : IfOk result (λ x. new.asked + spare ≤ old.asked + asks x)

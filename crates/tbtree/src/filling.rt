@@ -1,10 +1,6 @@
 //! Many legs of one feature, put in leaf by leaf.
-ghost use Rattle.std.specs.Prelude.{ℕ, All, List, ◌≡◌, ◌<◌, ◌≤◌, ◌⊎◌, ◌+◌, ◌-◌, ◌*◌, ◌%◌, OnOk, OnErr, IfErr, IsTrue, false, true, Err, drop, length, take};
-ghost use Rattle.tbtree.specs.Faults.{RefusesWrite};
-ghost use Rattle.tbtree.specs.Nodes.{pages_of_cache};
-ghost use Rattle.tbtree.specs.Passes.{Passes, KeepsLength, Touches};
-ghost use Rattle.tbtree.specs.Joining.{JoinsAll};
-ghost use Rattle.tbtree.specs.declared.fault.TreeFault.{TreeFault};
+ghost use Rattle.std.specs.Prelude.{◌<◌, ◌≤◌, ◌+◌, ◌%◌};
+ghost use Rattle.tbtree.specs.Joining.{Fills, InsertCall};
 
 use crate::fault::TreeFault;
 use crate::insertion::put;
@@ -35,13 +31,7 @@ fn put_all<S: PageStore>(
     place: &mut Place,
     legs: &[Leg],
 ) -> Result<(), TreeFault>
-    ensures inserts { IsTrue cache.old.store.is_faithful
-        → JoinsAll (pages_of_cache cache.old) (pages_of_cache cache.new) tree.old tree.new
-        place.old place.new legs.now result }
-    ensures spent { tree.new.spent ≡ tree.old.spent }
-    ensures shape { tree.new.shape ≡ tree.old.shape }
-    ensures touches { Touches cache.old cache.new result }
-    ensures counted { OnOk result (place.new.legs ≡ place.old.legs + length legs.now) }
+    ensures { Fills cache.old cache.new tree.old tree.new place.old place.new legs.now result }
 {
     let leaf = tree.shape.leaf();
     let mut from = 0;
@@ -64,32 +54,9 @@ pub fn insert_all<S: PageStore>(
     place: &mut Place,
     legs: &[Leg],
 ) -> Result<(), TreeFault>
-    // Pages that hold legs in any order hold them with these, each of which has an ordinal above those of its feature's
-    // legs before it.
-    ensures joins { tree.old.spent ≡ false → IsTrue cache.old.store.is_faithful
-        → JoinsAll (pages_of_cache cache.old) (pages_of_cache cache.new) tree.old tree.new
-        place.old place.new legs.now result }
-    // The tree keeps its shape.
-    ensures shape { tree.new.shape ≡ tree.old.shape }
-
-    // What is left of the cache, over any pages.
-    ensures passes { Passes cache.old cache.new }
-    // After `Ok` the cache counts all pages of the store, if it did before.
-    ensures length { OnOk result (KeepsLength cache.old cache.new) }
-    // `Store` is returned only if the store failed, `StoreFull` only if it is full, and a damaged
-    // page has no payload.
-    ensures caused { tree.old.spent ≡ false → IfErr result (RefusesWrite cache.old cache.new) }
-
-    // Over any pages the place counts the legs.
-    ensures counted { OnOk result (place.new.legs ≡ place.old.legs + length legs.now) }
-
-    // A refusal is for good.
-    ensures works { OnOk result (tree.new.spent ≡ false) }
-    // After an error the tree is spent.
-    ensures spent { OnErr result (tree.new.spent ≡ true) }
-    // A spent tree returns `Spent`, and nothing changes.
-    ensures was_spent { tree.old.spent ≡ true → (result ≡ Err TreeFault.Spent)
-        × (tree.new ≡ tree.old) × (place.new ≡ place.old) × (cache.new ≡ cache.old) }
+    // Pages that hold legs hold them with these too, and a refusal is for good.
+    ensures { InsertCall cache.old cache.new tree.old tree.new place.old place.new legs.now
+        result }
 {
     if tree.spent {
         return Err(TreeFault::Spent);

@@ -1,17 +1,14 @@
 //! Insertion.
-ghost use Rattle.std.specs.Prelude.{ℕ, suc, [], ◌∷◌, None, length, ◌≢◌, ◌≡◌, ◌<◌, ◌≤◌, ◌+◌, ◌-◌, ◌*◌, ◌%◌, ◌^◌, IfOk, IfErr, OnOk, OnErr, IsTrue, false, true, Err};
+ghost use Rattle.std.specs.Prelude.{ℕ, [], ◌∷◌, length, ◌≡◌, ◌<◌, ◌≤◌, ◌+◌, ◌-◌, ◌*◌, ◌%◌, ◌^◌, OnOk, true};
 ghost use Rattle.legs.specs.Costs.{leg_feature};
 ghost use Rattle.legs.specs.Hull.{leg_boxes};
-ghost use Rattle.tbtree.specs.Faults.{MayRefuseWrite, RefusesWrite};
-ghost use Rattle.tbtree.specs.Nodes.{pages_of_cache, HasLastLeaf, KeepsLeaves};
-ghost use Rattle.tbtree.specs.Passes.{Passes, KeepsLength, Touches};
+ghost use Rattle.tbtree.specs.Nodes.{pages_of_cache};
+ghost use Rattle.tbtree.specs.Passes.{Edits, Writes};
 ghost use Rattle.tbtree.specs.Way.{IsOnWay, Hangs};
-ghost use Rattle.tbtree.specs.Insert.{Grows, Begins, Inserts, NamesLast};
-ghost use Rattle.tbtree.specs.Joining.{Joins, JoinsAll};
-ghost use Rattle.tbtree.specs.Payloads.{TakesLegs, are_of_one_leaf};
+ghost use Rattle.tbtree.specs.Insert.{Grows, Begins, CanBegin, NamesLast};
+ghost use Rattle.tbtree.specs.Joining.{Fills, InsertCall, JoinsAll};
+ghost use Rattle.tbtree.specs.Payloads.{TakesLegs};
 ghost use Rattle.tbtree.specs.Shape.{IsShape};
-ghost use Rattle.tbtree.specs.Stands.{owner};
-ghost use Rattle.tbtree.specs.declared.fault.TreeFault.{TreeFault};
 
 use crate::fault::TreeFault;
 use crate::nodes;
@@ -36,15 +33,9 @@ fn way<S: PageStore>(
 ) -> Result<u32, TreeFault>
     requires level { level < tree.now.levels }
     requires few { tree.now.levels < 2 ^ 16 }
-    ensures way { IsTrue cache.old.store.is_faithful
-        → IsOnWay leg_boxes tree.now.shape.inner tree.now.levels tree.now.root
-        (pages_of_cache cache.old) (pages_of_cache cache.new) level at bounds.now result }
-    ensures leaves { IsTrue cache.old.store.is_faithful
-        → OnOk result (KeepsLeaves (pages_of_cache cache.old) (pages_of_cache cache.new)) }
-    ensures no_more { IsTrue cache.old.store.is_faithful
-        → OnOk result (KeepsLeaves (pages_of_cache cache.new) (pages_of_cache cache.old)) }
-    ensures touches { Touches cache.old cache.new result }
-    ensures asked { cache.new.asked + level + 1 ≤ cache.old.asked + tree.now.levels }
+    ensures { Writes cache.old cache.new result (λ _. tree.now.levels) (level + 1)
+        (IsOnWay leg_boxes tree.now.shape.inner tree.now.levels tree.now.root
+        (pages_of_cache cache.old) (pages_of_cache cache.new) level at bounds.now result) }
 {
     if u32::from(level) + 1 == tree.levels {
         return Ok(tree.root);
@@ -67,12 +58,10 @@ fn into_leaf<S: PageStore>(
     requires levels { 0 < tree.now.levels }
     requires few { tree.now.levels < 2 ^ 16 }
     requires some { 0 < length legs.now }
-    ensures grows { IsTrue cache.old.store.is_faithful
-        → Grows leg_boxes leg_feature tree.now.shape.inner tree.now.levels tree.now.root
+    ensures { Writes cache.old cache.new result (λ _. tree.now.levels) 0
+        (Grows leg_boxes leg_feature tree.now.shape.inner tree.now.levels tree.now.root
         (pages_of_cache cache.old) (pages_of_cache cache.new) number last legs.now
-        (λ leaf. TakesLegs tree.now.shape.leaf leaf legs.now) result }
-    ensures touches { Touches cache.old cache.new result }
-    ensures asked { cache.new.asked ≤ cache.old.asked + tree.now.levels }
+        (λ leaf. TakesLegs tree.now.shape.leaf leaf legs.now) result) }
 {
     let most = tree.shape.leaf();
     let bounds = cover_of_legs(legs);
@@ -94,17 +83,10 @@ fn root_over<S: PageStore>(
     requires wide { 1 < tree.now.shape.inner }
     requires top { level + 1 ≡ tree.now.levels }
     requires few { tree.now.levels < 2 ^ 16 - 1 }
-    ensures hangs { IsTrue cache.old.store.is_faithful → (at : ℕ)
+    ensures { Writes cache.old cache.new result (λ top. top.levels) level ((at : ℕ)
         → Hangs leg_boxes leg_feature tree.now.shape.inner tree.now.levels tree.now.root
         (pages_of_cache cache.old) (pages_of_cache cache.new) level at child.now.child
-        child.now.bounds result }
-    ensures leaves { IsTrue cache.old.store.is_faithful
-        → OnOk result (KeepsLeaves (pages_of_cache cache.old) (pages_of_cache cache.new)) }
-    ensures no_more { IsTrue cache.old.store.is_faithful
-        → OnOk result (KeepsLeaves (pages_of_cache cache.new) (pages_of_cache cache.old)) }
-    ensures touches { Touches cache.old cache.new result }
-    ensures asked { cache.new.asked ≤ cache.old.asked + 2 }
-    ensures levels { IfOk result (λ top. top.levels ≡ tree.now.levels + 1) }
+        child.now.bounds result) }
 {
     let bounds = nodes::cover(cache, tree.root)?;
     let first = Entry {
@@ -129,18 +111,10 @@ fn hang<S: PageStore>(
 ) -> Result<Top, TreeFault>
     requires level { level < tree.now.levels }
     requires few { tree.now.levels < 2 ^ 16 - 1 }
-    ensures hangs { IsTrue cache.old.store.is_faithful
-        → Hangs leg_boxes leg_feature tree.now.shape.inner tree.now.levels tree.now.root
+    ensures { Writes cache.old cache.new result (λ top. top.levels) level
+        (Hangs leg_boxes leg_feature tree.now.shape.inner tree.now.levels tree.now.root
         (pages_of_cache cache.old) (pages_of_cache cache.new) level at child.now.child
-        child.now.bounds result }
-    ensures leaves { IsTrue cache.old.store.is_faithful
-        → OnOk result (KeepsLeaves (pages_of_cache cache.old) (pages_of_cache cache.new)) }
-    ensures no_more { IsTrue cache.old.store.is_faithful
-        → OnOk result (KeepsLeaves (pages_of_cache cache.new) (pages_of_cache cache.old)) }
-    ensures touches { Touches cache.old cache.new result }
-    ensures asked { IfOk result (λ top. cache.new.asked + level
-        ≤ cache.old.asked + top.levels) }
-    ensures higher { IfOk result (λ top. tree.now.levels ≤ top.levels) }
+        child.now.bounds result) }
 {
     let inner = u32::from(tree.shape.inner());
     if u32::from(level) + 1 == tree.levels {
@@ -177,12 +151,9 @@ fn into_last<S: PageStore>(
     requires room { place.old.legs % tree.now.shape.leaf + length legs.now
         ≤ tree.now.shape.leaf }
     requires few_legs { place.old.legs + length legs.now < 2 ^ 64 }
-    ensures inserts { IsTrue cache.old.store.is_faithful
-        → JoinsAll (pages_of_cache cache.old) (pages_of_cache cache.new) tree.now tree.now
-        place.old place.new legs.now result }
-    ensures counted { OnOk result (place.new.legs ≡ place.old.legs + length legs.now) }
-    ensures touches { Touches cache.old cache.new result }
-    ensures asked { cache.new.asked ≤ cache.old.asked + tree.now.levels }
+    ensures { Writes cache.old cache.new result (λ _. tree.now.levels) 0
+        (JoinsAll (pages_of_cache cache.old) (pages_of_cache cache.new) tree.now tree.now
+        place.old place.new legs.now result) }
 {
     into_leaf(cache, tree, place.last_index, place.last, legs)?;
     place.legs += legs.len() as u64;
@@ -198,19 +169,9 @@ fn add_last<S: PageStore>(
 ) -> Result<u32, TreeFault>
     requires some { 0 < length legs.now }
     requires few { length legs.now ≤ 50 }
-    requires first { 0 < cache.old.count }
-    ensures begins { IsTrue cache.old.store.is_faithful
-        → IfOk result (Begins leg_feature (pages_of_cache cache.old) last legs.now
-        (pages_of_cache cache.new)) }
-    ensures number { IfOk result (λ page. page ≡ cache.old.count) }
-    ensures only { IsTrue cache.old.store.is_faithful
-        → (0 < last → HasLastLeaf (pages_of_cache cache.old) last (owner leg_feature legs.now))
-        → last < cache.old.count → are_of_one_leaf legs.now ≡ true
-        → IfErr result MayRefuseWrite }
-    ensures counted { IsTrue cache.old.store.is_faithful
-        → OnOk result (cache.new.count ≡ cache.old.count + 1) }
-    ensures touches { Touches cache.old cache.new result }
-    ensures asked { cache.new.asked ≤ cache.old.asked + 2 }
+    ensures { Edits cache.old cache.new 2 result
+        (Begins leg_feature (pages_of_cache cache.old) last legs.now (pages_of_cache cache.new))
+        (CanBegin (pages_of_cache cache.old) last legs.now) }
 {
     if last == 0 {
         return nodes::add_leaf(cache, last, legs);
@@ -232,18 +193,10 @@ fn hang_leaf<S: PageStore>(
     page: &Entry,
 ) -> Result<Top, TreeFault>
     requires few { tree.now.levels < 2 ^ 16 - 1 }
-    ensures hangs { IsTrue cache.old.store.is_faithful
-        → Hangs leg_boxes leg_feature tree.now.shape.inner tree.now.levels tree.now.root
+    ensures { Writes cache.old cache.new result (λ top. top.levels) 0
+        (Hangs leg_boxes leg_feature tree.now.shape.inner tree.now.levels tree.now.root
         (pages_of_cache cache.old) (pages_of_cache cache.new) 0 tree.now.leaves
-        page.now.child page.now.bounds result }
-    ensures leaves { IsTrue cache.old.store.is_faithful
-        → OnOk result (KeepsLeaves (pages_of_cache cache.old) (pages_of_cache cache.new)) }
-    ensures no_more { IsTrue cache.old.store.is_faithful
-        → OnOk result (KeepsLeaves (pages_of_cache cache.new) (pages_of_cache cache.old)) }
-    ensures some { IfOk result (λ top. 0 < top.levels) }
-    ensures touches { Touches cache.old cache.new result }
-    ensures asked { IfOk result (λ top. cache.new.asked ≤ cache.old.asked + top.levels) }
-    ensures higher { IfOk result (λ top. tree.now.levels ≤ top.levels) }
+        page.now.child page.now.bounds result) }
 {
     if tree.levels == 0 {
         return Ok(Top {
@@ -270,17 +223,9 @@ fn begin<S: PageStore>(
     requires few_leaves { tree.old.leaves < 2 ^ 32 - 1 }
     requires few_levels { tree.old.levels < 2 ^ 16 - 1 }
     requires root { tree.old.root < cache.old.count }
-    ensures inserts { IsTrue cache.old.store.is_faithful
-        → JoinsAll (pages_of_cache cache.old) (pages_of_cache cache.new) tree.old tree.new
-        place.old place.new legs.now result }
-    ensures spent { tree.new.spent ≡ tree.old.spent }
-    ensures shape { tree.new.shape ≡ tree.old.shape }
-    ensures counted { OnOk result (place.new.legs ≡ place.old.legs + length legs.now) }
-    ensures touches { Touches cache.old cache.new result }
+    ensures fills { Fills cache.old cache.new tree.old tree.new place.old place.new legs.now result }
     ensures asked { OnOk result (cache.new.asked
         ≤ cache.old.asked + (tree.new.levels + 2)) }
-    ensures higher { OnOk result (tree.old.levels ≤ tree.new.levels) }
-    ensures leaves { OnOk result (tree.new.leaves ≡ tree.old.leaves + 1) }
 {
     let page = add_last(cache, place.last, legs)?;
     let bounds = cover_of_legs(legs);
@@ -323,16 +268,9 @@ pub(crate) fn put<S: PageStore>(
     requires some { 0 < length legs.now }
     requires room { 1 < length legs.now → place.old.legs % tree.old.shape.leaf + length legs.now
         ≤ tree.old.shape.leaf }
-    ensures inserts { IsTrue cache.old.store.is_faithful
-        → JoinsAll (pages_of_cache cache.old) (pages_of_cache cache.new) tree.old tree.new
-        place.old place.new legs.now result }
-    ensures spent { tree.new.spent ≡ tree.old.spent }
-    ensures shape { tree.new.shape ≡ tree.old.shape }
-    ensures counted { OnOk result (place.new.legs ≡ place.old.legs + length legs.now) }
-    ensures touches { Touches cache.old cache.new result }
+    ensures fills { Fills cache.old cache.new tree.old tree.new place.old place.new legs.now result }
     ensures asked { OnOk result (cache.new.asked
         ≤ cache.old.asked + (2 * (tree.new.levels - 1) + 4)) }
-    ensures higher { OnOk result (tree.old.levels ≤ tree.new.levels) }
 {
     let leaf = u64::from(tree.shape.leaf());
     if tree.leaves >= cache.count() || tree.levels >= MOST_LEVELS || place.legs > u64::MAX - leaf {
@@ -366,35 +304,12 @@ pub fn insert<S: PageStore>(
     place: &mut Place,
     leg: Leg,
 ) -> Result<(), TreeFault>
-    // Pages that stand for legs stand for them with one more, which may follow them.
-    ensures inserts { tree.old.spent ≡ false → IsTrue cache.old.store.is_faithful
-        → Inserts (pages_of_cache cache.old) (pages_of_cache cache.new) tree.old tree.new
-        place.old place.new leg result }
-    // So do pages that hold legs in any order, where its ordinal is above those of its feature's legs.
-    ensures joins { tree.old.spent ≡ false → IsTrue cache.old.store.is_faithful
-        → Joins (pages_of_cache cache.old) (pages_of_cache cache.new) tree.old tree.new
-        place.old place.new leg result }
-    // The tree keeps its shape.
-    ensures shape { tree.new.shape ≡ tree.old.shape }
-
-    // What is left of the cache, over any pages.
-    ensures passes { Passes cache.old cache.new }
-    // After `Ok` the cache counts all pages of the store, if it did before.
-    ensures length { OnOk result (KeepsLength cache.old cache.new) }
-    // `Store` is returned only if the store failed, `StoreFull` only if it is full, and a damaged
-    // page has no payload.
-    ensures caused { tree.old.spent ≡ false → IfErr result (RefusesWrite cache.old cache.new) }
+    // It is put in as a list of one leg is.
+    ensures call { InsertCall cache.old cache.new tree.old tree.new place.old place.new
+        (leg ∷ []) result }
     // After `Ok` at most twice the root's height and four pages were asked for.
     ensures asked { OnOk result (cache.new.asked
         ≤ cache.old.asked + (2 * (tree.new.levels - 1) + 4)) }
-
-    // A refusal is for good.
-    ensures works { OnOk result (tree.new.spent ≡ false) }
-    // After an error the tree is spent.
-    ensures spent { OnErr result (tree.new.spent ≡ true) }
-    // A spent tree returns `Spent`, and nothing changes.
-    ensures was_spent { tree.old.spent ≡ true → (result ≡ Err TreeFault.Spent)
-        × (tree.new ≡ tree.old) × (place.new ≡ place.old) × (cache.new ≡ cache.old) }
 {
     if tree.spent {
         return Err(TreeFault::Spent);

@@ -1,12 +1,10 @@
 //! The pages of a tree in a cache: each call here changes one page, adds one, or reads one.
-ghost use Rattle.std.specs.Prelude.{ℕ, ◌≡◌, ◌+◌, ◌≤◌, ◌<◌, [], ◌∷◌, OnOk, OnErr, IfOk, IfErr, IsTrue, None, length, true};
+ghost use Rattle.std.specs.Prelude.{◌≡◌, ◌≤◌, ◌<◌, [], ◌∷◌, length, true};
 ghost use Rattle.legs.specs.Hull.{leg_boxes};
-ghost use Rattle.pagecache.specs.Cache as caches;
-ghost use Rattle.pagecache.specs.Cache.{payload_of, AsksOnce, IsNotAdded, KeepsPayloads};
+ghost use Rattle.pagecache.specs.Cache.{AddsPage};
 ghost use Rattle.tbnode.specs.Edits.{new_inner};
-ghost use Rattle.tbtree.specs.Faults.{MayRefuseWrite};
 ghost use Rattle.tbtree.specs.Nodes.{pages_of_cache, AnInner, Adds, Attaches, Covers, HasCover, HasEntry, HasLastLeaf, HasLeafRoom, HasRoom, Links, Pushes, Widens};
-ghost use Rattle.tbtree.specs.Passes.{Touches};
+ghost use Rattle.tbtree.specs.Passes.{Edits};
 ghost use Rattle.tbtree.specs.Payloads.{TakesLegs, are_of_one_leaf, leaf_of_legs};
 
 use crate::fault::TreeFault;
@@ -24,13 +22,10 @@ pub(crate) fn widen<S: PageStore>(
     entry: usize,
     bounds: &Box3,
 ) -> Result<u32, TreeFault>
-    ensures widens { IsTrue cache.old.store.is_faithful
-        → IfOk result (Widens leg_boxes (pages_of_cache cache.old) page level entry bounds.now
-        (pages_of_cache cache.new)) }
-    ensures only { IsTrue cache.old.store.is_faithful
-        → HasEntry (pages_of_cache cache.old) page level entry → IfErr result MayRefuseWrite }
-    ensures touches { Touches cache.old cache.new result }
-    ensures asked { cache.new.asked ≤ cache.old.asked + 1 }
+    ensures { Edits cache.old cache.new 1 result
+        (Widens leg_boxes (pages_of_cache cache.old) page level entry bounds.now
+        (pages_of_cache cache.new))
+        (HasEntry (pages_of_cache cache.old) page level entry) }
 {
     if page == 0 {
         return Err(TreeFault::Malformed(page));
@@ -54,14 +49,9 @@ pub(crate) fn grow<S: PageStore>(
     legs: &[Leg],
 ) -> Result<(), TreeFault>
     requires { most ≤ 50 }
-    ensures pushes { IsTrue cache.old.store.is_faithful
-        → OnOk result (Pushes (pages_of_cache cache.old) page legs.now
-        (pages_of_cache cache.new)) }
-    ensures only { IsTrue cache.old.store.is_faithful
-        → HasLeafRoom (pages_of_cache cache.old) page (λ leaf. TakesLegs most leaf legs.now)
-        → IfErr result MayRefuseWrite }
-    ensures touches { Touches cache.old cache.new result }
-    ensures asked { cache.new.asked ≤ cache.old.asked + 1 }
+    ensures { Edits cache.old cache.new 1 result
+        (λ _. Pushes (pages_of_cache cache.old) page legs.now (pages_of_cache cache.new))
+        (HasLeafRoom (pages_of_cache cache.old) page (λ leaf. TakesLegs most leaf legs.now)) }
 {
     if page == 0 {
         return Err(TreeFault::Malformed(page));
@@ -84,12 +74,9 @@ pub(crate) fn link<S: PageStore>(
     feature: u32,
     next: u32,
 ) -> Result<(), TreeFault>
-    ensures links { IsTrue cache.old.store.is_faithful
-        → OnOk result (Links (pages_of_cache cache.old) page next (pages_of_cache cache.new)) }
-    ensures only { IsTrue cache.old.store.is_faithful
-        → HasLastLeaf (pages_of_cache cache.old) page feature → IfErr result MayRefuseWrite }
-    ensures touches { Touches cache.old cache.new result }
-    ensures asked { cache.new.asked ≤ cache.old.asked + 1 }
+    ensures { Edits cache.old cache.new 1 result
+        (λ _. Links (pages_of_cache cache.old) page next (pages_of_cache cache.new))
+        (HasLastLeaf (pages_of_cache cache.old) page feature) }
 {
     if page == 0 {
         return Err(TreeFault::Malformed(page));
@@ -114,13 +101,10 @@ pub(crate) fn attach<S: PageStore>(
     entry: &Entry,
 ) -> Result<(), TreeFault>
     requires { most ≤ 72 }
-    ensures attaches { IsTrue cache.old.store.is_faithful
-        → OnOk result (Attaches (pages_of_cache cache.old) page level entry.now.child
-        entry.now.bounds (pages_of_cache cache.new)) }
-    ensures only { IsTrue cache.old.store.is_faithful
-        → HasRoom (pages_of_cache cache.old) page level most → IfErr result MayRefuseWrite }
-    ensures touches { Touches cache.old cache.new result }
-    ensures asked { cache.new.asked ≤ cache.old.asked + 1 }
+    ensures { Edits cache.old cache.new 1 result
+        (λ _. Attaches (pages_of_cache cache.old) page level entry.now.child entry.now.bounds
+        (pages_of_cache cache.new))
+        (HasRoom (pages_of_cache cache.old) page level most) }
 {
     if page == 0 {
         return Err(TreeFault::Malformed(page));
@@ -142,14 +126,7 @@ fn add_page<S: PageStore>(
     payload: Payload,
     changes: bool,
 ) -> Result<u32, CacheFault>
-    ensures adds { OnOk result (caches.Adds payload cache.old cache.new) }
-    ensures number { IfOk result (λ number. number ≡ cache.old.count) }
-    ensures none_before { (n : ℕ) → cache.old.count ≤ n → payload_of cache.old n ≡ None }
-    ensures length { OnOk result (cache.old.count ≡ cache.old.store.count
-        → cache.new.count ≡ cache.new.store.count) }
-    ensures refused { OnErr result (KeepsPayloads cache.old cache.new) }
-    ensures asks { AsksOnce cache.old cache.new }
-    ensures cause { IfErr result (λ fault. IsNotAdded fault cache.old cache.new) }
+    ensures { AddsPage payload cache.old cache.new result }
 {
     if changes {
         return cache.add_changed(payload);
@@ -166,14 +143,10 @@ pub(crate) fn add_leaf<S: PageStore>(
 ) -> Result<u32, TreeFault>
     requires some { 0 < length legs.now }
     requires few { length legs.now ≤ 50 }
-    ensures adds { IsTrue cache.old.store.is_faithful
-        → IfOk result (Adds (pages_of_cache cache.old) (leaf_of_legs previous legs.now)
-        (pages_of_cache cache.new)) }
-    ensures only { IsTrue cache.old.store.is_faithful
-        → are_of_one_leaf legs.now ≡ true → IfErr result MayRefuseWrite }
-    ensures number { IfOk result (λ page. page ≡ cache.old.count) }
-    ensures touches { Touches cache.old cache.new result }
-    ensures asked { cache.new.asked ≤ cache.old.asked + 1 }
+    ensures { Edits cache.old cache.new 1 result
+        (Adds (pages_of_cache cache.old) (leaf_of_legs previous legs.now)
+        (pages_of_cache cache.new))
+        (are_of_one_leaf legs.now ≡ true) }
 {
     let Some(payload) = leaf_of_legs(previous, legs) else {
         return Err(TreeFault::Malformed(previous));
@@ -189,13 +162,9 @@ pub(crate) fn add_inner<S: PageStore>(
     entry: &Entry,
 ) -> Result<u32, TreeFault>
     requires { 1 ≤ level }
-    ensures adds { IsTrue cache.old.store.is_faithful
-        → IfOk result (Adds (pages_of_cache cache.old) (new_inner level entry.now)
-        (pages_of_cache cache.new)) }
-    ensures fresh { (pages_of_cache cache.old).at cache.old.count ≡ None }
-    ensures only { IsTrue cache.old.store.is_faithful → IfErr result MayRefuseWrite }
-    ensures touches { Touches cache.old cache.new result }
-    ensures asked { cache.new.asked ≤ cache.old.asked + 1 }
+    ensures { Edits cache.old cache.new 1 result
+        (Adds (pages_of_cache cache.old) (new_inner level entry.now) (pages_of_cache cache.new))
+        (Unit {0}) }
 {
     let mut payload = Payload::zero(Kind::Inner);
     tbnode::init_inner(&mut payload, level, entry);
@@ -211,14 +180,11 @@ pub(crate) fn add_root<S: PageStore>(
     second: &Entry,
 ) -> Result<u32, TreeFault>
     requires { 1 ≤ level }
-    ensures adds { IsTrue cache.old.store.is_faithful
-        → IfOk result (Adds (pages_of_cache cache.old)
+    ensures { Edits cache.old cache.new 1 result
+        (Adds (pages_of_cache cache.old)
         (AnInner (record { level = level; entries = first.now ∷ second.now ∷ [] }))
-        (pages_of_cache cache.new)) }
-    ensures fresh { (pages_of_cache cache.old).at cache.old.count ≡ None }
-    ensures only { IsTrue cache.old.store.is_faithful → IfErr result MayRefuseWrite }
-    ensures touches { Touches cache.old cache.new result }
-    ensures asked { cache.new.asked ≤ cache.old.asked + 1 }
+        (pages_of_cache cache.new))
+        (Unit {0}) }
 {
     let mut payload = Payload::zero(Kind::Inner);
     tbnode::init_inner(&mut payload, level, first);
@@ -229,13 +195,10 @@ pub(crate) fn add_root<S: PageStore>(
 
 /// The least box that holds all that a page has; page 0 is none of a tree's.
 pub(crate) fn cover<S: PageStore>(cache: &mut PageCache<S>, page: u32) -> Result<Box3, TreeFault>
-    ensures covers { IsTrue cache.old.store.is_faithful
-        → IfOk result (λ bounds. Covers leg_boxes (pages_of_cache cache.old) page bounds
-        (pages_of_cache cache.new)) }
-    ensures only { IsTrue cache.old.store.is_faithful → 0 < page
-        → HasCover leg_boxes (pages_of_cache cache.old) page → IfErr result MayRefuseWrite }
-    ensures touches { Touches cache.old cache.new result }
-    ensures asked { cache.new.asked ≤ cache.old.asked + 1 }
+    ensures { Edits cache.old cache.new 1 result
+        (λ bounds. Covers leg_boxes (pages_of_cache cache.old) page bounds
+        (pages_of_cache cache.new))
+        ((0 < page) × HasCover leg_boxes (pages_of_cache cache.old) page) }
 {
     if page == 0 {
         return Err(TreeFault::Malformed(page));
