@@ -3,7 +3,7 @@ use Rattle.std.specs.Prelude.{ℕ, ◌≡◌, ◌≤◌, ◌+◌, ◌*◌, ◌-�
 use Rattle.legs.specs.Legs.{LegView}
 use Rattle.tbtree.specs.Faults.{RefusesWrite}
 use Rattle.tbtree.specs.Insert.{Inserts}
-use Rattle.tbtree.specs.Joining.{Joins, JoinsAll}
+use Rattle.tbtree.specs.Joining.{JoinsAll}
 use Rattle.tbtree.specs.Nodes.{pages_of_cache}
 use Rattle.tbtree.specs.Passes.{Passes, KeepsLength}
 use Rattle.tbtree.specs.declared.fault.TreeFault.{TreeFault}
@@ -19,9 +19,6 @@ pub record Puts (old new : IndexView) (leg : LegView)
   pub places : new.places ≡ set old.places leg.feature is
   pub inserts : IsTrue old.cache.store.is_faithful
       → Inserts (pages_of_cache old.cache) (pages_of_cache new.cache) old.tree new.tree
-      was is leg result
-  pub joins : IsTrue old.cache.store.is_faithful
-      → Joins (pages_of_cache old.cache) (pages_of_cache new.cache) old.tree new.tree
       was is leg result
   pub shape : new.tree.shape ≡ old.tree.shape
   pub passes : Passes old.cache new.cache

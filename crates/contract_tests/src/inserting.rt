@@ -1,6 +1,6 @@
 //! A leg that is put into a tree.
-ghost use Rattle.std.specs.Prelude.{◌≡◌, false, IsTrue};
-ghost use Rattle.tbtree.specs.Insert.{Inserts};
+ghost use Rattle.std.specs.Prelude.{◌≡◌, ◌∷◌, [], false, IsTrue};
+ghost use Rattle.tbtree.specs.Joining.{JoinsAll};
 ghost use Rattle.tbtree.specs.Nodes.{pages_of_cache};
 
 use legs::Leg;
@@ -17,9 +17,9 @@ pub fn insert<S: PageStore>(
     place: &mut Place,
     leg: Leg,
 ) -> Result<(), TreeFault>
-    ensures inserts { tree.old.spent ≡ false → IsTrue cache.old.store.is_faithful
-        → Inserts (pages_of_cache cache.old) (pages_of_cache cache.new) tree.old tree.new
-        place.old place.new leg result }
+    ensures joins { tree.old.spent ≡ false → IsTrue cache.old.store.is_faithful
+        → JoinsAll (pages_of_cache cache.old) (pages_of_cache cache.new) tree.old tree.new
+        place.old place.new (leg ∷ []) result }
 {
     tbtree::insert(tree, cache, place, leg)
 }

@@ -1,6 +1,8 @@
 use Rattle.std.proofs.Common.{ℕ, OnOk, ◌≡◌, ◌+◌, ◌-◌, ◌^◌, ◌<◌, ◌∙◌, min, ap, subst, sym, arith, length, Some, slice_get, set, map}
 use Rattle.std.proofs.lemmas.Option.{slice_get-get_or}
 use Rattle.legs.specs.Legs.{LegView}
+use Rattle.tbtree.specs.Nodes.{pages_of_cache}
+use Rattle.tbtree.proofs.InsertLemmas.{inserts_joined}
 use Rattle.boxsearch.specs.Index.{IndexView}
 use Rattle.boxsearch.specs.Putting.{Puts}
 use Rattle.boxsearch.proofs.ResultLemmas.{on_any, on_none}
@@ -18,22 +20,22 @@ put_makes g c legs counts =
     let feature : c.leg.inside.feature ≡ c.args.leg.feature = ap (λ (l : LegView). l.feature) c.leg.view_is in
     let count = ap (λ (v : IndexView). length v.places) c.self.view_is in
     let below = c.requires.feature in
+    let call = c.insert-result.ensures.call in
     let within : c.leg.inside.feature < length places = omega (arith, feature, count, below) in
     subst (λ old. Puts old new c.args.leg c.insert-result.result) c.self.view_is (record {
       was = c.index.result.now;
       is = c.insert-result.new.place;
       found = ap (slice_get places) (sym feature) ∙ slice_get-get_or places c.leg.inside.feature c.index.result.now within ∙ ap Some (sym c.index.ensures);
       places = ap (λ i. set places i c.insert-result.new.place) feature;
-      inserts = c.insert-result.ensures.inserts works;
-      joins = c.insert-result.ensures.joins works;
-      shape = c.insert-result.ensures.shape;
-      passes = c.insert-result.ensures.passes;
-      count = c.insert-result.ensures.length;
+      inserts = λ fa. inserts_joined (pages_of_cache c.self.inside.cache) (pages_of_cache c.insert-result.new.cache) c.self.inside.tree c.insert-result.new.tree c.index.result.now c.insert-result.new.place c.args.leg c.insert-result.result (call.joins works fa);
+      shape = call.shape;
+      passes = call.passes;
+      count = call.length;
       few = let a = c.if-prove.false in let b = c.count.ensures.value in omega (arith, a, b);
-      caused = c.insert-result.ensures.caused works;
+      caused = call.caused works;
       asked = c.insert-result.ensures.asked;
-      works = c.insert-result.ensures.works;
-      spent = c.insert-result.ensures.spent;
+      works = call.works;
+      spent = call.spent;
       legs = counts;
     })
 
