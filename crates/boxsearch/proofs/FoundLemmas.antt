@@ -9,9 +9,10 @@ use Rattle.legs.specs.Costs.{ShapeView, cost, leaves_of, search_cost}
 use Rattle.legs.specs.Hull.{leg_boxes}
 use Rattle.legs.specs.Index.{legs_in_box}
 use Rattle.legs.specs.Legs.{LegView}
-use Rattle.tbtree.specs.Descent.{pages_met, met_count, legs_met, Descends, IsInOrder}
+use Rattle.tbtree.specs.Descent.{pages_met, met_count, legs_met, IsInOrder}
 use Rattle.tbtree.specs.Nodes.{Pages}
 use Rattle.tbtree.specs.declared.tree.TbTree.{TbTree}
+use Rattle.tbtree.proofs.LawLemmas.{Descends}
 use Rattle.boxsearch.specs.Way.{meets, IsOnLevel, IsWay}
 
 -- what is said of an answer says another thing too

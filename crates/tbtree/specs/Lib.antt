@@ -9,6 +9,4 @@ pub mod Insert
 pub mod Order
 pub mod Joining
 pub mod Descent
-pub mod Bounds
 pub mod Turn
-pub mod Planting

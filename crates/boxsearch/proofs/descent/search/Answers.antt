@@ -3,10 +3,10 @@ use Rattle.std.proofs.lemmas.List.Sorted.{IsNonDecreasingBy-from_sort_by_key}
 use Rattle.std.proofs.lemmas.Result.{err_from_is_err_and}
 use Rattle.legs.specs.Hull.{leg_boxes}
 use Rattle.legs.specs.Legs.{LegView}
-use Rattle.tbtree.specs.Descent.{legs_met, Descends}
+use Rattle.tbtree.specs.Descent.{legs_met}
 use Rattle.tbtree.specs.Insert.{Stands}
 use Rattle.tbtree.specs.Nodes.{pages_of_cache}
-use Rattle.tbtree.proofs.LawLemmas.{descends}
+use Rattle.tbtree.proofs.LawLemmas.{Descends, descends}
 use Rattle.boxsearch.specs.Way.{meets}
 use Rattle.boxsearch.proofs.FoundLemmas.{way_of, none_found, none_asked, in_order, cost_is}
 use Rattle.boxsearch.proofs.PruningLemmas.{pruning}
