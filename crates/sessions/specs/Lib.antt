@@ -1,6 +1,4 @@
 pub mod Answers
-pub mod Causes
 pub mod Parts
 pub mod Reading
 pub mod Folder
-pub mod Texts

@@ -5,7 +5,6 @@ use Rattle.legs.specs.Index.{CanFollowInTurn}
 use Rattle.legs.specs.Law.{IsThere}
 use Rattle.legs.specs.Limits.{IsLimits}
 use Rattle.treecheck.specs.Checking.{AreTracksOf}
-use Rattle.std.specs.Prelude.{IfErr}
 use Rattle.legs.specs.Index.{MayRefuse}
 use Rattle.legs.specs.declared.index.IndexFault.{IndexFault}
 use Rattle.legs.specs.declared.index.IndexFault.TheVariants as index
@@ -19,8 +18,7 @@ use Rattle.trajdb.specs.Calls.{IsQuestionFault}
 use Rattle.trajdb.specs.Database.{catalogue_of}
 use Rattle.trajdb.specs.Faults.{run_fault_of}
 use Rattle.trajdb.specs.Lasting.{IsIdle}
-use Rattle.trajdb.specs.Checking.{KeepsLaw}
-use Rattle.trajdb.specs.Db.{DbView, HasPages, IsSoundDb}
+use Rattle.trajdb.specs.Db.{KeepsLaw, DbView, HasPages, IsSoundDb}
 use Rattle.trajdb.proofs.CheckLemmas.{counted, none_counted}
 
 no_names : (names : List (List ℕ)) → length names ≡ 0 → names ≡ []
@@ -150,8 +148,3 @@ has_pages_of db marked clean says = record {
   begun = λ e. marked (subst (λ b. SaysState b (payload_of db.index.cache 0)) e says);
   idle = λ e lives. clean;
 }
-
--- what holds of a database that is not failed
-pub while_alive : {A E : Type 0} (S P I F : Type 0) (r : Result A E) (Q : E → Type 0) → IfErr r (λ fault. S → P → I → Q fault) → IfErr r (λ fault. S → P → I → F → Q fault)
-while_alive S P I F (Ok x) Q h = tt
-while_alive S P I F (Err e) Q h = λ s p i f. h s p i

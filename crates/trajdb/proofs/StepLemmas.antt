@@ -42,10 +42,15 @@ module _ {S : Type 0} (step : S → S → List ℕ → List ℕ → Type 0) wher
       }
 
   -- the first k lines are those before the last of them, and that one
-  pub last_of : (lines : List (List ℕ)) (k : ℕ) → take (k - 1) lines ++ drop (k - 1) (take k lines) ≡ take k lines
+  last_of : (lines : List (List ℕ)) (k : ℕ) → take (k - 1) lines ++ drop (k - 1) (take k lines) ≡ take k lines
   last_of lines k =
       let front : take (k - 1) (take k lines) ≡ take (k - 1) lines = take-take (k - 1) k lines (omega arith) in
       ap (λ (l : List (List ℕ)). l ++ drop (k - 1) (take k lines)) (sym front) ∙ take-append-drop (k - 1) (take k lines)
+
+  pub cut_all : (sent sent' : Option (List ℕ)) (old new : S) (lines : List (List ℕ)) → (cut : CutsBy step sent sent' old new lines) → DoesAll step old new (take cut.k lines) (cut.before ++ cut.text)
+  cut_all sent sent' old new lines cut =
+      subst (λ (l : List (List ℕ)). DoesAll step old new l (cut.before ++ cut.text)) (last_of lines cut.k)
+      (does-append old cut.mid new (take (cut.k - 1) lines) (drop (cut.k - 1) (take cut.k lines)) cut.before cut.text cut.earlier cut.last)
 
   split_last : (old new : S) (lines : List (List ℕ)) (k : ℕ) (text : List ℕ) → DoesAll step old new (take k lines) text → IsSplit old new (take (k - 1) lines) (drop (k - 1) (take k lines)) text
   split_last old new lines k text h =

@@ -19,9 +19,8 @@ use Rattle.querylang.specs.declared.Command.{Command}
 use Rattle.querylang.specs.declared.LineCode.{LineCode}
 use Rattle.trajdb.specs.Answers.{AcceptsBy, IsAnswer, book_then, book_with, load_of, refusal_text}
 use Rattle.trajdb.specs.Calls.{QuestionAsks, Begins, BeginsOnly, HasLoad, IsAsked, IsLater, IsLoadFault, IsLoadStop, IsQuestionFault, IsRunStop, IsStopped, KeepsPages, LeavesBook, Loads, RisesWithin, lines_cost}
-use Rattle.trajdb.specs.Checking.{Reports}
+use Rattle.trajdb.specs.Db.{Reports, DbView, HasPages, IsSoundDb}
 use Rattle.trajdb.specs.Database.{CoreView, FailsBy, IsRefused, IsSound, IsTold, LoadGives, Becomes}
-use Rattle.trajdb.specs.Db.{DbView, HasPages, IsSoundDb}
 use Rattle.trajdb.specs.Faults.{IsNotOutput}
 use Rattle.trajdb.specs.Lasting.{HasBook, IsClosingFault, IsFaultless, IsIdle, IsSafe, IsSafeStore, IsUnfinishedAnswer}
 use Rattle.trajdb.specs.Run.{AcceptsSome, CutsBy, RunsBy, StopsAt, Stops, IsCut}
