@@ -76,26 +76,20 @@ err_of P r e is h = subst (λ k. IfErr k P) is h
 pub over_open : (new left : Store) (e : CatalogueFault) → IsSavingStop e → IsLeftOver new left → IsNotOver new left (Open e)
 over_open new left opening.Memory a l = l
 over_open new left opening.Store a l = l
-over_open new left (opening.Damaged page) a l = a
 over_open new left opening.StoreFull a l = l
-over_open new left opening.Unfinished a l = a
-over_open new left opening.Version a l = a
-over_open new left opening.Malformed a l = a
+over_open new left _ a l = a
 
 -- a store that is full, or that failed, in the closing
 pub closing_fault : (old after new left : Store) (db : DbView) (e : RunFault) → db.failed ≡ false → new.faults ≤ db.index.cache.store.faults → IsClosingFault db left e → IsOverFault old after new left (Run e)
-closing_fault old after new left db run.Memory lives l h = tt
 closing_fault old after new left db run.Store lives l h = omega (arith, clamps, l, h)
-closing_fault old after new left db (run.Damaged page) lives l h = tt
 closing_fault old after new left db run.StoreFull lives l h = h
 closing_fault old after new left db run.Failed lives l h = let wrong : true ≡ false = sym h ∙ lives in absurd cc
 closing_fault old after new left db run.Output lives l h = h
+closing_fault old after new left db _ lives l h = tt
 
 -- or not closed
 pub over_run : (new left : Store) (e : RunFault) → IsLoadFault e → (IsFaultless e → IsUnfinishedStore left) → IsNotOver new left (Run e)
 over_run new left run.Memory a u = inr (inl (u tt))
 over_run new left run.Store a u = tt
-over_run new left (run.Damaged page) a u = a
 over_run new left run.StoreFull a u = inr (inl (u tt))
-over_run new left run.Failed a u = a
-over_run new left run.Output a u = a
+over_run new left _ a u = a

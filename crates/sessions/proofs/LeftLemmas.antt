@@ -69,12 +69,8 @@ module _ {O : Type 0} (shown : O → OutputView) (old new : DbView) (files : Lis
   -- whatever is answered
   pub sends_front : (ran : Result (Unit {0}) RunFault) → OnOk ran Done → Called ran → IsSoundDb old → old.failed ≡ false → Front
   sends_front (Ok x) ok call sound lives = front_done (ok sound)
-  sends_front (Err run.Memory) ok call sound lives = let st = call.refused tt lives sound in front_stopped st.0 st.1
-  sends_front (Err run.Store) ok call sound lives = let st = call.refused tt lives sound in front_stopped st.0 st.1
-  sends_front (Err (run.Damaged page)) ok call sound lives = let st = call.refused tt lives sound in front_stopped st.0 st.1
-  sends_front (Err run.StoreFull) ok call sound lives = let st = call.refused tt lives sound in front_stopped st.0 st.1
-  sends_front (Err run.Failed) ok call sound lives = let st = call.refused tt lives sound in front_stopped st.0 st.1
   sends_front (Err run.Output) ok call sound lives = front_cut (call.output refl sound).0
+  sends_front (Err _) ok call sound lives = let st = call.refused tt lives sound in front_stopped st.0 st.1
 
   module _ (s : Store) (store : KeepsStore old new) where
     closes : (r : Result (Unit {0}) RunFault) → CloseCall new s r → new.failed ≡ false → IsSoundDb new → HasPages new → IsIdle new → ClosesWith new.index.tree.shape new.limits new.book r s
@@ -98,7 +94,7 @@ module _ {O : Type 0} (shown : O → OutputView) (old new : DbView) (files : Lis
     answered_both (Ok x) (Ok y) ok call close = λ was pages idle. record {
       after = new.book;
       run = ok was;
-      holds = closed_with (Ok y) close call.later call.pages new.book call.lives was (call.sound was) pages idle refl;
+      holds = closed_with (Ok y) close call.later call.pages new.book call.lives was (call.kept call.lives was) pages idle refl;
     }
 
     module _ (closed : Result (Unit {0}) RunFault) (close : CloseCall new s closed) (was : IsSoundDb old) (pages : HasPages old) (idle : IsIdle old) (alive : old.failed ≡ false) where
@@ -137,7 +133,7 @@ module _ {O : Type 0} (shown : O → OutputView) (old new : DbView) (files : Lis
         stopped = tt;
         full = λ o. cc o;
         closed_full = full;
-        left = left_with (Ok tt) call (length lines) new.book (subst (λ x. BeginsIn files old new x) (sym (take_all (length lines) lines (omega arith))) (call.only was)) call.lives (call.sound was) refl;
+        left = left_with (Ok tt) call (length lines) new.book (subst (λ x. BeginsIn files old new x) (sym (take_all (length lines) lines (omega arith))) (call.only was)) call.lives (call.kept call.lives was) refl;
         lasts = lasts (Ok tt) call;
       }
 
@@ -172,7 +168,7 @@ module _ {O : Type 0} (shown : O → OutputView) (old new : DbView) (files : Lis
 
         by_state : (b : Bool) → new.failed ≡ b → Left (Err e) k st.before
         by_state true is = inr (fails_at is)
-        by_state false is = left_with (Err e) call k st.before (begun is) is (call.kept inside is was) (st.book is)
+        by_state false is = left_with (Err e) call k st.before (begun is) is (call.kept is was) (st.book is)
 
       -- its output failed
       cut_at : (call : Called (Err run.Output)) → Ended (Err run.Output)
@@ -188,18 +184,16 @@ module _ {O : Type 0} (shown : O → OutputView) (old new : DbView) (files : Lis
             stopped = λ n. absurd n;
             full = λ o. cc o;
             closed_full = full;
-            left = left_with (Err run.Output) call c.0.k new.book c.1 (call.cut_lives refl) (call.cut_sound refl was) refl;
+            left = left_with (Err run.Output) call c.0.k new.book c.1 (call.cut_lives refl) (call.kept (call.cut_lives refl) was) refl;
             lasts = lasts (Err run.Output) call;
           }
 
       -- it is refused
       refused : (e : RunFault) → Called (Err e) → Ended (Err e)
-      refused run.Memory call = let st = call.refused tt alive was in stopped_at run.Memory tt tt call st.0 st.1 st.3
-      refused run.Store call = let st = call.refused tt alive was in stopped_at run.Store tt tt call st.0 st.1 st.3
       refused (run.Damaged page) call = absurd (call.stopped was alive)
-      refused run.StoreFull call = let st = call.refused tt alive was in stopped_at run.StoreFull tt tt call st.0 st.1 st.3
       refused run.Failed call = absurd (call.stopped was alive)
       refused run.Output call = cut_at call
+      refused e call = let st = call.refused tt alive was in stopped_at e tt tt call st.0 st.1 st.3
 
       pub ended : (ran : Result (Unit {0}) RunFault) → OnOk ran Done → Called ran → Ended ran
       ended (Ok x) ok call = all_done (ok was) call

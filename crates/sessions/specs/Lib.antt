@@ -1,4 +1,3 @@
 pub mod Answers
 pub mod Parts
-pub mod Reading
 pub mod Folder

@@ -80,7 +80,6 @@ counts_together f n whole parts text own are says own_says =
 answer_together : (f : List ℕ → ℕ) (n : ℕ) (whole : Book) (parts : ℕ → Book) (limits : LimitsView) (own_limits : ℕ → LimitsView) (files : List (List ℕ × List ℕ)) (own_files : ℕ → List (List ℕ × List ℕ)) (command : Command) (text : List ℕ) (own : ℕ → List ℕ) → ArePartsOf f n whole parts
     → IsAnswer limits files whole command text → ((k : ℕ) → k < n → IsAnswer (own_limits k) (own_files k) (parts k) command (own k))
     → AnswerTogether f n whole.head command text own
-answer_together f n whole parts limits own_limits files own_files (Load name) text own are says own_says = tt
 answer_together f n whole parts limits own_limits files own_files Count text own are says own_says = counts_together f n whole parts text own are says own_says
 answer_together f n whole parts limits own_limits files own_files (Box rect period) text own are says own_says = box_together f n whole parts rect period text own are says own_says
 answer_together f n whole parts limits own_limits files own_files (Legs predicate rect period) text own are says own_says = legs_together f n whole parts predicate rect period text own are says own_says
@@ -88,7 +87,7 @@ answer_together f n whole parts limits own_limits files own_files (Features pred
 answer_together f n whole parts limits own_limits files own_files (Trajectory name) text own are says own_says =
     same_legs f n whole parts (track_of (feature_named whole.names name) whole.legs) (λ k. track_of (feature_named (parts k).names name) (parts k).legs) text own are says own_says
     (λ k less. trajectory_law f k whole (parts k) name (are.each k less) are.whole_told (are.each_told k less))
-answer_together f n whole parts limits own_limits files own_files Write text own are says own_says = tt
+answer_together f n whole parts limits own_limits files own_files _ text own are says own_says = tt
 
 said_together : (f : List ℕ → ℕ) (n : ℕ) (whole : Book) (parts : ℕ → Book) (limits : LimitsView) (own_limits : ℕ → LimitsView) (files : List (List ℕ × List ℕ)) (own_files : ℕ → List (List ℕ × List ℕ)) (said : Result (Option Command) LineCode) (text : List ℕ) (own : ℕ → List ℕ) → ArePartsOf f n whole parts
     → IsSaid limits files whole said text → ((k : ℕ) → k < n → IsSaid (own_limits k) (own_files k) (parts k) said (own k))

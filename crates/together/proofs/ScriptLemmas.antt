@@ -14,7 +14,7 @@ use Rattle.parts.specs.Names.{part_of}
 use Rattle.querylang.specs.Line.{line_command}
 use Rattle.querylang.specs.declared.LineCode.{LineCode}
 use Rattle.querylang.specs.declared.Command.{Command}
-use Rattle.querylang.specs.declared.Command.TheVariants.{Load, Count, Box, Legs, Features, Trajectory, Write}
+use Rattle.querylang.specs.declared.Command.TheVariants.{Load}
 use Rattle.trajdb.specs.Answers.{AcceptsLine, AcceptsNamed, AcceptsSaid, IsLineText, book_by, book_with, counts_of, counts_or, joined_counts, line_book, load_of, named_book, said_book}
 use Rattle.trajdb.specs.Script.{file_named}
 use Rattle.trajdb.specs.Run.{AnswersLine, DoesAll}
@@ -112,14 +112,7 @@ module _ (n : ℕ) (limits : LimitsView) (own_limits : ℕ → LimitsView) (whol
         ⊎ ((AcceptsSaid limits files whole said → ⊥) × ((k : ℕ) → k < n → AcceptsSaid (own_limits k) (own_files k) (parts k) said → ⊥))
         → ArePartsOf (part_of n) n (said_book limits files whole said) (λ k. said_book (own_limits k) (own_files k) (parts k) said)
     said_keeps (Ok (Some (Load name))) agree = load_keeps name (file_named files name) refl agree
-    said_keeps (Ok (Some Count)) agree = are
-    said_keeps (Ok (Some (Box rect period))) agree = are
-    said_keeps (Ok (Some (Legs predicate rect period))) agree = are
-    said_keeps (Ok (Some (Features predicate rect period))) agree = are
-    said_keeps (Ok (Some (Trajectory name))) agree = are
-    said_keeps (Ok (Some Write)) agree = are
-    said_keeps (Ok None) agree = are
-    said_keeps (Err code) agree = are
+    said_keeps _ agree = are
 
     line_keeps : (line : List ℕ) → AllOrNone n limits own_limits files own_files whole parts line → ArePartsOf (part_of n) n (line_book limits files whole line) (λ k. line_book (own_limits k) (own_files k) (parts k) line)
     unfolding AcceptsLine line_book

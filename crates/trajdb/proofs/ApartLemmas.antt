@@ -40,7 +40,7 @@ run-append step a b c old mid new xs ys first last = record {
 pub apart_is_run : {O : Type 0} (shown : O → OutputView) (files : Named) (out out' : O) (old new : DbView) (lines others : List (List ℕ)) → RunsApart shown files out out' old new lines others
     → IsSoundDb old → HasPages old → IsIdle old → Runs files (shown out).contents (shown out').contents old new (lines ++ others)
 apart_is_run shown files out out' old new lines others apart sound pages idle =
-    let closed = apart.run.sound sound in
+    let closed = apart.run.kept apart.run.lives sound in
     let rests = apart.run.pages.pages sound.index.faithful pages in
     let holds = apart.closes.holds closed rests (apart.keeps.rests idle) in
     let faithful = apart.closes.keeps.faithful ∙ closed.index.faithful in

@@ -10,7 +10,7 @@ use Rattle.legs.specs.Costs.{ShapeView}
 use Rattle.legs.specs.declared.listed.Listed.{Ghosts}
 use Rattle.querylang.specs.Line.{line_command}
 use Rattle.querylang.specs.declared.Command.{Command}
-use Rattle.querylang.specs.declared.Command.TheVariants.{Load, Count, Box, Legs, Features, Trajectory, Write}
+use Rattle.querylang.specs.declared.Command.TheVariants.{Load, Count, Features}
 use Rattle.querylang.specs.declared.LineCode.{LineCode}
 use Rattle.trajdb.specs.Answers.{AcceptsLine, AcceptsSaid, IsAnswer, IsLineText, IsSaid, line_book, said_book}
 use Rattle.trajdb.specs.Calls.{AsksFor, Begins, BeginsOnly, HasLoad, IsLater, IsRunStop, IsStopped, KeepsPages, LeavesBook, Loads, LoadsBy, LoadsIn, RisesWithin, Speaks, command_cost, lines_cost, said_cost}
@@ -35,40 +35,23 @@ is_there (Some x) = inl refl
 
 loads_or : (files : Named) (command : Command) → Loads files command ⊎ (Loads files command → ⊥)
 loads_or files (Load name) = is_there (file_named files name)
-loads_or files Count = inr (λ l. l)
-loads_or files (Box rect period) = inr (λ l. l)
-loads_or files (Legs predicate rect period) = inr (λ l. l)
-loads_or files (Features predicate rect period) = inr (λ l. l)
-loads_or files (Trajectory name) = inr (λ l. l)
-loads_or files Write = inr (λ l. l)
+loads_or files _ = inr (λ l. l)
 
 -- a command that is no `load` loads no file, and asks for no more than it costs
 not_loads : (files : Named) (command : Command) → ((name : List ℕ) → command ≡ Load name → ⊥) → Loads files command → ⊥
 not_loads files (Load name) none l = none name refl
-not_loads files Count none l = l
-not_loads files (Box rect period) none l = l
-not_loads files (Legs predicate rect period) none l = l
-not_loads files (Features predicate rect period) none l = l
-not_loads files (Trajectory name) none l = l
-not_loads files Write none l = l
+not_loads files _ none l = l
 
 costs : (book : Book) (plan : Option ShapeView) (command : Command) (old new : ℕ) → AsksFor book plan command old new → ((name : List ℕ) → command ≡ Load name → ⊥) → RisesWithin old new (command_cost book plan command)
 costs book plan (Load name) old new h none = absurd (none name refl)
 costs book plan Count old new h none = λ small. omega (arith, h)
-costs book plan (Box rect period) old new h none = λ small. let e = h small in omega (arith, e)
-costs book plan (Legs predicate rect period) old new h none = λ small. let e = h small in omega (arith, e)
 costs book plan (Features predicate rect period) old new h none = λ small. h
-costs book plan (Trajectory name) old new h none = λ small. let e = h small in omega (arith, e)
-costs book plan Write old new h none = λ small. let e = h small in omega (arith, e)
+costs book plan _ old new h none = λ small. let e = h small in omega (arith, e)
 
 -- a fault that is caused is not the output's
 pub of_store : {I : Type 0} (g : Ghosts I) (old new : CoreView I) (fault : RunFault) → IsStopped g old new fault → IsNotOutput fault
-of_store g old new Memory h = tt
-of_store g old new Store h = tt
-of_store g old new (Damaged page) h = tt
-of_store g old new StoreFull h = tt
-of_store g old new Failed h = tt
 of_store g old new Output h = h.store
+of_store g old new _ h = tt
 
 -- a fault inside is not the output's
 inside_not : (fault : RunFault) → IsNotOutput fault → fault ≡ Output → ⊥
@@ -239,19 +222,17 @@ module _ {I : Type 0} (g : Ghosts I) (files : Named) where
     run_done run flushed =
         let left = left_all old new lines run.text run.does in
         record {
-          sound = λ s. (left.sound old.limits refl s).sound;
+          kept = λ _ s. (left.sound old.limits refl s).sound;
           lives = left.lives alive;
           says = run;
           asks = left.asks;
           says_cut = λ is. absurd cc;
           output = λ is. absurd cc;
-          cut_sound = λ is. absurd cc;
           cut_lives = λ is. absurd cc;
           output_caused = λ is. absurd cc;
           flushed = flushed;
           flushed_before = tt;
           refused = tt;
-          kept = tt;
           stops = tt;
           full = λ is. absurd cc;
           stopped = tt;
@@ -260,7 +241,6 @@ module _ {I : Type 0} (g : Ghosts I) (files : Named) where
           only = λ s. (left.sound old.limits refl s).begins.0;
           pages = left.pages alive;
           was_failed = λ f. absurd (clash old.failed f alive);
-          was_failed_output = λ f. absurd (clash old.failed f alive);
         }
 
     module _ (cut : CutsBy (DoesLine g files) (shown out).contents (shown out').contents old new lines) where
@@ -289,19 +269,17 @@ module _ {I : Type 0} (g : Ghosts I) (files : Named) where
 
       pub run_cut : HasRefused (shown out) (shown out') → RunCall g shown files out out' old new lines (Err Output)
       run_cut refused = record {
-        sound = tt;
+        kept = λ _ s. (cut_left.sound old.limits refl s).sound;
         lives = tt;
         says = tt;
         asks = tt;
         says_cut = λ is. cut;
         output = λ is s. cut_of s;
-        cut_sound = λ is s. (cut_left.sound old.limits refl s).sound;
         cut_lives = λ is. cut_left.lives alive;
         output_caused = λ is. refused;
         flushed = tt;
         flushed_before = λ inside. absurd inside;
         refused = λ inside. absurd inside;
-        kept = λ inside. absurd inside;
         stops = λ inside. absurd inside;
         full = λ is. absurd cc;
         stopped = tt;
@@ -310,7 +288,6 @@ module _ {I : Type 0} (g : Ghosts I) (files : Named) where
         only = λ s begun. elim ((cut_left.sound old.limits refl s).begins.0 begun) [ inl o ↦ inl o | inr h ↦ inr (accepts_of_take old.limits files old.book cut.k lines h) ];
         pages = cut_left.pages alive;
         was_failed = λ f. absurd (clash old.failed f alive);
-        was_failed_output = λ f. absurd (clash old.failed f alive);
       }
 
   -- a line was not answered, and those before it were
@@ -337,12 +314,11 @@ module _ {I : Type 0} (g : Ghosts I) (files : Named) where
 
     -- why the run stopped
     run_stop : (f : RunFault) → IsStopped g mid new f → IsRunStop g old new f
-    run_stop Memory h = tt
     run_stop Store h = let f = before.later.index.faults in let r = h.store in omega (arith, f, r)
     run_stop (Damaged page) h = λ s l. h.sound (sound_mid s).sound (before.lives alive)
     run_stop StoreFull h = h.store
     run_stop Failed h = λ s l. h.sound (sound_mid s).sound (before.lives alive)
-    run_stop Output h = tt
+    run_stop _ h = tt
 
     -- the line may have begun it
     begun_by : IsSound g old → BeginsIn files old new (take (k + 1) lines)
@@ -377,19 +353,17 @@ module _ {I : Type 0} (g : Ghosts I) (files : Named) where
     run_stopped keeps flushes =
         let inside = of_store g mid new fault by_line.stopped in
         record {
-          sound = tt;
+          kept = λ lives s. (by_line.kept lives).sound (sound_mid s).sound;
           lives = tt;
           says = tt;
           asks = tt;
           says_cut = λ is. absurd (inside_not fault inside cc);
           output = λ is. absurd (inside_not fault inside cc);
-          cut_sound = λ is. absurd (inside_not fault inside cc);
           cut_lives = λ is. absurd (inside_not fault inside cc);
           output_caused = λ is. absurd (inside_not fault inside cc);
           flushed = tt;
           flushed_before = λ _ l. flushes;
           refused = λ _ l s. stop_of keeps s;
-          kept = λ _ lives s. (by_line.kept lives).sound (sound_mid s).sound;
           stops = λ _ l. (k, nth.0, fails_there);
           full = λ is. by_line.full cc;
           stopped = run_stop fault by_line.stopped;
@@ -398,7 +372,6 @@ module _ {I : Type 0} (g : Ghosts I) (files : Named) where
           only = λ s begun. elim (begun_by s begun) [ inl o ↦ inl o | inr h ↦ inr (accepts_of_take old.limits files old.book (k + 1) lines h) ];
           pages = keeps-trans g old mid new (before.lives alive) before.later.index.faithful (before.pages alive) by_line.pages;
           was_failed = λ f. absurd (clash old.failed f alive);
-          was_failed_output = λ f. absurd (clash old.failed f alive);
         }
 
   -- a command that is called for a line

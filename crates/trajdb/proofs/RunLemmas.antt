@@ -1,9 +1,10 @@
 -- Runs over lines, one after another.
-use Rattle.std.proofs.Common.{ℕ, zero, suc, ◌+◌, ◌≡◌, ◌∙◌, ◌++◌, ◌∷◌, [], ap, sym, subst, refl, List, length, take, drop, map, arith, true, eqb, get_or, ◌<◌, inl, inr}
-use Rattle.std.specs.Prelude.{◌⊎◌}
+use Rattle.std.proofs.Common.{ℕ, zero, suc, ◌+◌, ◌≡◌, ◌∙◌, ◌++◌, ◌∷◌, [], ap, sym, subst, refl, List, length, take, drop, map, arith, true, eqb, get_or, ◌<◌, inl, inr, Result, Ok, Err}
+use Rattle.std.specs.Prelude.{◌⊎◌, IsTrue, OnErr, OnOk}
 use Rattle.std.proofs.lemmas.Bool.Decides.{nat_tests}
 use Rattle.std.proofs.lemmas.List.{append-nil, take-append-drop}
 use Rattle.legs.specs.Limits.{LimitsView}
+use Rattle.outputs.specs.Output.{HasRefused, IsFlushed, OutputView}
 use Rattle.legs.specs.Book.{Book}
 use Rattle.trajdb.specs.Script.{lines_of, pieces_of, without_return}
 use Rattle.trajdb.specs.Answers.{AcceptsLine, line_book}
@@ -46,6 +47,11 @@ all_taken lines k e = sym (append-nil (take k lines)) ∙ ap (λ l. take k lines
 pub nil_from_length : {X : Type 0} (xs : List X) → eqb (length xs) 0 ≡ true → xs ≡ []
 nil_from_length [] e = refl
 nil_from_length (x ∷ xs) e = absurd (grind (arith, nat_tests))
+
+-- an output was flushed, or refused it
+pub flushed_or : {T E : Type 0} (r : Result T E) (a b : OutputView) → OnOk r (IsFlushed a b) → OnErr r (HasRefused a b) → IsTrue b.is_flushed ⊎ HasRefused a b
+flushed_or (Ok x) a b f h = inl f.flushed
+flushed_or (Err e) a b f h = inr h
 
 -- a line is accepted behind others
 pub accepts_last : (limits : LimitsView) (files : Named) (book after : Book) (xs : List (List ℕ)) (y text : List ℕ) → DoesAll (AnswersLine limits files) book after xs text → AcceptsSome limits files book xs ⊎ AcceptsLine limits files after y

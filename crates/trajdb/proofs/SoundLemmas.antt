@@ -116,17 +116,12 @@ module _ (db : DbView) (names : db.tracks.names ≡ db.book.names) (legs : conte
 pub question_fault : (fault : IndexFault) → MayRefuse fault → IsQuestionFault (run_fault_of fault)
 question_fault index.Memory h = tt
 question_fault index.Store h = tt
-question_fault (index.Damaged page) h = h
-question_fault index.StoreFull h = h
-question_fault index.Spent h = h
+question_fault _ h = h
 
 -- only an index that is spent fails a call
 pub failed_spent : (fault : IndexFault) → run_fault_of fault ≡ Failed → fault ≡ index.Spent
-failed_spent index.Memory h = cc
-failed_spent index.Store h = cc
-failed_spent (index.Damaged page) h = cc
-failed_spent index.StoreFull h = cc
 failed_spent index.Spent h = refl
+failed_spent _ h = cc
 
 -- what page 0 of a sound database says
 pub says_of : (db : DbView)

@@ -25,17 +25,14 @@ use Rattle.trajdb.specs.Faults.{run_fault_of}
 use Rattle.trajdb.specs.Telling.{AreLive, AreToldOf, DeniesLegs, DeniesNamed, DeniesSome, MakingCall, Names, PicksLive, QuestionCall}
 use Rattle.trajdb.proofs.FaultLemmas.{text_refused}
 use Rattle.trajdb.specs.declared.RunFault.{RunFault}
-use Rattle.trajdb.specs.declared.RunFault.TheVariants.{Memory, Store, Damaged, StoreFull, Failed, Output}
+use Rattle.trajdb.specs.declared.RunFault.TheVariants.{Damaged, Failed}
 
 -- what names a page names more
 names_more : {I : Type 0} (g : Ghosts I) (old now : CoreView I) (P Q : ℕ → Type 0) (fault : RunFault) → ((page : ℕ) → P page → Q page) → ((now.failed ≡ true) ⊎ (g.is_spent now.index ≡ true) → (old.failed ≡ true) ⊎ (g.is_spent old.index ≡ true))
     → Names g now P fault → Names g old Q fault
-names_more g old now P Q Memory more failed h = tt
-names_more g old now P Q Store more failed h = tt
 names_more g old now P Q (Damaged page) more failed h = more page h
-names_more g old now P Q StoreFull more failed h = tt
 names_more g old now P Q Failed more failed h = failed h
-names_more g old now P Q Output more failed h = tt
+names_more g old now P Q _ more failed h = tt
 
 module _ {I : Type 0} (g : Ghosts I) (core : CoreView I) where
   -- a page that the index denies is one that is named of the legs that are shown
@@ -44,12 +41,9 @@ module _ {I : Type 0} (g : Ghosts I) (core : CoreView I) where
 
   -- a text was not made, of what is there where P holds
   text_names : (P : Type 0) (Q : ℕ → Type 0) (fault : RunFault) → IsText P fault → ((page : ℕ) → page ≡ 0 → Q page) → Names g core Q fault
-  text_names P Q Memory text zero = tt
-  text_names P Q Store text zero = tt
   text_names P Q (Damaged page) text zero = zero page text.0
-  text_names P Q StoreFull text zero = tt
   text_names P Q Failed text zero = absurd text
-  text_names P Q Output text zero = tt
+  text_names P Q _ text zero = tt
 
   -- of legs
   pub legs_names : (P : Type 0) (question : Question) (fault : RunFault) → IsText P fault → Names g core (DeniesLegs g core question) fault
@@ -131,11 +125,9 @@ told_none g core o legs e h = subst (λ o. AreToldOf g core o legs) (sym e) h
 -- a page that the index denies is one that is named
 pub denied_of : {I : Type 0} (g : Ghosts I) (core : CoreView I) (question : Question) (Q : ℕ → Type 0) (fault : IndexFault) → ((page : ℕ) → g.denies core.index question page → Q page) → Denies g core.index question fault
     → Names g core Q (run_fault_of fault)
-denied_of g core question Q index.Memory more h = tt
-denied_of g core question Q index.Store more h = tt
 denied_of g core question Q (index.Damaged page) more h = more page h
-denied_of g core question Q index.StoreFull more h = tt
 denied_of g core question Q index.Spent more h = inr h
+denied_of g core question Q _ more h = tt
 
 -- what is so is so where there is an answer
 where_ok : {T E : Type 0} (r : Result T E) (P : Type 0) → P → OnOk r P

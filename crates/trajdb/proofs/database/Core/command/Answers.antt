@@ -2,6 +2,9 @@ use Rattle.std.proofs.Common.{rules}
 use Rattle.trajdb.proofs.PageLemmas.{keeps_leaves}
 use Rattle.trajdb.proofs.database.Core.command.Goals as goal
 
+pub returns-in-Load : goal.returns-in-Load
+returns-in-Load g c = rw (c.in-Load.is, ← c.as_str.ensures) c.load_text.ensures
+
 pub returns-in-Features : goal.returns-in-Features
 returns-in-Features g c = rw (c.in-Features.is) (record {
   text = c.features_text.ensures.found;
