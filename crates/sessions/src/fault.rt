@@ -1,4 +1,6 @@
 //! Why the program failed.
+ghost use Rattle.std.specs.Prelude.{◌≡◌};
+
 use crate::cause::Cause;
 use crate::rects_fault::{RectsFault, rects_text};
 use querylang::LineCode;

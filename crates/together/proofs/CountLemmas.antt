@@ -8,6 +8,7 @@ use Rattle.std.proofs.lemmas.List.{length-map}
 use Rattle.std.proofs.lemmas.List.Sums.{sum_by-cons}
 use Rattle.std.proofs.lemmas.List.Elements.{All-head, All-tail}
 use Rattle.writer.specs.Entries.{NamedLegView}
+use Rattle.legs.specs.Book.{Book}
 use Rattle.together.specs.Parts.{ArePartsOf, own_legs, own_names}
 use Rattle.together.specs.Told.{all_told, told_leg}
 use Rattle.together.proofs.FeatureLemmas.{range_within}

@@ -6,7 +6,7 @@ use Rattle.std.proofs.lemmas.List.{length-append, length-map, map-append}
 use Rattle.mfcsv.specs.Views.{RecordView}
 use Rattle.mfcsv.specs.declared.File.{File}
 use Rattle.legs.specs.Legs.{LegView}
-use Rattle.legs.specs.Book.{Book, book_after, join_faults_of, has_join_fault, head_faults, head_with, is_before, joined, name_end, record_faults, record_legs, with_file, with_record, with_records}
+use Rattle.legs.specs.Book.{Book, book_after, join_faults_of, has_join_fault, head_faults, head_with, is_before, joined, name_end, record_faults, record_legs, with_file, with_record, with_records, file_faults}
 use Rattle.legs.specs.Limits.{LimitsView}
 use Rattle.legs.specs.declared.joining.JoinCode.{JoinCode}
 use Rattle.legs.specs.declared.joining.JoinCode.TheVariants.{F18, F19, F20}

@@ -9,13 +9,13 @@ use Rattle.timebase.specs.Period.{PeriodView}
 use Rattle.legs.specs.Legs.{LegView}
 use Rattle.legs.specs.Boxes.{RectView}
 use Rattle.legs.specs.Index.{legs_of}
-use Rattle.legs.specs.Book.{Book}
+use Rattle.legs.specs.Book.{Book, feature_named}
 use Rattle.legs.proofs.NameLemmas.{text_same}
 use Rattle.predicates.specs.declared.Predicate.{Predicate}
 use Rattle.predicates.specs.Predicates.{Holds}
 use Rattle.writer.specs.Entries.{NamedLegView}
 use Rattle.trajdb.specs.Picks.{Picks}
-use Rattle.trajdb.specs.Answers.{HoldsOfFeature, feature_name}
+use Rattle.trajdb.specs.Answers.{HoldsOfFeature, PicksFeatures, feature_name, track_of}
 use Rattle.together.specs.Parts.{IsPartOf, IsTold, is_in, own_legs, own_names}
 use Rattle.together.specs.Told.{all_told, bare, told}
 use Rattle.together.proofs.ListLemmas.{picks-agree, picks-filter, picks-map, picks-same}

@@ -8,14 +8,16 @@ use Rattle.std.proofs.lemmas.List.{length-append, length-map}
 use Rattle.std.proofs.lemmas.List.FromFn.{length-range_with_len}
 use Rattle.std.proofs.lemmas.List.Sums.{sum_by-cons}
 use Rattle.mfcsv.specs.Views.{RecordView, leg_count}
-use Rattle.legs.specs.Book.{Book, empty_book, legs_or_fault, leg_added, record_legs, records_legs, with_record, with_records}
+use Rattle.legs.specs.Book.{Book, empty_book, legs_or_fault, leg_added, record_legs, records_legs, with_record, with_records, joined}
 use Rattle.legs.specs.Counting.{names_after}
 use Rattle.legs.specs.Legs.{LegView}
 use Rattle.legs.specs.declared.joining.JoinCode.{JoinCode}
 use Rattle.legs.proofs.RecordLemmas.{with_record-names}
+use Rattle.legs.specs.Limits.{LimitsView}
+use Rattle.mfcsv.specs.declared.File.{File}
+use Rattle.trajdb.specs.Answers.{counts_of}
 use Rattle.together.specs.Joining.{IsSumOf}
 use Rattle.together.specs.Parts.{ArePartsOf, IsTold, file_part, own_names, own_records}
-use Rattle.together.specs.Told.{told}
 use Rattle.together.proofs.CountLemmas.{sum-agree, sum-plus, sum_parts}
 use Rattle.together.proofs.FeatureLemmas.{range_within}
 use Rattle.together.proofs.LateLemmas.{part_law}
