@@ -8,9 +8,9 @@ use Rattle.std.proofs.lemmas.List.{length-map}
 use Rattle.std.proofs.lemmas.List.Sums.{sum_by-cons}
 use Rattle.std.proofs.lemmas.List.Elements.{All-head, All-tail}
 use Rattle.writer.specs.Entries.{NamedLegView}
+use Rattle.legs.specs.Book.{Book}
+use Rattle.together.specs.Parts.{ArePartsOf, own_legs, own_names}
 use Rattle.together.specs.Told.{all_told, told_leg}
-use Rattle.together.specs.Parts.{own_legs, own_names}
-use Rattle.together.specs.Joining.{CountLaw}
 use Rattle.together.proofs.FeatureLemmas.{range_within}
 
 pub sum-agree : (L : ℕ → Type 0) (u v : ℕ → ℕ) → ((k : ℕ) → L k → u k ≡ v k) → (ks : List ℕ) → All L ks → sum_by u ks ≡ sum_by v ks
@@ -72,7 +72,7 @@ sum_parts g n within (x ∷ xs) =
     (λ k h. longer (g x == k) x (filter (λ y. g y == k) xs)) (range_with_len 0 n) (range_within n)
     ∙ both ∙ omega (arith, more, here)
 
-pub count_law : CountLaw
+pub count_law : (f : List ℕ → ℕ) (n : ℕ) (whole : Book) (parts : ℕ → Book) → ArePartsOf f n whole parts → (length whole.legs ≡ sum_by (λ k. length (parts k).legs) (range_with_len 0 n)) × (length whole.names ≡ sum_by (λ k. length (parts k).names) (range_with_len 0 n))
 count_law f n whole parts are = (
   sym (sum-agree (λ k. k < n) (λ k. length (parts k).legs) (λ k. length (own_legs f k (all_told whole)))
       (λ k h. sym (length-map (parts k).legs (told_leg (parts k))) ∙ ap length (are.each k h).legs) (range_with_len 0 n) (range_within n)

@@ -6,7 +6,7 @@ use Rattle.std.proofs.lemmas.List.{length-append, length-map, map-append}
 use Rattle.mfcsv.specs.Views.{RecordView}
 use Rattle.mfcsv.specs.declared.File.{File}
 use Rattle.legs.specs.Legs.{LegView}
-use Rattle.legs.specs.Book.{Book, book_after, join_faults_of, has_join_fault, head_faults, head_with, is_before, joined, name_end, record_faults, record_legs, with_file, with_record, with_records}
+use Rattle.legs.specs.Book.{Book, book_after, join_faults_of, has_join_fault, head_faults, head_with, is_before, joined, name_end, record_faults, record_legs, with_file, with_record, with_records, file_faults}
 use Rattle.legs.specs.Limits.{LimitsView}
 use Rattle.legs.specs.declared.joining.JoinCode.{JoinCode}
 use Rattle.legs.specs.declared.joining.JoinCode.TheVariants.{F18, F19, F20}
@@ -14,9 +14,9 @@ use Rattle.legs.proofs.AcceptLemmas.{first_nil, map_nil, second_nil}
 use Rattle.legs.proofs.LawLemmas.{law_with_file}
 use Rattle.legs.proofs.RecordLemmas.{with_record-legs, with_record-names}
 use Rattle.writer.specs.Entries.{NamedLegView}
+use Rattle.together.specs.Joining.{BookLaw, FaultsLaw, FirstLaw, FitsLaw}
+use Rattle.together.specs.Parts.{ArePartsOf, FitEach, Fits, IsPartOf, IsTold, file_part, is_in, late, late_fault, late_one, own_records}
 use Rattle.together.specs.Told.{all_told, told_leg}
-use Rattle.together.specs.Parts.{IsPartOf, is_in, late, late_one, own_records}
-use Rattle.together.specs.Joining.{AcceptLaw, BookLaw, FaultsLaw, FirstLaw, FitsLaw, PartFaultsLaw, PartFitsLaw, StayLaw, file_part, late_fault}
 use Rattle.together.proofs.LateLemmas.{late_law, names_longer, part_law}
 
 pub book_law : BookLaw
@@ -79,7 +79,7 @@ shorter {X} p (x ∷ xs) = by (p x) (shorter p xs)
     by true h = omega arith
     by false h = omega arith
 
-pub part_fits_law : PartFitsLaw
+pub part_fits_law : (f : List ℕ → ℕ) (k : ℕ) (whole part : Book) (limits : LimitsView) (records : List RecordView) → IsPartOf f k whole part → IsTold whole → IsTold part → Fits limits whole records → Fits limits part (own_records f k records)
 part_fits_law f k whole part limits records of is own_is fits =
     let later = (part_law f k whole part records of is own_is).0 in
     let after = with_records whole records in
@@ -94,7 +94,8 @@ part_fits_law f k whole part limits records of is own_is fits =
     let few_names = fits.features in
     record { legs = omega (arith, a, b, c, d, few); features = omega (arith, g, h, few_names) }
 
-pub part_faults_law : PartFaultsLaw
+pub part_faults_law : (f : List ℕ → ℕ) (k : ℕ) (whole part : Book) (own_limits : LimitsView) (file : File) → IsPartOf f k whole part → IsTold whole → IsTold part → Fits own_limits part (own_records f k file.records)
+    → file_faults own_limits part (file_part f k file) ≡ head_faults whole.head file.head ++ map late_fault (own_records f k (late whole file.records))
 part_faults_law f k whole part own_limits file of is own_is own_fits =
     ap (λ head. head_faults head file.head ++ record_faults own_limits part (own_records f k file.records)) of.head
     ∙ ap (λ (l : List (JoinCode × ℕ)). head_faults whole.head file.head ++ l)
@@ -114,7 +115,8 @@ all_own f n within (r ∷ records) none =
 append_nil : {X : Type 0} (xs ys : List X) → xs ≡ [] → ys ≡ [] → xs ++ ys ≡ []
 append_nil xs ys e g = ap (λ l. l ++ ys) e ∙ g
 
-pub accept_law : AcceptLaw
+pub accept_law : (f : List ℕ → ℕ) (n : ℕ) (whole : Book) (parts : ℕ → Book) (limits : LimitsView) (own_limits : ℕ → LimitsView) (file : File) → ArePartsOf f n whole parts → Fits limits whole file.records → FitEach f n own_limits parts file.records
+    → (file_faults limits whole file ≡ [] → (k : ℕ) → k < n → file_faults (own_limits k) (parts k) (file_part f k file) ≡ []) × (((k : ℕ) → k < n → file_faults (own_limits k) (parts k) (file_part f k file) ≡ []) → file_faults limits whole file ≡ [])
 accept_law f n whole parts limits own_limits file are fits own_fits =
     let heads : List (JoinCode × ℕ) = head_faults whole.head file.head in
     let early : List RecordView = late whole file.records in
@@ -134,7 +136,8 @@ accept_law f n whole parts limits own_limits file are fits own_fits =
 pub after_is : (limits : LimitsView) (book : Book) (file : File) (legs : List LegView) → joined limits book file ≡ Ok legs → book_after limits book file ≡ with_file book file
 after_is limits book file legs e = rw (e, book_after) refl
 
-pub stay_law : StayLaw
+pub stay_law : (f : List ℕ → ℕ) (k : ℕ) (whole part : Book) (limits own_limits : LimitsView) (file : File) (a b : List LegView) → IsPartOf f k whole part → IsTold whole → IsTold part → joined limits whole file ≡ Ok a → joined own_limits part (file_part f k file) ≡ Ok b
+    → IsPartOf f k (book_after limits whole file) (book_after own_limits part (file_part f k file))
 stay_law f k whole part limits own_limits file a b of is own_is ok own_ok =
     let later = (part_law f k whole part file.records of is own_is).0 in
     let now : IsPartOf f k (with_file whole file) (with_file part (file_part f k file)) = record { head = ap (λ head. head_with head file.head) of.head; names = later.names; legs = later.legs } in

@@ -9,16 +9,16 @@ use Rattle.timebase.specs.Period.{PeriodView}
 use Rattle.legs.specs.Legs.{LegView}
 use Rattle.legs.specs.Boxes.{RectView}
 use Rattle.legs.specs.Index.{legs_of}
-use Rattle.legs.specs.Book.{Book}
+use Rattle.legs.specs.Book.{Book, feature_named}
 use Rattle.legs.proofs.NameLemmas.{text_same}
 use Rattle.predicates.specs.declared.Predicate.{Predicate}
 use Rattle.predicates.specs.Predicates.{Holds}
 use Rattle.writer.specs.Entries.{NamedLegView}
 use Rattle.trajdb.specs.Picks.{Picks}
-use Rattle.trajdb.specs.Answers.{HoldsOfFeature, feature_name}
+use Rattle.trajdb.specs.Answers.{HoldsOfFeature, feature_name, track_of}
+use Rattle.together.specs.Laws.{PicksFeatures}
+use Rattle.together.specs.Parts.{IsPartOf, IsTold, is_in, own_legs, own_names}
 use Rattle.together.specs.Told.{all_told, bare, told}
-use Rattle.together.specs.Parts.{IsTold, is_in, own_legs, own_names}
-use Rattle.together.specs.Laws.{FeaturesLaw, TrackLaw}
 use Rattle.together.proofs.ListLemmas.{picks-agree, picks-filter, picks-map, picks-same}
 use Rattle.together.proofs.BareLemmas.{bare_holds, holds_bare}
 use Rattle.together.proofs.NamedLemmas.{told_of, track_told}
@@ -70,7 +70,8 @@ own_of f k name (e ∷ entries) own = by (is_in f k e.name) (bytes_eq name e.nam
     by false true p q more = absurd (let t : false ≡ true = sym p ∙ ap (is_in f k) (sym (text_same name e.name q)) ∙ own in (cc))
     by false false p q more = more
 
-pub features_law : FeaturesLaw
+pub features_law : (f : List ℕ → ℕ) (k : ℕ) (whole part : Book) (predicate : Predicate) (rect : RectView) (period : PeriodView) (all own : List ℕ) → IsPartOf f k whole part → IsTold whole → IsTold part → PicksFeatures whole predicate rect period all → PicksFeatures part predicate rect period own
+    → map (feature_name part) own ≡ own_names f k (map (feature_name whole) all)
 features_law f k whole part predicate rect period all own of is own_is a b =
     let W = picks-filter (HoldsOfName predicate rect period (all_told whole)) (is_in f k) whole.names (map (feature_name whole) all) (picks_named whole predicate rect period all is a) in
     let V = picks_named part predicate rect period own own_is b in
@@ -81,7 +82,7 @@ features_law f k whole part predicate rect period all own of is own_is a b =
     (own_names f k whole.names) (map (feature_name part) own) (filter_passes (is_in f k) whole.names) U in
     picks-same (HoldsOfName predicate rect period (all_told whole)) (own_names f k whole.names) (map (feature_name part) own) (own_names f k (map (feature_name whole) all)) T W
 
-pub track_law : TrackLaw
-track_law f whole part name of is own =
-    let mine : is_in f (f name) name ≡ true = grind (arith, nat_tests) in
-    track_told part name own ∙ ap (filter (λ e. bytes_eq name e.name)) of.legs ∙ own_of f (f name) name (all_told whole) mine ∙ sym (track_told whole name is)
+pub track_law : (f : List ℕ → ℕ) (k : ℕ) (whole part : Book) (name : List ℕ) → f name ≡ k → IsPartOf f k whole part → IsTold whole → IsTold part → told part (track_of (feature_named part.names name) part.legs) ≡ told whole (track_of (feature_named whole.names name) whole.legs)
+track_law f k whole part name of_name of is own =
+    let mine : is_in f k name ≡ true = grind (arith, nat_tests, of_name) in
+    track_told part name own ∙ ap (filter (λ e. bytes_eq name e.name)) of.legs ∙ own_of f k name (all_told whole) mine ∙ sym (track_told whole name is)

@@ -18,10 +18,9 @@ use Rattle.legs.proofs.LawLemmas.{distinct_more, first_there}
 use Rattle.legs.proofs.RecordLemmas.{with_record-legs, with_record-names, with_record-rows}
 use Rattle.writer.specs.Entries.{NamedLegView}
 use Rattle.trajdb.specs.Answers.{feature_name}
+use Rattle.together.specs.Joining.{LeastLaw}
+use Rattle.together.specs.Parts.{IsPartOf, IsTold, Rises, is_in, late, late_one, own_legs, own_names, own_records}
 use Rattle.together.specs.Told.{all_told, bare, told, told_leg}
-use Rattle.together.specs.Parts.{IsPartOf, IsTold, is_in, late, late_one, own_legs, own_names, own_records}
-use Rattle.together.specs.Joining.{LeastLaw, Rises}
-use Rattle.together.specs.Laws.{LateLaw, PartLaw}
 use Rattle.together.proofs.NamedLemmas.{told_none, told_of}
 use Rattle.together.proofs.FeatureLemmas.{own_of}
 
@@ -163,7 +162,8 @@ part_out f k whole part r of is e = record {
 }
 
 -- all records
-pub part_law : PartLaw
+pub part_law : (f : List ℕ → ℕ) (k : ℕ) (whole part : Book) (records : List RecordView) → IsPartOf f k whole part → IsTold whole → IsTold part
+    → IsPartOf f k (with_records whole records) (with_records part (own_records f k records)) × IsTold (with_records whole records) × IsTold (with_records part (own_records f k records))
 part_law f k whole part [] of is own_is = (of, is, own_is)
 part_law f k whole part (r ∷ records) of is own_is = elim (cases_Bool (is_in f k r.mfidref)) [
   | inl e ↦
@@ -216,7 +216,7 @@ own_one f k r true c e = ap (λ x. cond x (r ∷ []) []) e
 own_one f k r false true e = refl
 own_one f k r false false e = refl
 
-pub late_law : LateLaw
+pub late_law : (f : List ℕ → ℕ) (k : ℕ) (whole part : Book) (records : List RecordView) → IsPartOf f k whole part → IsTold whole → IsTold part → late part (own_records f k records) ≡ own_records f k (late whole records)
 late_law f k whole part [] of is own_is = refl
 late_law f k whole part (r ∷ records) of is own_is =
     let rest : List RecordView = late (with_record whole r) records in

@@ -12,12 +12,11 @@ use Rattle.predicates.specs.declared.Predicate.{Predicate}
 use Rattle.querylang.specs.Line.{line_command}
 use Rattle.querylang.specs.declared.LineCode.{LineCode}
 use Rattle.querylang.specs.declared.Command.{Command}
-use Rattle.querylang.specs.declared.Command.TheVariants.{Load, Count, Box, Legs, Features, Trajectory, Write}
+use Rattle.querylang.specs.declared.Command.TheVariants.{Count, Box, Legs, Features, Trajectory}
 use Rattle.trajdb.specs.Answers.{IsAnswer, IsFeaturesAnswer, IsLegsAnswer, IsLineText, IsSaid, legs_text, feature_name, track_of}
+use Rattle.together.specs.Laws.{AnswerTogether, CountsTogether, LegsTogether, NamesTogether, SayTogether}
+use Rattle.together.specs.Parts.{ArePartsOf, own_legs}
 use Rattle.together.specs.Told.{told, told_count_text, told_names_text, told_text}
-use Rattle.together.specs.Parts.{own_legs}
-use Rattle.together.specs.Joining.{ArePartsOf}
-use Rattle.together.specs.Asking.{AnswerTogether, CountsTogether, LegsTogether, LineLaw, NamesTogether, SayTogether}
 use Rattle.together.proofs.CountLemmas.{count_law}
 use Rattle.together.proofs.FeatureLemmas.{features_law}
 use Rattle.together.proofs.NamedLemmas.{trajectory_law}
@@ -81,7 +80,6 @@ counts_together f n whole parts text own are says own_says =
 answer_together : (f : List ℕ → ℕ) (n : ℕ) (whole : Book) (parts : ℕ → Book) (limits : LimitsView) (own_limits : ℕ → LimitsView) (files : List (List ℕ × List ℕ)) (own_files : ℕ → List (List ℕ × List ℕ)) (command : Command) (text : List ℕ) (own : ℕ → List ℕ) → ArePartsOf f n whole parts
     → IsAnswer limits files whole command text → ((k : ℕ) → k < n → IsAnswer (own_limits k) (own_files k) (parts k) command (own k))
     → AnswerTogether f n whole.head command text own
-answer_together f n whole parts limits own_limits files own_files (Load name) text own are says own_says = tt
 answer_together f n whole parts limits own_limits files own_files Count text own are says own_says = counts_together f n whole parts text own are says own_says
 answer_together f n whole parts limits own_limits files own_files (Box rect period) text own are says own_says = box_together f n whole parts rect period text own are says own_says
 answer_together f n whole parts limits own_limits files own_files (Legs predicate rect period) text own are says own_says = legs_together f n whole parts predicate rect period text own are says own_says
@@ -89,7 +87,7 @@ answer_together f n whole parts limits own_limits files own_files (Features pred
 answer_together f n whole parts limits own_limits files own_files (Trajectory name) text own are says own_says =
     same_legs f n whole parts (track_of (feature_named whole.names name) whole.legs) (λ k. track_of (feature_named (parts k).names name) (parts k).legs) text own are says own_says
     (λ k less. trajectory_law f k whole (parts k) name (are.each k less) are.whole_told (are.each_told k less))
-answer_together f n whole parts limits own_limits files own_files Write text own are says own_says = tt
+answer_together f n whole parts limits own_limits files own_files _ text own are says own_says = tt
 
 said_together : (f : List ℕ → ℕ) (n : ℕ) (whole : Book) (parts : ℕ → Book) (limits : LimitsView) (own_limits : ℕ → LimitsView) (files : List (List ℕ × List ℕ)) (own_files : ℕ → List (List ℕ × List ℕ)) (said : Result (Option Command) LineCode) (text : List ℕ) (own : ℕ → List ℕ) → ArePartsOf f n whole parts
     → IsSaid limits files whole said text → ((k : ℕ) → k < n → IsSaid (own_limits k) (own_files k) (parts k) said (own k))
@@ -98,7 +96,8 @@ said_together f n whole parts limits own_limits files own_files (Ok (Some comman
 said_together f n whole parts limits own_limits files own_files (Ok None) text own are says own_says = (says, own_says)
 said_together f n whole parts limits own_limits files own_files (Err code) text own are says own_says = λ k less. own_says k less ∙ sym says
 
-pub line_law : LineLaw
+pub line_law : (f : List ℕ → ℕ) (n : ℕ) (whole : Book) (parts : ℕ → Book) (limits : LimitsView) (own_limits : ℕ → LimitsView) (files : List (List ℕ × List ℕ)) (own_files : ℕ → List (List ℕ × List ℕ)) (line text : List ℕ) (own : ℕ → List ℕ) → ArePartsOf f n whole parts → IsLineText limits files whole line text
+    → ((k : ℕ) → k < n → IsLineText (own_limits k) (own_files k) (parts k) line (own k)) → SayTogether f n whole.head (line_command line) text own
 unfolding IsLineText
 line_law f n whole parts limits own_limits files own_files line text own are says own_says =
     said_together f n whole parts limits own_limits files own_files (line_command line) text own are says own_says

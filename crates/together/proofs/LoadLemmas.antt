@@ -12,9 +12,8 @@ use Rattle.parts.specs.Part.{said_part}
 use Rattle.parts.proofs.LeastLemmas.{fault_law}
 use Rattle.trajdb.specs.Answers.{book_by, book_with, counts_of, counts_or, joined_counts, load_of}
 use Rattle.trajdb.specs.declared.Counts.{Counts}
-use Rattle.together.specs.Parts.{IsPartOf, IsTold}
-use Rattle.together.specs.Joining.{file_part}
 use Rattle.together.specs.Loading.{ArePartTexts, EmptyLaw, FirstTextLaw, IsPartText, LoadLaw, Takes, TakesAll, TakesLaw, TextLaw, book_of}
+use Rattle.together.specs.Parts.{IsPartOf, IsTold, file_part}
 use Rattle.together.proofs.FaultLemmas.{accept_law, after_is, stay_law}
 use Rattle.together.proofs.LateLemmas.{part_law}
 

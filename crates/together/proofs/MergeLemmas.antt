@@ -9,10 +9,16 @@ use Rattle.std.proofs.lemmas.List.Elements.{All-head, All-tail}
 use Rattle.std.proofs.lemmas.List.Sorted.{IsPermutation-append_right, IsPermutation-cons, IsPermutation-middle, IsPermutation-refl, IsPermutation-sym, IsPermutation-trans}
 use Rattle.legs.specs.Index.{legs_in_box}
 use Rattle.writer.specs.Entries.{NamedLegView}
-use Rattle.trajdb.specs.Answers.{feature_name}
+use Rattle.trajdb.specs.Answers.{feature_name, HoldsOfLeg}
+use Rattle.timebase.specs.Period.{PeriodView}
+use Rattle.legs.specs.Legs.{LegView}
+use Rattle.legs.specs.Boxes.{BoxView, RectView}
+use Rattle.legs.specs.Book.{Book}
+use Rattle.predicates.specs.declared.Predicate.{Predicate}
+use Rattle.trajdb.specs.Picks.{Picks}
+use Rattle.together.specs.Laws.{LegsMerge, NamesMerge, PicksFeatures}
+use Rattle.together.specs.Parts.{ArePartsOf, own_legs, own_names}
 use Rattle.together.specs.Told.{told}
-use Rattle.together.specs.Parts.{own_legs, own_names}
-use Rattle.together.specs.Merging.{BoxMerge, FeaturesAnswerMerge, LegsAnswerMerge, LegsMerge, NamesMerge}
 use Rattle.together.proofs.FeatureLemmas.{features_law, range_within}
 use Rattle.together.proofs.ToldLemmas.{box_law, legs_law}
 
@@ -75,20 +81,22 @@ flat-agree L u v same [] all = refl
 flat-agree {X} L u v same (k ∷ ks) all =
     ap (λ (l : List X). l ++ flat_map u ks) (same k (All-head L k ks all)) ∙ ap (λ (l : List X). v k ++ l) (flat-agree L u v same ks (All-tail L k ks all))
 
-pub box_merge : BoxMerge
+pub box_merge : (f : List ℕ → ℕ) (n : ℕ) (whole : Book) (parts : ℕ → Book) (query : BoxView) → ArePartsOf f n whole parts → IsPermutation (told whole (legs_in_box query whole.legs)) (flat_map (λ k. told (parts k) (legs_in_box query (parts k).legs)) (range_with_len 0 n))
 box_merge f n whole parts query are =
     let answer : List NamedLegView = told whole (legs_in_box query whole.legs) in
     subst (λ (l : List NamedLegView). IsPermutation answer l)
     (flat-agree (λ k. k < n) (λ k. own_legs f k answer) (λ k. told (parts k) (legs_in_box query (parts k).legs)) (λ k h. sym (box_law f k whole (parts k) query (are.each k h))) (range_with_len 0 n) (range_within n))
     (legs_merge f n answer are.within)
 
-pub legs_answer_merge : LegsAnswerMerge
+pub legs_answer_merge : (f : List ℕ → ℕ) (n : ℕ) (whole : Book) (parts : ℕ → Book) (predicate : Predicate) (rect : RectView) (period : PeriodView) (all : List LegView) (own : ℕ → List LegView) → ArePartsOf f n whole parts → Picks (HoldsOfLeg predicate rect period) whole.legs all
+    → ((k : ℕ) → k < n → Picks (HoldsOfLeg predicate rect period) (parts k).legs (own k)) → IsPermutation (told whole all) (flat_map (λ k. told (parts k) (own k)) (range_with_len 0 n))
 legs_answer_merge f n whole parts predicate rect period all own are a b =
     subst (λ (l : List NamedLegView). IsPermutation (told whole all) l)
     (flat-agree (λ k. k < n) (λ k. own_legs f k (told whole all)) (λ k. told (parts k) (own k)) (λ k h. sym (legs_law f k whole (parts k) predicate rect period all (own k) (are.each k h) a (b k h))) (range_with_len 0 n) (range_within n))
     (legs_merge f n (told whole all) are.within)
 
-pub features_answer_merge : FeaturesAnswerMerge
+pub features_answer_merge : (f : List ℕ → ℕ) (n : ℕ) (whole : Book) (parts : ℕ → Book) (predicate : Predicate) (rect : RectView) (period : PeriodView) (all : List ℕ) (own : ℕ → List ℕ) → ArePartsOf f n whole parts → PicksFeatures whole predicate rect period all
+    → ((k : ℕ) → k < n → PicksFeatures (parts k) predicate rect period (own k)) → IsPermutation (map (feature_name whole) all) (flat_map (λ k. map (feature_name (parts k)) (own k)) (range_with_len 0 n))
 features_answer_merge f n whole parts predicate rect period all own are a b =
     let answer : List (List ℕ) = map (feature_name whole) all in
     subst (λ (l : List (List ℕ)). IsPermutation answer l)

@@ -12,9 +12,8 @@ use Rattle.legs.proofs.NameLemmas.{any_is_first, feature_of-known, feature_of-ne
 use Rattle.legs.proofs.LawLemmas.{other_at}
 use Rattle.writer.specs.Entries.{NamedLegView}
 use Rattle.trajdb.specs.Answers.{feature_name, track_of}
+use Rattle.together.specs.Parts.{IsPartOf, IsTold, is_in, own_legs}
 use Rattle.together.specs.Told.{all_told, told, told_leg}
-use Rattle.together.specs.Parts.{IsTold, is_in, own_legs}
-use Rattle.together.specs.Laws.{TrajectoryLaw}
 use Rattle.together.proofs.ListLemmas.{filter-agree, filter-comm, filter-map, filter-none}
 
 not_true : (b : Bool) → (b ≡ true → ⊥) → b ≡ false
@@ -63,7 +62,7 @@ track_told book name is = elim (known_or_new book.names name) [
       ap (λ (o : Option ℕ). told book (track_of o book.legs)) (feature_of-new book.names name (omega arith)) ∙ sym (told_none book name is new)
 ]
 
-pub trajectory_law : TrajectoryLaw
+pub trajectory_law : (f : List ℕ → ℕ) (k : ℕ) (whole part : Book) (name : List ℕ) → IsPartOf f k whole part → IsTold whole → IsTold part → told part (track_of (feature_named part.names name) part.legs) ≡ own_legs f k (told whole (track_of (feature_named whole.names name) whole.legs))
 trajectory_law f k whole part name of is own =
     track_told part name own ∙ ap (filter (λ e. bytes_eq name e.name)) of.legs
     ∙ filter-comm (λ (e : NamedLegView). bytes_eq name e.name) (λ e. is_in f k e.name) (all_told whole)

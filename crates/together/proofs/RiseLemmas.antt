@@ -11,8 +11,8 @@ use Rattle.mfcsv.specs.declared.Code.{Code}
 use Rattle.mfcsv.specs.declared.Dimension.{Dimension}
 use Rattle.mfcsv.specs.declared.File.{File}
 use Rattle.mfcsv.specs.declared.Position.{Position}
-use Rattle.together.specs.Joining.{Rises}
-use Rattle.together.specs.Counting.{RisesLaw}
+use Rattle.together.specs.Joining.{RisesLaw}
+use Rattle.together.specs.Parts.{Rises}
 
 rises_later : (a b : ℕ) (records : List RecordView) → a ≤ b → Rises b records → Rises a records
 rises_later a b [] h rises = tt

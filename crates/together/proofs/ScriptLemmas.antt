@@ -14,13 +14,13 @@ use Rattle.parts.specs.Names.{part_of}
 use Rattle.querylang.specs.Line.{line_command}
 use Rattle.querylang.specs.declared.LineCode.{LineCode}
 use Rattle.querylang.specs.declared.Command.{Command}
-use Rattle.querylang.specs.declared.Command.TheVariants.{Load, Count, Box, Legs, Features, Trajectory, Write}
+use Rattle.querylang.specs.declared.Command.TheVariants.{Load}
 use Rattle.trajdb.specs.Answers.{AcceptsLine, AcceptsNamed, AcceptsSaid, IsLineText, book_by, book_with, counts_of, counts_or, joined_counts, line_book, load_of, named_book, said_book}
 use Rattle.trajdb.specs.Files.{file_named}
 use Rattle.trajdb.specs.Run.{IsRunText}
 use Rattle.trajdb.specs.declared.Counts.{Counts}
-use Rattle.together.specs.Joining.{ArePartsOf}
 use Rattle.together.specs.Loading.{IsPartText, Takes}
+use Rattle.together.specs.Parts.{ArePartsOf}
 use Rattle.together.specs.Scripts.{AllOrNone, HaveParts, ScriptLaw}
 use Rattle.together.proofs.LineLemmas.{line_law}
 use Rattle.together.proofs.LoadLemmas.{StayParts, load_one}
@@ -63,6 +63,16 @@ refused_named : (limits : LimitsView) (book : Book) (file : Option (List ℕ)) �
 refused_named limits book (Some bytes) none = refused limits book bytes none
 refused_named limits book None none = refl
 
+-- the same books are a whole and its parts
+same_parts : (n : ℕ) (whole after : Book) (parts own_after : ℕ → Book) → after ≡ whole → ((k : ℕ) → k < n → own_after k ≡ parts k) → ArePartsOf (part_of n) n whole parts → ArePartsOf (part_of n) n after own_after
+same_parts n whole after parts own_after same own_same are = record {
+  some = are.some;
+  within = are.within;
+  whole_told = rw same are.whole_told;
+  each = λ k less. rw (same, own_same k less) (are.each k less);
+  each_told = λ k less. rw (own_same k less) (are.each_told k less);
+}
+
 module _ (n : ℕ) (limits : LimitsView) (own_limits : ℕ → LimitsView) (whole : Book) (parts : ℕ → Book) (are : ArePartsOf (part_of n) n whole parts) where
   -- a file that all accept
   all_accept : (bytes : List ℕ) (own : ℕ → Option (List ℕ)) → ((k : ℕ) → k < n → (text : List ℕ) × (own k ≡ Some text) × IsPartText k n bytes text)
@@ -86,15 +96,7 @@ module _ (n : ℕ) (limits : LimitsView) (own_limits : ℕ → LimitsView) (whol
   none_accepts : (file : Option (List ℕ)) (own : ℕ → Option (List ℕ)) → (AcceptsNamed limits whole file → ⊥) → ((k : ℕ) → k < n → AcceptsNamed (own_limits k) (parts k) (own k) → ⊥)
       → ArePartsOf (part_of n) n (named_book limits whole file) (λ k. named_book (own_limits k) (parts k) (own k))
   none_accepts file own none own_none =
-      let same = refused_named limits whole file none in
-      let own_same = λ (k : ℕ) (less : k < n). refused_named (own_limits k) (parts k) (own k) (own_none k less) in
-      record {
-        some = are.some;
-        within = are.within;
-        whole_told = rw same are.whole_told;
-        each = λ k less. rw (same, own_same k less) (are.each k less);
-        each_told = λ k less. rw (own_same k less) (are.each_told k less);
-      }
+      same_parts n whole (named_book limits whole file) parts (λ k. named_book (own_limits k) (parts k) (own k)) (refused_named limits whole file none) (λ k less. refused_named (own_limits k) (parts k) (own k) (own_none k less)) are
 
   module _ (files : List (List ℕ × List ℕ)) (own_files : ℕ → List (List ℕ × List ℕ)) (have : HaveParts n files own_files) where
     load_keeps : (name : List ℕ) (file : Option (List ℕ)) → file_named files name ≡ file
@@ -110,14 +112,7 @@ module _ (n : ℕ) (limits : LimitsView) (own_limits : ℕ → LimitsView) (whol
         ⊎ ((AcceptsSaid limits files whole said → ⊥) × ((k : ℕ) → k < n → AcceptsSaid (own_limits k) (own_files k) (parts k) said → ⊥))
         → ArePartsOf (part_of n) n (said_book limits files whole said) (λ k. said_book (own_limits k) (own_files k) (parts k) said)
     said_keeps (Ok (Some (Load name))) agree = load_keeps name (file_named files name) refl agree
-    said_keeps (Ok (Some Count)) agree = are
-    said_keeps (Ok (Some (Box rect period))) agree = are
-    said_keeps (Ok (Some (Legs predicate rect period))) agree = are
-    said_keeps (Ok (Some (Features predicate rect period))) agree = are
-    said_keeps (Ok (Some (Trajectory name))) agree = are
-    said_keeps (Ok (Some Write)) agree = are
-    said_keeps (Ok None) agree = are
-    said_keeps (Err code) agree = are
+    said_keeps _ agree = are
 
     line_keeps : (line : List ℕ) → AllOrNone n limits own_limits files own_files whole parts line → ArePartsOf (part_of n) n (line_book limits files whole line) (λ k. line_book (own_limits k) (own_files k) (parts k) line)
     unfolding AcceptsLine line_book

@@ -8,13 +8,16 @@ use Rattle.std.proofs.lemmas.List.{length-append, length-map}
 use Rattle.std.proofs.lemmas.List.FromFn.{length-range_with_len}
 use Rattle.std.proofs.lemmas.List.Sums.{sum_by-cons}
 use Rattle.mfcsv.specs.Views.{RecordView, leg_count}
-use Rattle.legs.specs.Book.{Book, empty_book, legs_or_fault, leg_added, record_legs, records_legs, with_record, with_records}
+use Rattle.legs.specs.Book.{Book, empty_book, legs_or_fault, leg_added, record_legs, records_legs, with_record, with_records, joined}
 use Rattle.legs.specs.Counting.{names_after}
 use Rattle.legs.specs.Legs.{LegView}
 use Rattle.legs.specs.declared.joining.JoinCode.{JoinCode}
 use Rattle.legs.proofs.RecordLemmas.{with_record-names}
-use Rattle.together.specs.Parts.{IsTold, own_names, own_records}
-use Rattle.together.specs.Counting.{LoadCountLaw}
+use Rattle.legs.specs.Limits.{LimitsView}
+use Rattle.mfcsv.specs.declared.File.{File}
+use Rattle.trajdb.specs.Answers.{counts_of}
+use Rattle.together.specs.Joining.{IsSumOf}
+use Rattle.together.specs.Parts.{ArePartsOf, IsTold, file_part, own_names, own_records}
 use Rattle.together.proofs.CountLemmas.{sum-agree, sum-plus, sum_parts}
 use Rattle.together.proofs.FeatureLemmas.{range_within}
 use Rattle.together.proofs.LateLemmas.{part_law}
@@ -104,7 +107,8 @@ ok_legs : (faults : List (JoinCode × ℕ)) (all legs : List LegView) → legs_o
 ok_legs [] all legs e = cc
 ok_legs (fault ∷ faults) all legs e = absurd (cc)
 
-pub load_count_law : LoadCountLaw
+pub load_count_law : (f : List ℕ → ℕ) (n : ℕ) (whole : Book) (parts : ℕ → Book) (limits : LimitsView) (own_limits : ℕ → LimitsView) (file : File) (legs : List LegView) (own : ℕ → List LegView) → ArePartsOf f n whole parts → joined limits whole file ≡ Ok legs
+    → ((k : ℕ) → k < n → joined (own_limits k) (parts k) (file_part f k file) ≡ Ok (own k)) → IsSumOf n (counts_of file legs) (λ k. counts_of (file_part f k file) (own k))
 load_count_law f n whole parts limits own_limits file legs own are ok own_ok =
     let w : RecordView → ℕ = legs_in in
     let all : length legs ≡ sum_by legs_in file.records = ap length (ok_legs _ _ legs ok) ∙ all_legs whole file.records in

@@ -13,9 +13,9 @@ use Rattle.writer.specs.File.{entries_text, entry_record, features_text}
 use Rattle.writer.specs.declared.entry.Frame.{Frame}
 use Rattle.trajdb.specs.Picks.{Picks}
 use Rattle.trajdb.specs.Answers.{HoldsOfLeg, named_leg_of, book_frame, feature_name, ok_text}
+use Rattle.together.specs.Laws.{LegsText, NamesText}
+use Rattle.together.specs.Parts.{IsPartOf, is_in, own_legs}
 use Rattle.together.specs.Told.{all_told, told, told_leg}
-use Rattle.together.specs.Parts.{is_in, own_legs}
-use Rattle.together.specs.Laws.{BoxLaw, LegsLaw, LegsText, NamesText}
 use Rattle.together.proofs.ListLemmas.{filter-comm, filter-map, picks-filter, picks-map, picks-same}
 use Rattle.together.proofs.BareLemmas.{holds_bare, bare_holds}
 
@@ -36,7 +36,7 @@ names_told book features = ap (λ n. ok_text n ++ features_text (map (feature_na
 box_told : (book : Book) (query : BoxView) (legs : List LegView) → told book (legs_in_box query legs) ≡ filter (λ e. boxes_meet (box_of e.leg) query) (told book legs)
 box_told book query legs = sym (filter-map (λ e. boxes_meet (box_of e.leg) query) (told_leg book) legs)
 
-pub box_law : BoxLaw
+pub box_law : (f : List ℕ → ℕ) (k : ℕ) (whole part : Book) (query : BoxView) → IsPartOf f k whole part → told part (legs_in_box query part.legs) ≡ own_legs f k (told whole (legs_in_box query whole.legs))
 box_law f k whole part query is =
     box_told part query part.legs ∙ ap (filter (λ e. boxes_meet (box_of e.leg) query)) is.legs
     ∙ filter-comm (λ (e : NamedLegView). boxes_meet (box_of e.leg) query) (λ e. is_in f k e.name) (all_told whole)
@@ -52,7 +52,8 @@ picks_told book predicate rect period legs picked h =
     picks-map (λ leg. Unit {0}) (HoldsOfLeg predicate rect period) (HoldsOfTold predicate rect period) (told_leg book)
     (λ leg u held. holds_bare predicate (leg ∷ []) rect period held) (λ leg u held. bare_holds predicate (leg ∷ []) rect period held) legs picked (λ i d less. tt) h
 
-pub legs_law : LegsLaw
+pub legs_law : (f : List ℕ → ℕ) (k : ℕ) (whole part : Book) (predicate : Predicate) (rect : RectView) (period : PeriodView) (all own : List LegView) → IsPartOf f k whole part → Picks (HoldsOfLeg predicate rect period) whole.legs all → Picks (HoldsOfLeg predicate rect period) part.legs own
+    → told part own ≡ own_legs f k (told whole all)
 legs_law f k whole part predicate rect period all own is a b =
     let whole_told = picks-filter (HoldsOfTold predicate rect period) (λ e. is_in f k e.name) (all_told whole) (told whole all) (picks_told whole predicate rect period whole.legs all a) in
     let part_told = subst (λ (l : List NamedLegView). Picks (HoldsOfTold predicate rect period) l (told part own)) is.legs (picks_told part predicate rect period part.legs own b) in

@@ -1,48 +1,20 @@
 -- How the parts of a book take in the parts of a file.
-use Rattle.std.specs.Prelude.{◌+◌, ℕ, ◌≡◌, ◌≤◌, ◌<◌, ◌++◌, ◌∷◌, [], List, length, map, All, Ok, sum_by}
+use Rattle.std.specs.Prelude.{ℕ, ◌≡◌, ◌≤◌, ◌<◌, ◌++◌, ◌∷◌, [], List, map, All, Ok, sum_by}
 use Rattle.std.specs.List.{range_with_len}
 use Rattle.mfcsv.specs.Views.{IsRecord, RecordView}
-use Rattle.mfcsv.specs.FileText.{HasWholeRows}
+use Rattle.mfcsv.specs.FileText.{HasWholeRows, file_of_bytes}
 use Rattle.mfcsv.specs.declared.File.{File}
 use Rattle.legs.specs.Book.{Book, book_after, file_faults, head_faults, joined, record_faults, with_records}
 use Rattle.legs.specs.Law.{IsBook}
 use Rattle.legs.specs.Legs.{LegView}
 use Rattle.legs.specs.Limits.{IsLimits, LimitsView}
-use Rattle.legs.specs.declared.joining.JoinCode.{JoinCode}
-use Rattle.legs.specs.declared.joining.JoinCode.TheVariants.{F18}
-use Rattle.together.specs.Parts.{IsPartOf, IsTold, late, own_records}
-
--- the file with the records of part k alone, under their numbers
-abbrev pub file_part : (List ℕ → ℕ) → ℕ → File → File
-file_part f k file = record file { records = own_records f k file.records }
-
--- fault F18 of a record
-abbrev pub late_fault : RecordView → JoinCode × ℕ
-late_fault r = (F18, r.number)
-
--- the book with these records is within the limits
-pub record Fits (limits : LimitsView) (book : Book) (records : List RecordView) : Type 0 where
-  pub legs : length (with_records book records).legs ≤ limits.legs
-  pub features : length (with_records book records).names ≤ limits.features
-
--- books, each part k of the whole
-pub record ArePartsOf (f : List ℕ → ℕ) (n : ℕ) (whole : Book) (parts : ℕ → Book) : Type 0 where
-  pub some : 0 < n
-  pub within : (name : List ℕ) → f name < n
-  pub whole_told : IsTold whole
-  pub each : (k : ℕ) → k < n → IsPartOf f k whole (parts k)
-  pub each_told : (k : ℕ) → k < n → IsTold (parts k)
+use Rattle.trajdb.specs.Answers.{counts_of}
+use Rattle.trajdb.specs.declared.Counts.{Counts}
+use Rattle.together.specs.Parts.{FitEach, Fits, IsPartOf, IsTold, Rises, file_part, late, late_fault, own_records}
 
 -- all of a lawful book is told
 abbrev pub BookLaw : Type 0
 BookLaw = (limits : LimitsView) (book : Book) → IsBook limits book → IsTold book
-
--- `count`: the sums
-abbrev pub CountLaw : Type 0
-CountLaw =
-    (f : List ℕ → ℕ) (n : ℕ) (whole : Book) (parts : ℕ → Book) → ArePartsOf f n whole parts
-    → (length whole.legs ≡ sum_by (λ k. length (parts k).legs) (range_with_len 0 n))
-    × (length whole.names ≡ sum_by (λ k. length (parts k).names) (range_with_len 0 n))
 
 -- where the limits hold in the end, the faults of records are those that come too early
 abbrev pub FaultsLaw : Type 0
@@ -57,57 +29,55 @@ FitsLaw =
     → IsBook limits book → All IsRecord file.records → HasWholeRows file
     → joined limits book file ≡ Ok legs → Fits limits book file.records
 
--- where they hold for the whole, they hold for the part
-abbrev pub PartFitsLaw : Type 0
-PartFitsLaw =
-    (f : List ℕ → ℕ) (k : ℕ) (whole part : Book) (limits : LimitsView) (records : List RecordView)
-    → IsPartOf f k whole part → IsTold whole → IsTold part → Fits limits whole records
-    → Fits limits part (own_records f k records)
+-- what part k of a whole takes in of the records of a file
+pub record PartTakes (f : List ℕ → ℕ) (k : ℕ) (whole part : Book) : Type 0 where
+  -- the records that come too early for the part are those of the whole that are its own
+  pub too_early : (records : List RecordView)
+      → late part (own_records f k records) ≡ own_records f k (late whole records)
+  -- they stay a book and its part, each with its own records
+  pub stays : (records : List RecordView)
+      → IsPartOf f k (with_records whole records) (with_records part (own_records f k records))
+      × IsTold (with_records whole records) × IsTold (with_records part (own_records f k records))
+  -- where the whole is within some limits with them, so is the part
+  pub part_fits : (limits : LimitsView) (records : List RecordView) → Fits limits whole records
+      → Fits limits part (own_records f k records)
+  -- within its own limits, the part has the head's faults, and those of its own records
+  pub part_faults : (own_limits : LimitsView) (file : File)
+      → Fits own_limits part (own_records f k file.records)
+      → file_faults own_limits part (file_part f k file)
+      ≡ head_faults whole.head file.head ++ map late_fault (own_records f k (late whole file.records))
+  -- they stay a book and its part once both took in a file and its part
+  pub after : (limits own_limits : LimitsView) (file : File) (a b : List LegView)
+      → joined limits whole file ≡ Ok a → joined own_limits part (file_part f k file) ≡ Ok b
+      → IsPartOf f k (book_after limits whole file)
+      (book_after own_limits part (file_part f k file))
 
--- where the part's own limits hold, its faults are those of the whole's head and, of the whole's records, those of the
--- part
-abbrev pub PartFaultsLaw : Type 0
-PartFaultsLaw =
-    (f : List ℕ → ℕ) (k : ℕ) (whole part : Book) (own_limits : LimitsView) (file : File)
-    → IsPartOf f k whole part → IsTold whole → IsTold part
-    → Fits own_limits part (own_records f k file.records)
-    → file_faults own_limits part (file_part f k file)
-    ≡ head_faults whole.head file.head ++ map late_fault (own_records f k (late whole file.records))
+-- counts are the sums of those of n parts
+pub record IsSumOf (n : ℕ) (all : Counts) (each : ℕ → Counts) : Type 0 where
+  pub records : all.records ≡ sum_by (λ k. (each k).records) (range_with_len 0 n)
+  pub legs : all.legs ≡ sum_by (λ k. (each k).legs) (range_with_len 0 n)
+  pub features : all.features ≡ sum_by (λ k. (each k).features) (range_with_len 0 n)
 
--- the parts are within limits of their own with their records
-abbrev pub FitEach : (List ℕ → ℕ) → ℕ → (ℕ → LimitsView) → (ℕ → Book) → List RecordView → Type 0
-FitEach f n own_limits parts records =
-    (k : ℕ) → k < n → Fits (own_limits k) (parts k) (own_records f k records)
-
--- where the limits of the whole hold for it, and its own for each part, it has no fault exactly where no part has one
-abbrev pub AcceptLaw : Type 0
-AcceptLaw =
-    (f : List ℕ → ℕ) (n : ℕ) (whole : Book) (parts : ℕ → Book) (limits : LimitsView)
-    (own_limits : ℕ → LimitsView) (file : File) → ArePartsOf f n whole parts
-    → Fits limits whole file.records → FitEach f n own_limits parts file.records
-    → (file_faults limits whole file ≡ [] → (k : ℕ) → k < n
-    → file_faults (own_limits k) (parts k) (file_part f k file) ≡ [])
-    × (((k : ℕ) → k < n → file_faults (own_limits k) (parts k) (file_part f k file) ≡ [])
-    → file_faults limits whole file ≡ [])
+-- how the parts of a whole take in the parts of a file
+pub record PartsTake (f : List ℕ → ℕ) (n : ℕ) (whole : Book) (parts : ℕ → Book) : Type 0 where
+  -- within the limits of the whole, and its own for each part, the whole has no fault exactly if no part has one
+  pub accepts : (limits : LimitsView) (own_limits : ℕ → LimitsView) (file : File)
+      → Fits limits whole file.records → FitEach f n own_limits parts file.records
+      → (file_faults limits whole file ≡ [] → (k : ℕ) → k < n
+      → file_faults (own_limits k) (parts k) (file_part f k file) ≡ [])
+      × (((k : ℕ) → k < n → file_faults (own_limits k) (parts k) (file_part f k file) ≡ [])
+      → file_faults limits whole file ≡ [])
+  -- `load`: the counts of a file that the whole takes in, and each part its part, are the sums of the parts'
+  pub counted : (limits : LimitsView) (own_limits : ℕ → LimitsView) (file : File)
+      (legs : List LegView) (own : ℕ → List LegView) → joined limits whole file ≡ Ok legs
+      → ((k : ℕ) → k < n → joined (own_limits k) (parts k) (file_part f k file) ≡ Ok (own k))
+      → IsSumOf n (counts_of file legs) (λ k. counts_of (file_part f k file) (own k))
 
 -- the first record that comes too early for the whole is the first that does for its part
 abbrev pub FirstLaw : Type 0
 FirstLaw =
     (f : List ℕ → ℕ) (r : RecordView) (others : List RecordView)
     → own_records f (f r.mfidref) (r ∷ others) ≡ r ∷ own_records f (f r.mfidref) others
-
--- a file that the whole and the part take in keeps the part a part
-abbrev pub StayLaw : Type 0
-StayLaw =
-    (f : List ℕ → ℕ) (k : ℕ) (whole part : Book) (limits own_limits : LimitsView) (file : File)
-    (a b : List LegView) → IsPartOf f k whole part → IsTold whole → IsTold part
-    → joined limits whole file ≡ Ok a → joined own_limits part (file_part f k file) ≡ Ok b
-    → IsPartOf f k (book_after limits whole file) (book_after own_limits part (file_part f k file))
-
--- the records have rising numbers, from m on
-abbrev pub Rises : ℕ → List RecordView → Type 0
-Rises m [] = Unit {0}
-Rises m (r ∷ records) = (m ≤ r.number) × Rises (r.number + 1) records
 
 -- it has the least number of the first ones of all parts
 abbrev pub LeastLaw : Type 0
@@ -116,3 +86,7 @@ LeastLaw =
     (others more : List RecordView) → Rises m records
     → late whole records ≡ r ∷ others → own_records f k (late whole records) ≡ q ∷ more
     → r.number ≤ q.number
+
+-- the records of a file have rising numbers, from 1 on
+abbrev pub RisesLaw : Type 0
+RisesLaw = (bytes : List ℕ) (file : File) → file_of_bytes bytes ≡ Ok file → Rises 1 file.records

@@ -3,7 +3,4 @@ pub mod Parts
 pub mod Laws
 pub mod Joining
 pub mod Loading
-pub mod Merging
-pub mod Counting
-pub mod Asking
 pub mod Scripts

@@ -10,8 +10,7 @@ use Rattle.parts.specs.Faults.{IsBehind}
 use Rattle.parts.specs.Part.{said_part, whole_part}
 use Rattle.trajdb.specs.Answers.{book_with, load_of}
 use Rattle.trajdb.specs.declared.Counts.{Counts}
-use Rattle.together.specs.Joining.{ArePartsOf, FitEach, Fits, file_part}
-use Rattle.together.specs.Parts.{IsPartOf, IsTold}
+use Rattle.together.specs.Parts.{ArePartsOf, FitEach, Fits, IsPartOf, IsTold, file_part}
 
 -- the bytes say part k of n of what others say, where those have no fault, as `part` and `parts` of the crate `parts`
 -- make them

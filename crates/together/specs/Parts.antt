@@ -1,8 +1,12 @@
--- A part of a book, by a function that gives each name the number of its part.
-use Rattle.std.specs.Prelude.{ℕ, ◌≡◌, ◌≢◌, ◌==◌, ◌++◌, ◌∷◌, [], Bool, if◌then◌else◌, List, filter, All, AllPairs}
+-- A part of a book and of a file, by a function that gives each name the number of its part.
+use Rattle.std.specs.Prelude.{ℕ, ◌+◌, ◌≡◌, ◌≢◌, ◌≤◌, ◌<◌, ◌==◌, ◌++◌, ◌∷◌, [], Bool, if◌then◌else◌, List, filter, length, All, AllPairs}
 use Rattle.mfcsv.specs.Views.{RecordView}
-use Rattle.legs.specs.Book.{Book, with_record, is_before, name_end}
+use Rattle.mfcsv.specs.declared.File.{File}
+use Rattle.legs.specs.Book.{Book, with_record, with_records, is_before, name_end}
 use Rattle.legs.specs.Law.{IsThere}
+use Rattle.legs.specs.Limits.{LimitsView}
+use Rattle.legs.specs.declared.joining.JoinCode.{JoinCode}
+use Rattle.legs.specs.declared.joining.JoinCode.TheVariants.{F18}
 use Rattle.writer.specs.Entries.{NamedLegView}
 use Rattle.together.specs.Told.{all_told}
 
@@ -42,3 +46,34 @@ late_one book r = if is_before r.t0 (name_end book r.mfidref) then r ∷ [] else
 abbrev pub late : Book → List RecordView → List RecordView
 late book [] = []
 late book (r ∷ records) = late_one book r ++ late (with_record book r) records
+
+-- the file with the records of part k alone, under their numbers
+abbrev pub file_part : (List ℕ → ℕ) → ℕ → File → File
+file_part f k file = record file { records = own_records f k file.records }
+
+-- fault F18 of a record
+abbrev pub late_fault : RecordView → JoinCode × ℕ
+late_fault r = (F18, r.number)
+
+-- the book with these records is within the limits
+pub record Fits (limits : LimitsView) (book : Book) (records : List RecordView) : Type 0 where
+  pub legs : length (with_records book records).legs ≤ limits.legs
+  pub features : length (with_records book records).names ≤ limits.features
+
+-- books, each part k of the whole
+pub record ArePartsOf (f : List ℕ → ℕ) (n : ℕ) (whole : Book) (parts : ℕ → Book) : Type 0 where
+  pub some : 0 < n
+  pub within : (name : List ℕ) → f name < n
+  pub whole_told : IsTold whole
+  pub each : (k : ℕ) → k < n → IsPartOf f k whole (parts k)
+  pub each_told : (k : ℕ) → k < n → IsTold (parts k)
+
+-- the parts are within limits of their own with their records
+abbrev pub FitEach : (List ℕ → ℕ) → ℕ → (ℕ → LimitsView) → (ℕ → Book) → List RecordView → Type 0
+FitEach f n own_limits parts records =
+    (k : ℕ) → k < n → Fits (own_limits k) (parts k) (own_records f k records)
+
+-- the records have rising numbers, from m on
+abbrev pub Rises : ℕ → List RecordView → Type 0
+Rises m [] = Unit {0}
+Rises m (r ∷ records) = (m ≤ r.number) × Rises (r.number + 1) records

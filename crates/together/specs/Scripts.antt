@@ -7,9 +7,9 @@ use Rattle.parts.specs.Names.{part_of}
 use Rattle.trajdb.specs.Answers.{AcceptsLine, line_book}
 use Rattle.trajdb.specs.Files.{file_named}
 use Rattle.trajdb.specs.Run.{IsRunText, run_book}
-use Rattle.together.specs.Asking.{SayTogether}
-use Rattle.together.specs.Joining.{ArePartsOf}
+use Rattle.together.specs.Laws.{SayTogether}
 use Rattle.together.specs.Loading.{IsPartText}
+use Rattle.together.specs.Parts.{ArePartsOf}
 
 -- each part has, under the name of each file of the whole, its part of that file
 abbrev pub HaveParts : ℕ → List (List ℕ × List ℕ) → (ℕ → List (List ℕ × List ℕ)) → Type 0

@@ -7,47 +7,25 @@ use Rattle.together.proofs.ToldLemmas.{box_law, legs_law, legs_told, names_told}
 use Rattle.together.proofs.LineLemmas.{line_law}
 use Rattle.together.proofs.answer_laws.Goals as goal
 
-pub returns-clause-legs_text : goal.returns-clause-legs_text
-returns-clause-legs_text c = legs_told
-
-pub returns-clause-names_text : goal.returns-clause-names_text
-returns-clause-names_text c = names_told
-
-pub returns-clause-by_box : goal.returns-clause-by_box
-returns-clause-by_box c = box_law
-
-pub returns-clause-by_predicate : goal.returns-clause-by_predicate
-returns-clause-by_predicate c = legs_law
-
-pub returns-clause-of_features : goal.returns-clause-of_features
-returns-clause-of_features c = features_law
-
-pub returns-clause-trajectory : goal.returns-clause-trajectory
-returns-clause-trajectory c = trajectory_law
-
-pub returns-clause-counts : goal.returns-clause-counts
-returns-clause-counts c = count_law
-
-pub returns-clause-book : goal.returns-clause-book
-returns-clause-book c = book_law
-
-pub returns-clause-legs_merge : goal.returns-clause-legs_merge
-returns-clause-legs_merge c = legs_merge
-
-pub returns-clause-names_merge : goal.returns-clause-names_merge
-returns-clause-names_merge c = names_merge
-
-pub returns-clause-box_merge : goal.returns-clause-box_merge
-returns-clause-box_merge c = box_merge
-
-pub returns-clause-legs_answer_merge : goal.returns-clause-legs_answer_merge
-returns-clause-legs_answer_merge c = legs_answer_merge
-
-pub returns-clause-features_answer_merge : goal.returns-clause-features_answer_merge
-returns-clause-features_answer_merge c = features_answer_merge
-
-pub returns-clause-lines : goal.returns-clause-lines
-returns-clause-lines c = line_law
-
-pub returns-clause-track : goal.returns-clause-track
-returns-clause-track c = track_law
+pub returns : goal.returns
+returns c = record {
+  legs_text = legs_told;
+  names_text = names_told;
+  part = λ f k whole part of. record {
+    by_box = λ query. box_law f k whole part query of;
+    by_predicate = λ predicate rect period all own. legs_law f k whole part predicate rect period all own of;
+    of_features = λ predicate rect period all own. features_law f k whole part predicate rect period all own of;
+    trajectory = λ name. trajectory_law f k whole part name of;
+    track = λ name of_name. track_law f k whole part name of_name of;
+  };
+  legs_merge = legs_merge;
+  names_merge = names_merge;
+  parts = λ f n whole parts are. record {
+    counts = count_law f n whole parts are;
+    lines = λ limits own_limits files own_files line text own. line_law f n whole parts limits own_limits files own_files line text own are;
+    box_merge = λ query. box_merge f n whole parts query are;
+    legs_answer_merge = λ predicate rect period all own. legs_answer_merge f n whole parts predicate rect period all own are;
+    features_answer_merge = λ predicate rect period all own. features_answer_merge f n whole parts predicate rect period all own are;
+  };
+  book = book_law;
+}

@@ -4,38 +4,22 @@ use Rattle.together.proofs.RiseLemmas.{rises_law}
 use Rattle.together.proofs.SumLemmas.{load_count_law}
 use Rattle.together.proofs.joining_laws.Goals as goal
 
-pub returns-clause-late : goal.returns-clause-late
-returns-clause-late c = late_law
-
-pub returns-clause-stays : goal.returns-clause-stays
-returns-clause-stays c = part_law
-
-pub returns-clause-faults : goal.returns-clause-faults
-returns-clause-faults c = faults_law
-
-pub returns-clause-fits : goal.returns-clause-fits
-returns-clause-fits c = fits_law
-
-pub returns-clause-part_faults : goal.returns-clause-part_faults
-returns-clause-part_faults c = part_faults_law
-
-pub returns-clause-part_fits : goal.returns-clause-part_fits
-returns-clause-part_fits c = part_fits_law
-
-pub returns-clause-accepts : goal.returns-clause-accepts
-returns-clause-accepts c = accept_law
-
-pub returns-clause-first : goal.returns-clause-first
-returns-clause-first c = first_law
-
-pub returns-clause-after : goal.returns-clause-after
-returns-clause-after c = stay_law
-
-pub returns-clause-least : goal.returns-clause-least
-returns-clause-least c = least_law
-
-pub returns-clause-rises : goal.returns-clause-rises
-returns-clause-rises c = rises_law
-
-pub returns-clause-counted : goal.returns-clause-counted
-returns-clause-counted c = load_count_law
+pub returns : goal.returns
+returns c = record {
+  part = λ f k whole part of is own_is. record {
+    too_early = λ records. late_law f k whole part records of is own_is;
+    stays = λ records. part_law f k whole part records of is own_is;
+    part_fits = λ limits records. part_fits_law f k whole part limits records of is own_is;
+    part_faults = λ own_limits file. part_faults_law f k whole part own_limits file of is own_is;
+    after = λ limits own_limits file a b. stay_law f k whole part limits own_limits file a b of is own_is;
+  };
+  parts = λ f n whole parts are. record {
+    accepts = λ limits own_limits file. accept_law f n whole parts limits own_limits file are;
+    counted = λ limits own_limits file legs own. load_count_law f n whole parts limits own_limits file legs own are;
+  };
+  faults = faults_law;
+  fits = fits_law;
+  first = first_law;
+  least = least_law;
+  rises = rises_law;
+}
