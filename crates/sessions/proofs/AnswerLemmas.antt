@@ -1,8 +1,7 @@
 -- What a run of the program sends, and what its store then holds.
 use Rattle.std.proofs.lemmas.Int.{clamps}
-use Rattle.std.proofs.Common.{arith, ℕ, ◌≡◌, ◌≤◌, ◌⊎◌, ◌∙◌, ap, refl, sym, inl, inr, [], append-nil, length, true, false, Bool, IsTrue, List, Option, Some, Result, Ok, Err, subst}
-use Rattle.std.proofs.lemmas.List.{take_all}
-use Rattle.std.specs.Prelude.{IfErr, IfOk, IsErrOf, OnErr, OnOk}
+use Rattle.std.proofs.Common.{arith, ◌≡◌, ◌≤◌, ◌⊎◌, ◌∙◌, sym, inl, inr, true, false, IsTrue, Some, Result, Ok, Err, subst}
+use Rattle.std.specs.Prelude.{IfErr, IfOk, OnErr, OnOk}
 use Rattle.legs.specs.Book.{Book, empty_book}
 use Rattle.legs.specs.Costs.{ShapeView}
 use Rattle.legs.specs.Limits.{LimitsView}
@@ -11,68 +10,18 @@ use Rattle.boxsearch.specs.Index.{words}
 use Rattle.catalogue.specs.Holding.{HoldsBook, HoldsButFirst, IsUnfinishedStore}
 use Rattle.catalogue.specs.Beginning.{IsLeftOver}
 use Rattle.register.specs.Saving.{IsSavingStop}
-use Rattle.trajdb.specs.Calls.{IsLoadFault, KeepsPages, LeavesBook}
+use Rattle.trajdb.specs.Calls.{IsLoadFault}
 use Rattle.trajdb.specs.Db.{DbView, HasPages, IsSoundDb}
 use Rattle.trajdb.specs.Lasting.{HasBook, IsClosingFault, IsFaultless, IsIdle}
-use Rattle.trajdb.specs.Faults.{IsNotOutput}
-use Rattle.trajdb.specs.Run.{HasCutRun, HasRun, HasStopped, IsCut, IsRunText, Runs, Stops}
 use Rattle.register.specs.declared.fault.CatalogueFault.{CatalogueFault}
 use Rattle.register.specs.declared.fault.CatalogueFault.TheVariants as opening
 use Rattle.trajdb.specs.declared.RunFault.{RunFault}
 use Rattle.trajdb.specs.declared.RunFault.TheVariants as run
-use Rattle.trajdb.specs.Checking.{Reports}
-use Rattle.trajdb.specs.declared.Report.{Report}
-use Rattle.sessions.specs.Answers.{Answers, Checks, IsNotOver, IsOverFault, SendsFront}
+use Rattle.sessions.specs.Answers.{IsNotOver, IsOverFault}
 use Rattle.sessions.specs.declared.fault.Fault.TheVariants.{Run, Open}
 
 pub the_same : (x y : ShapeView) → Some x ≡ Some y → x ≡ y
 the_same x y e = cc
-
--- a run that is answered, and a database that is closed then
-pub answered : (old new : DbView) (s : Store) (files : List (List ℕ × List ℕ)) (sent sent' : Option (List ℕ)) (lines : List (List ℕ)) (r : Result (Unit {0}) RunFault)
-    → (IsSoundDb old → Runs files sent sent' old new lines) → (IsSoundDb old → IsSoundDb new) → KeepsPages words old new → (IsIdle old → IsIdle new) → new.limits ≡ old.limits → words.plan new.index ≡ words.plan old.index
-    → OnOk r (IsSoundDb new → HasPages new → IsIdle new → HoldsBook s new.index.tree.shape new.limits new.book)
-    → OnOk r (IsSoundDb old → HasPages old → IsIdle old → Answers old.index.tree.shape old.limits old.book files sent sent' lines s)
-answered old new s files sent sent' lines (Ok x) runs sound keeps idle limits plan holds = λ is pages rests. record {
-  after = new.book;
-  run = runs is;
-  holds = subst (λ k. HoldsBook s k old.limits new.book) (the_same new.index.tree.shape old.index.tree.shape plan)
-      (subst (λ l. HoldsBook s new.index.tree.shape l new.book) limits (holds (sound is) (keeps.pages is.index.faithful pages) (idle rests)));
-}
-answered old new s files sent sent' lines (Err e) runs sound keeps idle limits plan holds = tt
-
--- what was sent of a run that was done, and whose database was then not closed
-abbrev pub front_done : (limits : LimitsView) (book new : Book) (files : List (List ℕ × List ℕ)) (sent sent' : Option (List ℕ)) (lines : List (List ℕ)) → HasRun limits files sent sent' book new lines → SendsFront limits book files sent sent' lines
-front_done limits book new files sent sent' lines r = record {
-  front = r.text;
-  sends = r.sends;
-  done = length lines;
-  text = r.text;
-  answers = subst (λ l. IsRunText limits files book l r.text) (sym (take_all (length lines) lines (omega arith))) r.answers;
-  is_front = ([], sym (append-nil r.text));
-}
-
--- of one that stopped at a line
-abbrev pub front_stopped : (limits : LimitsView) (book new : Book) (files : List (List ℕ × List ℕ)) (sent sent' : Option (List ℕ)) (lines : List (List ℕ)) (failed : Bool) (k : ℕ) → HasStopped limits files sent sent' book new failed lines k → SendsFront limits book files sent sent' lines
-front_stopped limits book new files sent sent' lines failed k s = record { front = s.text; sends = s.sends; done = k; text = s.text; answers = s.answers; is_front = ([], sym (append-nil s.text)) }
-
--- of one whose output failed
-abbrev pub front_cut : (limits : LimitsView) (book new : Book) (files : List (List ℕ × List ℕ)) (sent sent' : Option (List ℕ)) (lines : List (List ℕ)) (k : ℕ) → HasCutRun limits files sent sent' book new lines k → SendsFront limits book files sent sent' lines
-front_cut limits book new files sent sent' lines k c = record { front = c.written; sends = c.sends; done = k; text = c.all; answers = c.answers; is_front = c.prefix }
-
--- of one that is refused
-module _ (old new : DbView) (files : List (List ℕ × List ℕ)) (sent sent' : Option (List ℕ)) (lines : List (List ℕ)) where
-  stopped : Stops files sent sent' old new lines → SendsFront old.limits old.book files sent sent' lines
-  stopped s = front_stopped old.limits old.book new.book files sent sent' lines new.failed s.0 s.1
-
-  pub front_sent : (e : RunFault) → (IsErrOf {T = Unit {0}} {E = RunFault} (Err e) run.Output → IsSoundDb old → IsCut files sent sent' old new lines) → (IsNotOutput e → old.failed ≡ false → IsSoundDb old → Stops files sent sent' old new lines)
-      → IsSoundDb old → old.failed ≡ false → SendsFront old.limits old.book files sent sent' lines
-  front_sent run.Memory cut stops sound lives = stopped (stops tt lives sound)
-  front_sent run.Store cut stops sound lives = stopped (stops tt lives sound)
-  front_sent (run.Damaged page) cut stops sound lives = stopped (stops tt lives sound)
-  front_sent run.StoreFull cut stops sound lives = stopped (stops tt lives sound)
-  front_sent run.Failed cut stops sound lives = stopped (stops tt lives sound)
-  front_sent run.Output cut stops sound lives = let c = cut refl sound in front_cut old.limits old.book new.book files sent sent' lines c.0 c.1
 
 -- a fact holds where there is an error
 pub on_error : {T E : Type 0} (P : Type 0) (r : Result T E) → P → OnErr r P
@@ -126,26 +75,20 @@ err_of P r e is h = subst (λ k. IfErr k P) is h
 pub over_open : (new left : Store) (e : CatalogueFault) → IsSavingStop e → IsLeftOver new left → IsNotOver new left (Open e)
 over_open new left opening.Memory a l = l
 over_open new left opening.Store a l = l
-over_open new left (opening.Damaged page) a l = a
 over_open new left opening.StoreFull a l = l
-over_open new left opening.Unfinished a l = a
-over_open new left opening.Version a l = a
-over_open new left opening.Malformed a l = a
+over_open new left _ a l = a
 
 -- a store that is full, or that failed, in the closing
 pub closing_fault : (old after new left : Store) (db : DbView) (e : RunFault) → db.failed ≡ false → new.faults ≤ db.index.cache.store.faults → IsClosingFault db left e → IsOverFault old after new left (Run e)
-closing_fault old after new left db run.Memory lives l h = tt
 closing_fault old after new left db run.Store lives l h = omega (arith, clamps, l, h)
-closing_fault old after new left db (run.Damaged page) lives l h = tt
 closing_fault old after new left db run.StoreFull lives l h = h
 closing_fault old after new left db run.Failed lives l h = let wrong : true ≡ false = sym h ∙ lives in absurd cc
 closing_fault old after new left db run.Output lives l h = h
+closing_fault old after new left db _ lives l h = tt
 
 -- or not closed
 pub over_run : (new left : Store) (e : RunFault) → IsLoadFault e → (IsFaultless e → IsUnfinishedStore left) → IsNotOver new left (Run e)
 over_run new left run.Memory a u = inr (inl (u tt))
 over_run new left run.Store a u = tt
-over_run new left (run.Damaged page) a u = a
 over_run new left run.StoreFull a u = inr (inl (u tt))
-over_run new left run.Failed a u = a
-over_run new left run.Output a u = a
+over_run new left _ a u = a

@@ -14,7 +14,7 @@ use Rattle.header.specs.Fields.{header_payload}
 use Rattle.pages.specs.declared.unsynced.Unsynced.TheVariants.{Others}
 use Rattle.catalogue.specs.Holding.{HoldsBook}
 use Rattle.register.specs.Saving.{IsSavingStop}
-use Rattle.trajdb.specs.Db.{capacity_of, shape_of, store_of, DbView, HasPages, IsCaused, IsSoundDb}
+use Rattle.trajdb.specs.Db.{capacity_of, shape_of, store_of, DbView, HasPages, IsCaused}
 use Rattle.trajdb.specs.Lasting.{HasBook, IsIdle}
 use Rattle.trajdb.proofs.SafeLemmas.{apart}
 use Rattle.trajdb.specs.Calls.{IsLoadFault}

@@ -1,17 +1,16 @@
 -- Which pages stay as they were written, and what is synced.
-use Rattle.std.proofs.Common.{ℕ, ◌≡◌, ◌⊎◌, ◌∙◌, ap, cond, refl, sym, inl, inr, [], take, true, false, Bool, IsTrue, List, Result, Ok, Err, subst}
+use Rattle.std.proofs.Common.{◌≡◌, ◌⊎◌, ◌∙◌, ap, cond, refl, sym, inl, inr, [], take, true, false, Bool, IsTrue, Result, Ok, Err, subst}
 use Rattle.std.specs.Prelude.{OnOk}
 use Rattle.pages.specs.Store.{IsSynced, Store}
 use Rattle.pagecache.specs.Cache.{pages_as_written}
 use Rattle.legs.specs.Finding.{Finding}
 use Rattle.boxsearch.specs.Index.{words, written, IndexView}
-use Rattle.trajdb.specs.Calls.{Begins, KeepsPages, LeavesBook}
+use Rattle.trajdb.specs.Calls.{KeepsPages, LeavesBook}
 use Rattle.trajdb.specs.Db.{DbView}
 use Rattle.trajdb.specs.Lasting.{IsIdle}
-use Rattle.trajdb.specs.Run.{AcceptsSome}
 use Rattle.trajdb.specs.declared.RunFault.{RunFault}
 use Rattle.trajdb.specs.declared.RunFault.TheVariants as run
-use Rattle.sessions.specs.Answers.{HasWritten, RunBegins}
+use Rattle.sessions.specs.Answers.{HasWritten}
 
 -- the pages as written of an index over a faithful store
 written_is : (i : IndexView) → IsTrue i.cache.store.is_faithful → written i ≡ take i.cache.count i.cache.store.pages
@@ -42,13 +41,3 @@ closed_lasts old new s (Ok x) keeps synced same fails faithful idle = by_state n
   by_state false is false lives false unbegun =
       let leaves = keeps.idle is lives in
       inr (left_written old new s leaves (same lives is) faithful idle unbegun (sym leaves.failed ∙ lives))
-
--- a run that begins a database, and its closing
-pub synced_both : (old new : DbView) (s : Store) (files : List (List ℕ × List ℕ)) (lines : List (List ℕ)) (ran closed : Result (Unit {0}) RunFault)
-    → OnOk ran (Begins words old new (AcceptsSome old.limits files old.book lines)) → (old.begun ≡ true → new.begun ≡ true) → OnOk closed (new.begun ≡ true → IsSynced s) → OnOk ran (OnOk closed (RunBegins old files lines → IsSynced s))
-synced_both old new s files lines (Err e) closed begins stays synced = tt
-synced_both old new s files lines (Ok x) (Err e) begins stays synced = tt
-synced_both old new s files lines (Ok x) (Ok y) begins stays synced = by where
-  by : RunBegins old files lines → IsSynced s
-  by (inl begun) = synced (stays begun)
-  by (inr (sound, accepts)) = synced ((begins sound).1 (inr accepts))

@@ -11,7 +11,7 @@ use Rattle.catalogue.specs.Holding.{HoldsBook, HoldsButFirst, IsUnfinishedStore}
 use Rattle.catalogue.specs.Beginning.{IsLeftOver}
 use Rattle.version1.specs.Migrating.{IsMigratingFault}
 use Rattle.trajdb.specs.Calls.{IsLoadFault, LoadsBy, Speaks}
-use Rattle.trajdb.specs.Db.{page_count_of, shape_of, store_of, DbView, HasPages, IsSoundDb}
+use Rattle.trajdb.specs.Db.{page_count_of, shape_of, DbView, HasPages, IsSoundDb}
 use Rattle.trajdb.specs.Faults.{IsNotOutput}
 use Rattle.trajdb.specs.Lasting.{IsFaultless, IsIdle, IsSafe, IsSafeStore}
 use Rattle.trajdb.specs.Promises.{CheckCall, CloseCall, KeepsStore, RunCall}
@@ -131,11 +131,6 @@ pub record RunsAndCloses {O : Type 0} (shown : O → OutputView) (db : DbView)
   pub ends : IsSoundDb db → HasPages db → IsIdle db → db.failed ≡ false
       → Ends db files (shown out).contents (shown out').contents lines ran closed store
 
--- a run over a database begins it: it had begun, or it is sound, and a file is accepted
-abbrev pub RunBegins : DbView → List (List ℕ × List ℕ) → List (List ℕ) → Type 0
-RunBegins db files lines =
-    (db.begun ≡ true) ⊎ (IsSoundDb db × AcceptsSome db.limits files db.book lines)
-
 -- how a run and its closing are answered: the run's own fault comes first
 abbrev pub said : Result (Unit {0}) RunFault → Result (Unit {0}) RunFault → Result (Unit {0}) Fault
 said (Ok x) (Ok y) = Ok tt
@@ -190,16 +185,6 @@ pub record ChecksAndCloses (db : DbView) (store : Store)
   pub check : CheckCall db between checked
   pub keeps : KeepsStore db between
   pub close : CloseCall between store closed
-
--- why a database does not pass its check, or is not closed then: its store failed, where that is said, or is full, as only
--- the closing of one that had begun says, and it had failed before, or takes no more legs, where it is said to have failed
-abbrev pub IsCheckFault : DbView → Store → RunFault → Type 0
-IsCheckFault db left run.Memory = Unit {0}
-IsCheckFault db left run.Store = Faulted (store_of db) left
-IsCheckFault db left (run.Damaged page) = Unit {0}
-IsCheckFault db left run.StoreFull = (db.begun ≡ true) × (left.count ≡ left.most)
-IsCheckFault db left run.Failed = (db.failed ≡ true) ⊎ (words.is_spent db.index ≡ true)
-IsCheckFault db left run.Output = ⊥
 
 -- a store failed, or is full, where that is said of bringing one over: either store, or in the closing the new one
 abbrev pub IsOverFault : (old after new left : Store) → Fault → Type 0

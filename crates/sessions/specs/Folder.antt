@@ -22,7 +22,7 @@ use Rattle.trajdb.specs.declared.RunFault.TheVariants.{Failed, Memory, Output, S
 use Rattle.sessions.specs.Answers.{new_shape, IsAtLoad, SendsLines}
 use Rattle.sessions.specs.declared.fault.Fault.{Fault}
 use Rattle.sessions.specs.declared.folder_refusals.FolderRefusals.{FolderRefusals}
-use Rattle.sessions.specs.declared.fault.Fault.TheVariants.{InUse, NoStore, Run}
+use Rattle.sessions.specs.declared.fault.Fault.TheVariants.{CannotRead, InUse, NoStore, Run}
 
 -- the pages of the file of that name at each moment so far, the last one first; `None` where there was no file
 abbrev pub History : Type 0
@@ -199,3 +199,9 @@ pub record OpensOrMakes {S : Type 0} (seen : S → Store) (store : Store) (is_ne
     (limits : LimitsView) (cache_pages : ℕ) (opened : Result DbView (S × CatalogueFault)) : Type 0 where
   pub opens : (is_new ≡ false) ⊎ (0 < store.count) → OpenCall seen store cache_pages opened
   pub makes : IsTrue is_new → store.count ≡ 0 → Makes seen store limits cache_pages opened
+
+-- memory ran out, or the file of that name is said not to be read
+abbrev pub IsUnreadFile : List ℕ → Fault → Type 0
+IsUnreadFile name (Run why) = why ≡ Memory
+IsUnreadFile name (CannotRead said cause) = said.now ≡ name
+IsUnreadFile name _ = ⊥

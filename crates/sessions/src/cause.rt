@@ -28,10 +28,9 @@ pub enum Cause {
 }
 
 impl From<io::ErrorKind> for Cause {
-    ghost use Rattle.std.specs.Prelude.{◌≡◌};
-    ghost use Rattle.sessions.specs.Causes.{cause_of};
+    ghost use Rattle.std.specs.Prelude.{⊤};
 
-    ghost from_gives = { λ kind cause. cause ≡ cause_of kind };
+    ghost from_gives = { λ kind cause. ⊤ };
 
     fn from(kind: io::ErrorKind) -> Cause {
         match kind {
@@ -48,11 +47,6 @@ impl From<io::ErrorKind> for Cause {
 }
 
 impl Display for Cause {
-    ghost use Rattle.std.specs.Prelude.{Some};
-    ghost use Rattle.sessions.specs.Texts.{cause_text};
-
-    ghost output = { λ c. Some (cause_text c) };
-
     fn fmt<W: fmt::Write>(&self, f: &mut Formatter<W>) -> fmt::Result {
         f.write_str(match self {
             Cause::Absent => "there is no such file or folder",

@@ -1,10 +1,8 @@
 //! A database that is checked, and closed.
-ghost use Rattle.std.specs.Prelude.{◌≡◌, false, true, IfErr, IfOk, IsTrue, OnOk};
-ghost use Rattle.pages.specs.Store.{IsSynced};
-ghost use Rattle.trajdb.specs.Calls.{IsLoadFault};
-ghost use Rattle.trajdb.specs.Db.{shape_of, store_of, HasPages, IsSoundDb};
+ghost use Rattle.std.specs.Prelude.{◌≡◌, false, IfOk, IsTrue};
+ghost use Rattle.trajdb.specs.Db.{store_of, HasPages, IsSoundDb};
 ghost use Rattle.trajdb.specs.Lasting.{IsIdle};
-ghost use Rattle.sessions.specs.Answers.{said_checked, Checks, ChecksAndCloses, HasWritten, HoldsOrNot, IsCheckFault};
+ghost use Rattle.sessions.specs.Answers.{said_checked, Checks, ChecksAndCloses, HasWritten, HoldsOrNot};
 
 use pages::PageStore;
 use std::alloc::Global;
@@ -47,18 +45,9 @@ pub fn check_and_close<S: PageStore>(
         → database.begun ≡ false → database.failed ≡ false
         → HasWritten database (S.seen result.0) }
 
-    // Where the database had begun, all of the store is synced where it passes.
-    ensures synced { OnOk result.1 (database.begun ≡ true → IsSynced (S.seen result.0)) }
-
-    // Be it sound or not, it is checked as `Db::check` does it, and closed as `Db::close` does it.
+    // Be it sound or not, it is checked as `Db::check` does it, and closed as `Db::close` does it: so
+    // it is refused, and so the store is synced.
     ensures both { ChecksAndCloses database (S.seen result.0) result.1 }
-
-    // A sound database fails only if memory runs out, or the store fails or is full.
-    ensures stops { IfErr result.1 (λ fault. IsSoundDb database → HasPages database
-        → IsIdle database → database.failed ≡ false → IsLoadFault fault) }
-    // `Store` is returned only if the store failed, `StoreFull` only if it is full and the database
-    // had begun, and `Failed` only of a failed or spent database.
-    ensures caused { IfErr result.1 (IsCheckFault database (S.seen result.0)) }
 {
     let checked = database.check();
     let (store, closed) = database.close(alloc);

@@ -1,6 +1,5 @@
 //! Why the program failed.
-ghost use Rattle.std.specs.Prelude.{◌≡◌, ◌↔◌, IsTrue};
-ghost use Rattle.sessions.specs.Texts.{bounds_words, status_of, IsOfStore};
+ghost use Rattle.std.specs.Prelude.{◌≡◌};
 
 use crate::cause::Cause;
 use crate::rects_fault::{RectsFault, rects_text};
@@ -41,9 +40,7 @@ pub enum Fault<'a> {
 
 impl Fault<'_> {
     /// The exit status of the program: 2 where its words are wrong, else 1.
-    pub fn status(&self) -> u8
-        ensures { result ≡ status_of self.now }
-    {
+    pub fn status(&self) -> u8 {
         match self {
             Fault::NoPart(..) | Fault::OtherLimits(..) | Fault::Bounds(_) | Fault::Rects(..) => 2,
             _ => 1,
@@ -51,9 +48,7 @@ impl Fault<'_> {
     }
 
     /// Whether a store that failed is the fault.
-    pub fn is_of_store(&self) -> bool
-        ensures { IsTrue result ↔ IsOfStore self.now }
-    {
+    pub fn is_of_store(&self) -> bool {
         match self {
             Fault::Run(fault) => *fault == RunFault::Store,
             Fault::Open(fault) => *fault == OpenFault::Store,
@@ -98,9 +93,7 @@ impl From<OpenFault> for Fault<'_> {
 }
 
 /// Why a rectangle or a period is refused.
-pub(crate) fn bounds_text(code: LineCode) -> &'static str
-    ensures { result.now ≡ bounds_words code }
-{
+pub(crate) fn bounds_text(code: LineCode) -> &'static str {
     match code {
         LineCode::Q5 => "a coordinate is no number, or out of range",
         LineCode::Q6 => "X1 is above X2, or Y1 above Y2",
@@ -112,11 +105,6 @@ pub(crate) fn bounds_text(code: LineCode) -> &'static str
 
 /// What the fault's line says after `mftb: `.
 impl Display for Fault<'_> {
-    ghost use Rattle.std.specs.Prelude.{Some};
-    ghost use Rattle.sessions.specs.Texts.{fault_text};
-
-    ghost output = { λ f. Some (fault_text f) };
-
     fn fmt<W: fmt::Write>(&self, f: &mut Formatter<W>) -> fmt::Result {
         match self {
             Fault::Run(RunFault::Memory) | Fault::Open(OpenFault::Memory) => f.write_str("memory"),

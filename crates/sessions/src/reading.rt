@@ -1,6 +1,6 @@
 //! Files of the system that are read whole.
 ghost use Rattle.std.specs.Prelude.{◌≤◌, IfErr, IfOk, vec_len};
-ghost use Rattle.sessions.specs.Reading.{IsUnreadFile};
+ghost use Rattle.sessions.specs.Folder.{IsUnreadFile};
 
 use crate::cause::Cause;
 use crate::fault::Fault;

@@ -1,7 +1,4 @@
 //! Why a file of rectangles is refused.
-ghost use Rattle.std.specs.Prelude.{◌≡◌};
-ghost use Rattle.sessions.specs.Texts.{rects_words};
-
 use crate::fault::bounds_text;
 use querylang::LineCode;
 
@@ -21,9 +18,7 @@ pub enum RectsFault {
 }
 
 /// A reason, in words.
-pub(crate) fn rects_text(fault: RectsFault) -> &'static str
-    ensures { result.now ≡ rects_words fault }
-{
+pub(crate) fn rects_text(fault: RectsFault) -> &'static str {
     match fault {
         RectsFault::NotUtf8 => "a field is not UTF-8",
         RectsFault::NoColumns => "there are no columns name, x1, y1, x2 and y2",

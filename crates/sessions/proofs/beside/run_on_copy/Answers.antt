@@ -1,7 +1,7 @@
 use Rattle.std.proofs.Common.{◌≡◌, ◌⊎◌, ap, inr, refl, subst, Err}
 use Rattle.std.specs.Prelude.{IfErr}
 use Rattle.trajdb.specs.Script.{lines_of}
-use Rattle.sessions.specs.Folder.{FolderView, IsDropped, IsKept, IsRefusedByFolder, LeavesCopy, NameIsKept, OfEachBook, RunsBeside}
+use Rattle.sessions.specs.Folder.{FolderView, IsDropped, IsKept, IsRefusedByFolder, NameIsKept, OfEachBook, RunsBeside}
 use Rattle.sessions.proofs.FolderLemmas.{beside, each_book, each_err, every_book, map_ok, unsent_lines}
 use Rattle.sessions.proofs.beside.run_on_copy.Goals as goal
 

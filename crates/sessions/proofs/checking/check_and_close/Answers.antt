@@ -1,11 +1,8 @@
-use Rattle.std.proofs.Common.{◌≡◌, sym, subst, true, false}
-use Rattle.std.specs.Prelude.{IfErr, IfOk, IsTrue, OnOk}
-use Rattle.pages.specs.Store.{IsSynced}
-use Rattle.trajdb.specs.Calls.{IsLoadFault}
-use Rattle.trajdb.specs.Db.{HasPages, IsSoundDb}
+use Rattle.std.proofs.Common.{sym, subst}
+use Rattle.std.specs.Prelude.{IfOk, IsTrue}
 use Rattle.trajdb.specs.Lasting.{IsIdle}
-use Rattle.sessions.specs.Answers.{Checks, IsCheckFault}
-use Rattle.sessions.proofs.CheckLemmas.{caused, checks, left, stops, synced}
+use Rattle.sessions.specs.Answers.{Checks}
+use Rattle.sessions.proofs.CheckLemmas.{checks, left}
 use Rattle.sessions.proofs.WrittenLemmas.{checked_stays}
 use Rattle.sessions.proofs.checking.check_and_close.Goals as goal
 
@@ -24,13 +21,6 @@ pub returns-clause-stays : goal.returns-clause-stays
 returns-clause-stays g c =
     checked_stays c.args.database c.check-checked.new.self (g.S.PageStore.seen c.close-store.result.0) c.check-checked.ensures.call.leaves (λ l b. (c.close-store.ensures.idle l b).1)
 
-pub returns-clause-synced : goal.returns-clause-synced
-returns-clause-synced g c =
-    let old = c.args.database in
-    let s = g.S.PageStore.seen c.close-store.result.0 in
-    subst (λ r. OnOk r (old.begun ≡ true → IsSynced s)) (sym c.answer_of-answered.ensures)
-    (synced old c.check-checked.new.self s c.check-checked.ensures.keeps c.check-checked.result c.close-store.result.1 c.check-checked.ensures.call c.close-store.ensures)
-
 pub returns-clause-both : goal.returns-clause-both
 returns-clause-both g c = record {
   between = c.check-checked.new.self;
@@ -41,16 +31,3 @@ returns-clause-both g c = record {
   keeps = c.check-checked.ensures.keeps;
   close = c.close-store.ensures;
 }
-
-pub returns-clause-stops : goal.returns-clause-stops
-returns-clause-stops g c =
-    let old = c.args.database in
-    subst (λ r. IfErr r (λ fault. IsSoundDb old → HasPages old → IsIdle old → old.failed ≡ false → IsLoadFault fault)) (sym c.answer_of-answered.ensures)
-    (stops old c.check-checked.new.self (g.S.PageStore.seen c.close-store.result.0) c.check-checked.ensures.keeps c.check-checked.result c.close-store.result.1 c.check-checked.ensures.call c.close-store.ensures)
-
-pub returns-clause-caused : goal.returns-clause-caused
-returns-clause-caused g c =
-    let old = c.args.database in
-    let s = g.S.PageStore.seen c.close-store.result.0 in
-    subst (λ r. IfErr r (IsCheckFault old s)) (sym c.answer_of-answered.ensures)
-    (caused old c.check-checked.new.self s c.check-checked.ensures.keeps c.check-checked.result c.close-store.result.1 c.check-checked.ensures.call c.close-store.ensures)

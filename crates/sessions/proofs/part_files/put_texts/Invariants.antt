@@ -1,4 +1,4 @@
-use Rattle.std.proofs.Common.{◌≡◌, ◌≤◌, ◌+◌, map, take}
+use Rattle.std.proofs.Common.{◌≡◌, ◌+◌, map, take}
 use Rattle.sessions.specs.Parts.{numbered, with_puts}
 use Rattle.sessions.proofs.part_files.put_texts.Given as goal
 

@@ -1,14 +1,11 @@
 use Rattle.std.proofs.Common.{◌≡◌, false, sym, subst}
-use Rattle.std.specs.Prelude.{IfOk, IsErrOf, OnErr, OnOk}
-use Rattle.pages.specs.Store.{Faulted, IsSynced}
+use Rattle.std.specs.Prelude.{IfOk, OnErr, OnOk}
 use Rattle.trajdb.specs.Db.{DbView, HasPages, IsSoundDb}
 use Rattle.trajdb.specs.Lasting.{IsIdle}
 use Rattle.trajdb.specs.Script.{lines_of}
-use Rattle.trajdb.specs.declared.RunFault.TheVariants as run
-use Rattle.sessions.specs.declared.fault.Fault.TheVariants.{Run}
-use Rattle.sessions.specs.Answers.{Answers, RunBegins, RunsOver, SendsFront}
+use Rattle.sessions.specs.Answers.{Answers, RunsOver, SendsFront}
 use Rattle.sessions.proofs.AnswerLemmas.{on_error}
-use Rattle.sessions.proofs.LeftLemmas.{on_said, said_of}
+use Rattle.sessions.proofs.LeftLemmas.{on_said}
 use Rattle.sessions.proofs.session.answer.Goals as goal
 
 pub returns-in-Ok-clause-runs : goal.returns-in-Ok-clause-runs
@@ -35,18 +32,3 @@ returns-in-Ok-clause-over g c =
     let s = g.S.PageStore.seen r.0 in
     subst (λ k. RunsOver g.S.PageStore.seen g.O.Output.seen k c.args.files.now c.args.out.now c.run_and_close-store.new.out (lines_of c.args.script.now) c.answer_of.result c.answer_of-in-Ok.result s) (sym c.in-Ok.is)
     (r.1, r.2, c.answer_of.ensures, c.answer_of-in-Ok.ensures, c.run_and_close-store.ensures.both)
-
-pub returns-in-Ok-clause-caused : goal.returns-in-Ok-clause-caused
-returns-in-Ok-clause-caused g c =
-    let r = c.run_and_close-store.result in
-    let s = g.S.PageStore.seen r.0 in
-    subst (λ k. IfOk k (λ (d : DbView). IsErrOf c.answer_of.result (Run run.Store) → Faulted d.index.cache.store s)) (sym c.in-Ok.is)
-    (λ is. c.run_and_close-store.ensures.caused (said_of r.1 r.2 c.answer_of.result run.Store c.answer_of.ensures is))
-
-pub returns-in-Ok-clause-synced : goal.returns-in-Ok-clause-synced
-returns-in-Ok-clause-synced g c =
-    let r = c.run_and_close-store.result in
-    let s = g.S.PageStore.seen r.0 in
-    let lines = lines_of c.args.script.now in
-    subst (λ k. OnOk c.answer_of.result (IfOk k (λ (d : DbView). RunBegins d c.args.files.now lines → IsSynced s))) (sym c.in-Ok.is)
-    (on_said (RunBegins c.in-Ok.database c.args.files.now lines → IsSynced s) r.1 r.2 c.answer_of.result c.answer_of.ensures c.run_and_close-store.ensures.synced)
