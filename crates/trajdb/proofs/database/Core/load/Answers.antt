@@ -49,7 +49,7 @@ returns-in-Err-take g c =
       becomes = search rules;
       lives = search rules;
       failed = search rules;
-      stopped = record { sound = λ sound works. c.in-Err-take.ensures.sound is.0 sound (is.2 sound); store = c.in-Err-take.ensures.store };
+      stopped = record { sound = λ sound works. c.in-Err-take.ensures.sound is.0 sound (is.2 sound); store = search rules };
       later = search rules;
       refused = search rules;
       begun = search rules;

@@ -1,10 +1,10 @@
-use Rattle.std.proofs.Common.{◌<◌, arith, length, rules, subst}
+use Rattle.std.proofs.Common.{ℕ, ◌<◌, arith, length, rules, subst}
 use Rattle.std.proofs.lemmas.List.Elements.{All-more}
 use Rattle.trajdb.proofs.database.Core.names.Goals as goal
 
 pub loop-feature-preserved : goal.loop-feature-preserved
 loop-feature-preserved g c =
-    let P = λ feature. feature < length c.args.self.now.book.names in
+    let P : ℕ → Type 0 = λ feature. feature < length c.args.self.now.book.names in
     let t = c.loop-feature-test.true in
     record {
       names = search rules;
