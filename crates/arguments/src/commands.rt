@@ -1,5 +1,5 @@
 //! The words of the command line.
-use crate::forms::{Form, Word, command, with_words};
+use crate::forms::{Called, Form, Reading, Word, command};
 use crate::task::{
     Check, Corners, Gaps, Info, InfoForm, Migrate, Moments, Part, Parts, RowKind, Run, StoreMode,
     Task, Telling, ValueMode, Where, WriteMode, ZoneRowKind, Zones,
@@ -12,348 +12,274 @@ use std::alloc::{AllocError, Global};
 /// How many pages a cache holds where no word says it.
 const CACHE_PAGES: u32 = 256;
 
-/// The word `--cache-pages N`.
-fn cache_pages<'a>() -> Word<'a> {
-    Word::new(
-        Form::CountOr("256"),
-        "cache-pages",
-        "How many pages of the file are kept in memory, 4096 bytes each",
-    )
-}
+/// The word STORE.
+const STORE: Word<'static> = Word {
+    form: Form::Required,
+    name: "STORE",
+    help: "The file that keeps the database",
+};
 
-/// The word `--most-legs N`.
-fn most_legs<'a>() -> Word<'a> {
-    Word::new(
-        Form::Limit,
-        "most-legs",
-        "How many legs a STORE that is made takes, up to 2147483648 [default: 16777216]",
-    )
-}
+/// The word FILE.
+const FILE: Word<'static> = Word {
+    form: Form::Required,
+    name: "FILE",
+    help: "The file; it is read and not written",
+};
 
-/// The word `--most-features N`.
-fn most_features<'a>() -> Word<'a> {
-    Word::new(
-        Form::Limit,
-        "most-features",
-        "How many features a STORE that is made takes, up to 2147483648 [default: 1048576]",
-    )
-}
-
-/// The word `--explain`.
-fn explain<'a>() -> Word<'a> {
-    Word::new(
-        Form::Flag,
-        "explain",
-        "Say on standard error, in words, what went wrong; on a terminal it is said anyway",
-    )
-}
-
-/// The word `-q`.
-fn quiet<'a>() -> Word<'a> {
-    Word::new(
-        Form::FlagOrLetter('q'),
-        "quiet",
-        "Say on standard error only why the run could not go on",
-    )
-}
-
-/// The word `--columns`.
-fn columns<'a>() -> Word<'a> {
-    Word::new(
-        Form::Flag,
-        "columns",
-        "Print behind the record of a leg's stay the values of its attribute columns",
-    )
-}
-
-/// The word `--in-place`.
-fn in_place<'a>() -> Word<'a> {
-    Word::new(
-        Form::Flag,
-        "in-place",
-        "Load into the file itself and not into a copy: what is killed then loses the store",
-    )
-}
-
-/// The word `--existing`.
-fn existing<'a>() -> Word<'a> {
-    Word::new(
-        Form::Flag,
-        "existing",
-        "Refuse a STORE that is absent or empty, and make none",
-    )
-}
-
-/// The words of `mftb run`.
-fn run_command<'a>(alloc: Global) -> Result<Command<'a>, AllocError> {
-    let words = [
-        Word::new(
-            Form::Required,
-            "STORE",
-            "The file that keeps the database; it is made where it is absent or empty",
-        ),
-        Word::new(
-            Form::Required,
-            "SCRIPT",
-            "The file of the script, a command a line",
-        ),
-        Word::new(
-            Form::Names,
-            "FILES",
-            "The files that the script may load, by these names",
-        ),
-        cache_pages(),
-        most_legs(),
-        most_features(),
-        in_place(),
-        existing(),
-        Word::new(
-            Form::Flag,
-            "strict",
-            "End with status 3 where a line or a file was refused",
-        ),
-        explain(),
-        quiet(),
-        Word::new(
-            Form::Flag,
-            "progress",
-            "Say on standard error what the run is doing",
-        ),
-    ];
-    let about = "Runs a script over the database that a file keeps, and prints its answers";
-    command(alloc, "run", about, &words)
-}
-
-/// The words of `mftb check`.
-fn check_command<'a>(alloc: Global) -> Result<Command<'a>, AllocError> {
-    let words = [
-        Word::new(Form::Required, "STORE", "The file that keeps the database"),
-        cache_pages(),
-        explain(),
-        quiet(),
-    ];
-    command(
-        alloc,
-        "check",
-        "Checks that the pages of a file hold one database",
-        &words,
-    )
-}
-
-/// The words of `mftb migrate`.
-fn migrate_command<'a>(alloc: Global) -> Result<Command<'a>, AllocError> {
-    let words = [
-        Word::new(
-            Form::Required,
-            "OLD",
-            "The file of version 1; it is read and not written",
-        ),
-        Word::new(
-            Form::Required,
-            "NEW",
-            "The file that is to keep the database; it is absent or empty",
-        ),
-    ];
-    let about = "Brings the database of a file of version 1 over into a new file";
-    command(alloc, "migrate", about, &words)
-}
-
-/// The words of `mftb part`.
-fn part_command<'a>(alloc: Global) -> Result<Command<'a>, AllocError> {
-    let words = [
-        Word::new(Form::Count(0), "K", "The number of the part, from 0"),
-        Word::new(Form::Count(1), "N", "How many parts there are"),
-        Word::new(
-            Form::Required,
-            "FILE",
-            "The file; it is read and not written",
-        ),
-    ];
-    let about = "Prints the part of a file that has the features of one of several parts";
-    command(alloc, "part", about, &words)
-}
-
-/// The words of `mftb parts`.
-fn parts_command<'a>(alloc: Global) -> Result<Command<'a>, AllocError> {
-    let words = [
-        Word::new(Form::Count(1), "N", "How many parts there are"),
-        Word::new(
-            Form::Required,
-            "FILE",
-            "The file; it is read and not written",
-        ),
-        Word::new(
-            Form::Required,
-            "DIR",
-            "The folder; part K is its file part-K.csv, which is replaced where it is there",
-        ),
-        Word::new(Form::Number("K"), "first", "Write no part before this one"),
-        Word::new(Form::Number("C"), "count", "Write only so many parts"),
-    ];
-    command(
-        alloc,
-        "parts",
-        "Writes the parts of a file into a folder, 16 by one pass",
-        &words,
-    )
-}
-
-/// How the words of `mftb moments`, `zones` and `gaps` are read.
-#[derive(Clone, Copy)]
-struct Reading {
-    /// Whether a bound may be a number below 0.
-    takes_negative: bool,
-    /// Whether `--rects FILE` stands in the place of a rectangle.
-    has_rects: bool,
-}
-
-impl Reading {
-    /// How these words are read.
-    fn of(words: &[String]) -> Reading {
-        Reading {
-            takes_negative: has_negative(words),
-            has_rects: words.iter().any(|word| is_rects(word.as_str())),
-        }
-    }
-
-    /// What a bound is.
-    fn bound<'a>(self) -> Form<'a> {
-        if self.takes_negative {
-            Form::Bound
-        } else {
-            Form::Required
-        }
-    }
-}
-
-/// Whether a word is `--rects`, with its value or without.
-fn is_rects(word: &str) -> bool {
-    word == "--rects" || word.starts_with("--rects=")
-}
-
-/// The words of a rectangle.
-fn corners<'a>(bound: Form<'a>) -> [Word<'a>; 4] {
-    [
-        Word::new(bound, "X1", "The least x"),
-        Word::new(bound, "Y1", "The least y"),
-        Word::new(bound, "X2", "The greatest x"),
-        Word::new(bound, "Y2", "The greatest y"),
-    ]
-}
-
-/// The words of `mftb moments` behind those of a rectangle.
-fn moments_words<'a>(bound: Form<'a>) -> [Word<'a>; 9] {
-    let [first, last] = times(bound);
-    [
-        first,
-        last,
-        Word::new(
-            Form::Value("FILE"),
-            "rects",
-            "Ask of each rectangle of FILE (CSV: name,x1,y1,x2,y2), without X1 Y1 X2 Y2",
-        ),
-        Word::new(
-            Form::Flag,
-            "visits",
-            "Print a record a visit: the stays of a feature, joined over legs without a gap",
-        ),
-        Word::new(
-            Form::Flag,
-            "dwell",
-            "Print a record a feature: how long it stays in all",
-        ),
-        columns(),
-        cache_pages(),
-        explain(),
-        quiet(),
-    ]
-}
-
-/// The words of `mftb moments`.
-fn moments_command<'a>(alloc: Global, reading: Reading) -> Result<Command<'a>, AllocError> {
-    let bound = reading.bound();
-    let store = [Word::new(Form::Required, "STORE", "The file that keeps the database")];
-    let about = "Prints when legs are inside a rectangle in a period, as exact fractions";
-    let mut command = command(alloc, "moments", about, &store)?;
-    if !reading.has_rects {
-        command = with_words(alloc, command, &corners(bound))?;
-    }
-    with_words(alloc, command, &moments_words(bound))
-}
+/// The word N.
+const PARTS: Word<'static> = Word {
+    form: Form::Count(1),
+    name: "N",
+    help: "How many parts there are",
+};
 
 /// The words of a period.
-fn times<'a>(bound: Form<'a>) -> [Word<'a>; 2] {
-    [
-        Word::new(bound, "T1", "The first moment, as 2012-01-17T12:33:41Z"),
-        Word::new(bound, "T2", "The last moment"),
-    ]
-}
+const FIRST: Word<'static> = Word {
+    form: Form::Bound,
+    name: "T1",
+    help: "The first moment, as 2012-01-17T12:33:41Z",
+};
+
+const LAST: Word<'static> = Word {
+    form: Form::Bound,
+    name: "T2",
+    help: "The last moment",
+};
+
+/// The word `--cache-pages N`.
+const CACHE: Word<'static> = Word {
+    form: Form::CountOr("256"),
+    name: "cache-pages",
+    help: "How many pages of the file are kept in memory, 4096 bytes each",
+};
+
+/// The word `--explain`.
+const EXPLAIN: Word<'static> = Word {
+    form: Form::Flag,
+    name: "explain",
+    help: "Say on standard error, in words, what went wrong; on a terminal it is said anyway",
+};
+
+/// The word `-q`.
+const QUIET: Word<'static> = Word {
+    form: Form::FlagOrLetter('q'),
+    name: "quiet",
+    help: "Say on standard error only why the run could not go on",
+};
+
+/// The word `--columns`.
+const COLUMNS: Word<'static> = Word {
+    form: Form::Flag,
+    name: "columns",
+    help: "Print behind the record of a leg's stay the values of its attribute columns",
+};
+
+/// The word `--dwell`.
+const DWELL: Word<'static> = Word {
+    form: Form::Flag,
+    name: "dwell",
+    help: "Print a record a feature: how long it stays in all",
+};
+
+/// The words of `mftb run`.
+static RUN_WORDS: [Word<'static>; 12] = [
+    Word {
+        form: Form::Required,
+        name: "STORE",
+        help: "The file that keeps the database; it is made where it is absent or empty",
+    },
+    Word {
+        form: Form::Required,
+        name: "SCRIPT",
+        help: "The file of the script, a command a line",
+    },
+    Word {
+        form: Form::Names,
+        name: "FILES",
+        help: "The files that the script may load, by these names",
+    },
+    CACHE,
+    Word {
+        form: Form::Limit,
+        name: "most-legs",
+        help: "How many legs a STORE that is made takes, up to 2147483648 [default: 16777216]",
+    },
+    Word {
+        form: Form::Limit,
+        name: "most-features",
+        help: "How many features a STORE that is made takes, up to 2147483648 [default: 1048576]",
+    },
+    Word {
+        form: Form::Flag,
+        name: "in-place",
+        help: "Load into the file itself and not into a copy: what is killed then loses the store",
+    },
+    Word {
+        form: Form::Flag,
+        name: "existing",
+        help: "Refuse a STORE that is absent or empty, and make none",
+    },
+    Word {
+        form: Form::Flag,
+        name: "strict",
+        help: "End with status 3 where a line or a file was refused",
+    },
+    EXPLAIN,
+    QUIET,
+    Word {
+        form: Form::Flag,
+        name: "progress",
+        help: "Say on standard error what the run is doing",
+    },
+];
+
+/// The words of `mftb check`.
+static CHECK_WORDS: [Word<'static>; 4] = [
+    STORE,
+    CACHE,
+    EXPLAIN,
+    QUIET,
+];
+
+/// The words of `mftb migrate`.
+static MIGRATE_WORDS: [Word<'static>; 2] = [
+    Word {
+        form: Form::Required,
+        name: "OLD",
+        help: "The file of version 1; it is read and not written",
+    },
+    Word {
+        form: Form::Required,
+        name: "NEW",
+        help: "The file that is to keep the database; it is absent or empty",
+    },
+];
+
+/// The words of `mftb part`.
+static PART_WORDS: [Word<'static>; 3] = [
+    Word {
+        form: Form::Count(0),
+        name: "K",
+        help: "The number of the part, from 0",
+    },
+    PARTS,
+    FILE,
+];
+
+/// The words of `mftb parts`.
+static PARTS_WORDS: [Word<'static>; 5] = [
+    PARTS,
+    FILE,
+    Word {
+        form: Form::Required,
+        name: "DIR",
+        help: "The folder; part K is its file part-K.csv, which is replaced where it is there",
+    },
+    Word {
+        form: Form::Number("K"),
+        name: "first",
+        help: "Write no part before this one",
+    },
+    Word {
+        form: Form::Number("C"),
+        name: "count",
+        help: "Write only so many parts",
+    },
+];
+
+/// The words of `mftb moments`.
+static MOMENTS_WORDS: [Word<'static>; 14] = [
+    STORE,
+    Word {
+        form: Form::Corner,
+        name: "X1",
+        help: "The least x",
+    },
+    Word {
+        form: Form::Corner,
+        name: "Y1",
+        help: "The least y",
+    },
+    Word {
+        form: Form::Corner,
+        name: "X2",
+        help: "The greatest x",
+    },
+    Word {
+        form: Form::Corner,
+        name: "Y2",
+        help: "The greatest y",
+    },
+    FIRST,
+    LAST,
+    Word {
+        form: Form::Value("FILE"),
+        name: "rects",
+        help: "Ask of each rectangle of FILE (CSV: name,x1,y1,x2,y2), without X1 Y1 X2 Y2",
+    },
+    Word {
+        form: Form::Flag,
+        name: "visits",
+        help: "Print a record a visit: the stays of a feature, joined over legs without a gap",
+    },
+    DWELL,
+    COLUMNS,
+    CACHE,
+    EXPLAIN,
+    QUIET,
+];
 
 /// The words of `mftb zones`.
-fn zones_command<'a>(alloc: Global, bound: Form<'a>) -> Result<Command<'a>, AllocError> {
-    let [first, last] = times(bound);
-    let words = [
-        Word::new(Form::Required, "STORE", "The file that keeps the database"),
-        Word::new(
-            Form::Required,
-            "ZONES",
-            "The file of zones (CSV: name,wkt): polygons, and lines of two positions",
-        ),
-        first,
-        last,
-        Word::new(
-            Form::Flag,
-            "visits",
-            "Print a record a visit, as where no other of these is given",
-        ),
-        Word::new(Form::Flag, "legs", "Print a record a stay of a leg"),
-        Word::new(
-            Form::Flag,
-            "dwell",
-            "Print a record a feature: how long it stays in all",
-        ),
-        Word::new(
-            Form::Predicate,
-            "features",
-            "Print the features of which a predicate holds, asked of the zone",
-        ),
-        columns(),
-        cache_pages(),
-        explain(),
-        quiet(),
-    ];
-    let about = "Prints who is in which zone of a file, from when to when, exactly";
-    command(alloc, "zones", about, &words)
-}
+static ZONES_WORDS: [Word<'static>; 12] = [
+    STORE,
+    Word {
+        form: Form::Required,
+        name: "ZONES",
+        help: "The file of zones (CSV: name,wkt): polygons, and lines of two positions",
+    },
+    FIRST,
+    LAST,
+    Word {
+        form: Form::Flag,
+        name: "visits",
+        help: "Print a record a visit, as where no other of these is given",
+    },
+    Word {
+        form: Form::Flag,
+        name: "legs",
+        help: "Print a record a stay of a leg",
+    },
+    DWELL,
+    Word {
+        form: Form::Predicate,
+        name: "features",
+        help: "Print the features of which a predicate holds, asked of the zone",
+    },
+    COLUMNS,
+    CACHE,
+    EXPLAIN,
+    QUIET,
+];
 
 /// The words of `mftb gaps`.
-fn gaps_command<'a>(alloc: Global, bound: Form<'a>) -> Result<Command<'a>, AllocError> {
-    let [first, last] = times(bound);
-    let words = [
-        Word::new(Form::Required, "STORE", "The file that keeps the database"),
-        first,
-        last,
-        cache_pages(),
-        explain(),
-        quiet(),
-    ];
-    let about = "Prints when features have no position: the times between their legs";
-    command(alloc, "gaps", about, &words)
-}
+static GAPS_WORDS: [Word<'static>; 6] = [
+    STORE,
+    FIRST,
+    LAST,
+    CACHE,
+    EXPLAIN,
+    QUIET,
+];
 
 /// The words of `mftb info`.
-fn info_command<'a>(alloc: Global) -> Result<Command<'a>, AllocError> {
-    let words = [
-        Word::new(Form::Required, "STORE", "The file that keeps the database"),
-        Word::new(Form::Flag, "json", "Print one object of JSON"),
-    ];
-    command(
-        alloc,
-        "info",
-        "Prints what the database of a file holds",
-        &words,
-    )
-}
+static INFO_WORDS: [Word<'static>; 2] = [
+    STORE,
+    Word {
+        form: Form::Flag,
+        name: "json",
+        help: "Print one object of JSON",
+    },
+];
 
 /// The program without its commands.
 fn bare<'a>(alloc: Global) -> Command<'a> {
@@ -363,18 +289,33 @@ fn bare<'a>(alloc: Global) -> Command<'a> {
         .subcommand_required(true)
 }
 
+/// The program with these commands.
+fn with_commands<'a>(
+    alloc: Global,
+    reading: Reading,
+    commands: &[Called<'a>],
+) -> Result<Command<'a>, AllocError> {
+    let mut program = bare(alloc);
+    for called in commands {
+        program = program.subcommand(command(alloc, reading, called)?)?;
+    }
+    Ok(program)
+}
+
 /// The words of the program, and its commands in the order in which the help says them.
 fn mftb<'a>(alloc: Global, reading: Reading) -> Result<Command<'a>, AllocError> {
-    bare(alloc)
-        .subcommand(run_command(alloc)?)?
-        .subcommand(check_command(alloc)?)?
-        .subcommand(migrate_command(alloc)?)?
-        .subcommand(part_command(alloc)?)?
-        .subcommand(parts_command(alloc)?)?
-        .subcommand(moments_command(alloc, reading)?)?
-        .subcommand(zones_command(alloc, reading.bound())?)?
-        .subcommand(gaps_command(alloc, reading.bound())?)?
-        .subcommand(info_command(alloc)?)
+    let commands = [
+        Called::new("run", "Runs a script over the database that a file keeps, and prints its answers", &RUN_WORDS),
+        Called::new("check", "Checks that the pages of a file hold one database", &CHECK_WORDS),
+        Called::new("migrate", "Brings the database of a file of version 1 over into a new file", &MIGRATE_WORDS),
+        Called::new("part", "Prints the part of a file that has the features of one of several parts", &PART_WORDS),
+        Called::new("parts", "Writes the parts of a file into a folder, 16 by one pass", &PARTS_WORDS),
+        Called::new("moments", "Prints when legs are inside a rectangle in a period, as exact fractions", &MOMENTS_WORDS),
+        Called::new("zones", "Prints who is in which zone of a file, from when to when, exactly", &ZONES_WORDS),
+        Called::new("gaps", "Prints when features have no position: the times between their legs", &GAPS_WORDS),
+        Called::new("info", "Prints what the database of a file holds", &INFO_WORDS),
+    ];
+    with_commands(alloc, reading, &commands)
 }
 
 /// Whether a word begins as a number below 0 does.
@@ -383,14 +324,26 @@ fn is_negative(word: &str) -> bool {
     bytes.len() > 1 && bytes[0] == b'-' && bytes[1].is_ascii_digit()
 }
 
-/// Whether one of the words does.
-fn has_negative(words: &[String]) -> bool {
+/// Whether a word is `--rects`, with its value or without.
+fn is_rects(word: &str) -> bool {
+    word == "--rects" || word.starts_with("--rects=")
+}
+
+/// How these words are read.
+fn reading_of(words: &[String]) -> Reading {
+    let mut reading = Reading {
+        takes_negative: false,
+        has_rects: false,
+    };
     for word in words {
         if is_negative(word.as_str()) {
-            return true;
+            reading.takes_negative = true;
+        }
+        if is_rects(word.as_str()) {
+            reading.has_rects = true;
         }
     }
-    false
+    reading
 }
 
 /// A word that is there.
@@ -597,57 +550,96 @@ fn info_of<'a>(matches: &ArgMatches<'a>) -> Info<'a> {
     }
 }
 
-/// Whether a word without a value is there, as it was written.
-fn is_said(matches: &ArgMatches, name: &str) -> bool {
+/// Whether a word is there: a flag, or one that has a value.
+fn is_there(matches: &ArgMatches, name: &str) -> bool {
     match matches.get_str(name) {
-        Some(text) => text == "true",
+        Some(text) => text != "false",
         None => false,
     }
 }
 
-/// Which two words are there of which one may not stand beside the other, in words.
-fn clash_of(matches: &ArgMatches) -> Option<&'static str> {
-    if is_said(matches, "explain") && is_said(matches, "quiet") {
-        return Some("the argument '--explain' cannot be used with '--quiet'");
-    }
-    if is_said(matches, "dwell") && is_said(matches, "visits") {
-        return Some("the argument '--dwell' cannot be used with '--visits'");
-    }
-    match zone_clash_of(matches) {
-        Some(clash) => Some(clash),
-        None => column_clash_of(matches),
-    }
+/// Two words of which one may not stand beside the other.
+#[derive(Clone, Copy)]
+struct Clash {
+    one: &'static str,
+    other: &'static str,
+    /// What is said of them.
+    words: &'static str,
 }
 
-/// Whether `--columns` is there, and what is printed are no stays of legs.
-fn column_clash_of(matches: &ArgMatches) -> Option<&'static str> {
-    if !is_said(matches, "columns") {
-        return None;
-    }
-    if is_said(matches, "visits") || is_said(matches, "dwell") {
-        return Some("the argument '--columns' cannot be used with '--visits' or '--dwell'");
-    }
-    let is_of_zones = matches.get_str("ZONES").is_some();
-    if is_of_zones && !is_said(matches, "legs") {
-        return Some("the argument '--columns' needs '--legs'");
+/// What is said of `--features` or `--columns` beside another word.
+const FEATURES_CLASH: &str =
+    "the argument '--features' cannot be used with '--visits', '--legs' or '--dwell'";
+
+const COLUMNS_CLASH: &str = "the argument '--columns' cannot be used with '--visits' or '--dwell'";
+
+/// The words that may not stand beside each other, in the order in which they are looked for.
+const CLASHES: [Clash; 9] = [
+    Clash {
+        one: "explain",
+        other: "quiet",
+        words: "the argument '--explain' cannot be used with '--quiet'",
+    },
+    Clash {
+        one: "dwell",
+        other: "visits",
+        words: "the argument '--dwell' cannot be used with '--visits'",
+    },
+    Clash {
+        one: "features",
+        other: "visits",
+        words: FEATURES_CLASH,
+    },
+    Clash {
+        one: "features",
+        other: "legs",
+        words: FEATURES_CLASH,
+    },
+    Clash {
+        one: "features",
+        other: "dwell",
+        words: FEATURES_CLASH,
+    },
+    Clash {
+        one: "legs",
+        other: "visits",
+        words: "the argument '--legs' cannot be used with '--visits'",
+    },
+    Clash {
+        one: "legs",
+        other: "dwell",
+        words: "the argument '--legs' cannot be used with '--dwell'",
+    },
+    Clash {
+        one: "columns",
+        other: "visits",
+        words: COLUMNS_CLASH,
+    },
+    Clash {
+        one: "columns",
+        other: "dwell",
+        words: COLUMNS_CLASH,
+    },
+];
+
+/// Which two words are there of which one may not stand beside the other, in words.
+fn pair_clash_of(matches: &ArgMatches) -> Option<&'static str> {
+    for clash in &CLASHES {
+        if is_there(matches, clash.one) && is_there(matches, clash.other) {
+            return Some(clash.words);
+        }
     }
     None
 }
 
-/// The same of the flags that `mftb zones` has alone.
-fn zone_clash_of(matches: &ArgMatches) -> Option<&'static str> {
-    let (is_legs, is_dwell) = (is_said(matches, "legs"), is_said(matches, "dwell"));
-    let is_visits = is_said(matches, "visits");
-    if matches.get_str("features").is_some() && (is_visits || is_legs || is_dwell) {
-        return Some(
-            "the argument '--features' cannot be used with '--visits', '--legs' or '--dwell'",
-        );
+/// The same, and also where `mftb zones` has `--columns` without `--legs`.
+fn clash_of(matches: &ArgMatches) -> Option<&'static str> {
+    if let Some(clash) = pair_clash_of(matches) {
+        return Some(clash);
     }
-    if is_legs && is_visits {
-        return Some("the argument '--legs' cannot be used with '--visits'");
-    }
-    if is_legs && is_dwell {
-        return Some("the argument '--legs' cannot be used with '--dwell'");
+    let is_of_zones = matches.get_str("ZONES").is_some();
+    if is_of_zones && is_there(matches, "columns") && !is_there(matches, "legs") {
+        return Some("the argument '--columns' needs '--legs'");
     }
     None
 }
@@ -658,7 +650,7 @@ fn zone_clash_of(matches: &ArgMatches) -> Option<&'static str> {
 /// So any other word behind a minus stays a flag. Two flags that exclude each other are refused here,
 /// once no word is missing.
 pub fn read_words<'a>(alloc: Global, words: &'a [String]) -> Result<Task<'a>, Error> {
-    let mut program = mftb(alloc, Reading::of(words))?;
+    let mut program = mftb(alloc, reading_of(words))?;
     let matches = program.try_get_matches_from_mut(words)?;
     match matches.subcommand() {
         Some((name, found)) => ask(alloc, &mut program, name, found),
@@ -681,15 +673,15 @@ fn ask<'a>(
 
 /// What the words of a command ask for.
 fn task_of<'a>(alloc: Global, name: &str, matches: &ArgMatches<'a>) -> Result<Task<'a>, Error> {
-    Ok(match name {
-        "check" => Task::Check(check_of(matches)),
-        "migrate" => Task::Migrate(migrate_of(matches)),
-        "part" => Task::Part(part_of(matches)),
-        "parts" => Task::Parts(parts_of(matches)),
-        "moments" => Task::Moments(moments_of(matches)),
-        "zones" => Task::Zones(zones_of(matches)),
-        "gaps" => Task::Gaps(gaps_of(matches)),
-        "info" => Task::Info(info_of(matches)),
-        _ => Task::Run(run_of(alloc, matches)?),
-    })
+    match name {
+        "check" => Ok(Task::Check(check_of(matches))),
+        "migrate" => Ok(Task::Migrate(migrate_of(matches))),
+        "part" => Ok(Task::Part(part_of(matches))),
+        "parts" => Ok(Task::Parts(parts_of(matches))),
+        "moments" => Ok(Task::Moments(moments_of(matches))),
+        "zones" => Ok(Task::Zones(zones_of(matches))),
+        "gaps" => Ok(Task::Gaps(gaps_of(matches))),
+        "info" => Ok(Task::Info(info_of(matches))),
+        _ => Ok(Task::Run(run_of(alloc, matches)?)),
+    }
 }

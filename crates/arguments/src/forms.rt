@@ -13,8 +13,10 @@ pub(crate) enum Form<'a> {
     Required,
     /// It has to be there, and is a number of that at least.
     Count(u32),
-    /// It has to be there, and may be a number below 0.
+    /// It has to be there, and may be a number below 0 where one of the words begins as one does.
     Bound,
+    /// The same, where `--rects FILE` does not stand in its place.
+    Corner,
     /// As many words as there are.
     Names,
     /// `--NAME`, without a value.
@@ -36,15 +38,32 @@ pub(crate) enum Form<'a> {
 /// A word of a command: its name, what it is, and what is said of it.
 #[derive(Clone, Copy)]
 pub(crate) struct Word<'a> {
-    name: &'a str,
-    form: Form<'a>,
-    help: &'a str,
+    pub(crate) form: Form<'a>,
+    pub(crate) name: &'a str,
+    pub(crate) help: &'a str,
 }
 
-impl<'a> Word<'a> {
-    pub(crate) fn new(form: Form<'a>, name: &'a str, help: &'a str) -> Word<'a> {
-        Word { name, form, help }
+/// A command: its name, what is said of it, and its words in their order.
+#[derive(Clone, Copy)]
+pub(crate) struct Called<'a> {
+    name: &'a str,
+    about: &'a str,
+    words: &'a [Word<'a>],
+}
+
+impl<'a> Called<'a> {
+    pub(crate) fn new(name: &'a str, about: &'a str, words: &'a [Word<'a>]) -> Called<'a> {
+        Called { name, about, words }
     }
+}
+
+/// How the words of a command line are read.
+#[derive(Clone, Copy)]
+pub(crate) struct Reading {
+    /// Whether a bound may be a number below 0.
+    pub(crate) takes_negative: bool,
+    /// Whether `--rects FILE` stands in the place of a rectangle.
+    pub(crate) has_rects: bool,
 }
 
 /// A number between two others.
@@ -65,9 +84,9 @@ fn count<'a>(alloc: Global, word: Word<'a>, least: u32) -> Arg<'a> {
     required(alloc, word).value_parser(between(least, u32::MAX))
 }
 
-/// A word that has to be there, and may begin with a minus.
-fn bound<'a>(alloc: Global, word: Word<'a>) -> Arg<'a> {
-    required(alloc, word).allow_negative_numbers(true)
+/// A word that has to be there, and may begin with a minus or not.
+fn bound<'a>(alloc: Global, word: Word<'a>, takes_negative: bool) -> Arg<'a> {
+    required(alloc, word).allow_negative_numbers(takes_negative)
 }
 
 /// As many words as there are.
@@ -119,11 +138,11 @@ fn count_or<'a>(alloc: Global, word: Word<'a>, default: &'a str) -> Arg<'a> {
 }
 
 /// What `clap` is told of a word.
-fn arg_of<'a>(alloc: Global, word: Word<'a>) -> Arg<'a> {
+fn arg_of<'a>(alloc: Global, reading: Reading, word: Word<'a>) -> Arg<'a> {
     match word.form {
         Form::Required => required(alloc, word),
         Form::Count(least) => count(alloc, word, least),
-        Form::Bound => bound(alloc, word),
+        Form::Bound | Form::Corner => bound(alloc, word, reading.takes_negative),
         Form::Names => names(alloc, word),
         Form::Flag => flag(alloc, word),
         Form::FlagOrLetter(letter) => letter_flag(alloc, word, letter),
@@ -135,24 +154,25 @@ fn arg_of<'a>(alloc: Global, word: Word<'a>) -> Arg<'a> {
     }
 }
 
-/// The command of that name, with these words in their order.
-pub(crate) fn command<'a>(
-    alloc: Global,
-    name: &'a str,
-    about: &'a str,
-    words: &[Word<'a>],
-) -> Result<Command<'a>, AllocError> {
-    with_words(alloc, Command::new(alloc, name).about(about), words)
+/// Whether a word is left out of its command.
+fn is_left_out(reading: Reading, word: Word<'_>) -> bool {
+    match word.form {
+        Form::Corner => reading.has_rects,
+        _ => false,
+    }
 }
 
-/// A command with more words, in their order.
-pub(crate) fn with_words<'a>(
+/// What `clap` is told of a command.
+pub(crate) fn command<'a>(
     alloc: Global,
-    mut command: Command<'a>,
-    words: &[Word<'a>],
+    reading: Reading,
+    called: &Called<'a>,
 ) -> Result<Command<'a>, AllocError> {
-    for word in words {
-        command = command.arg(arg_of(alloc, *word))?;
+    let mut command = Command::new(alloc, called.name).about(called.about);
+    for word in called.words {
+        if !is_left_out(reading, *word) {
+            command = command.arg(arg_of(alloc, reading, *word))?;
+        }
     }
     Ok(command)
 }

@@ -2,7 +2,7 @@
 use predicates::Predicate;
 
 /// When it is said in words what went wrong.
-#[derive(Clone, Copy, PartialEq, Eq, Debug)]
+#[derive(Clone, Copy)]
 pub enum Telling {
     /// On a terminal.
     OnTerminal,
@@ -24,7 +24,7 @@ impl Telling {
 }
 
 /// Whether a store that is absent is made.
-#[derive(Clone, Copy, PartialEq, Eq, Debug)]
+#[derive(Clone, Copy)]
 pub enum StoreMode {
     /// It is made.
     Made,
@@ -33,7 +33,7 @@ pub enum StoreMode {
 }
 
 /// Where a run writes.
-#[derive(Clone, Copy, PartialEq, Eq, Debug)]
+#[derive(Clone, Copy)]
 pub enum WriteMode {
     /// Into a copy beside the store.
     OnCopy,
@@ -42,7 +42,7 @@ pub enum WriteMode {
 }
 
 /// How a store is printed.
-#[derive(Clone, Copy, PartialEq, Eq, Debug)]
+#[derive(Clone, Copy)]
 pub enum InfoForm {
     /// In lines for people.
     Lines,
@@ -124,7 +124,7 @@ pub struct Parts<'a> {
 }
 
 /// Whether the values of the leg's attributes stand in the record of its stay.
-#[derive(Clone, Copy, PartialEq, Eq, Debug)]
+#[derive(Clone, Copy)]
 pub enum ValueMode {
     /// They are left out.
     Without,

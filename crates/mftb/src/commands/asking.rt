@@ -1,18 +1,17 @@
 //! Databases that are only asked.
-use crate::system::file::HeldFile;
 use crate::system::names::Names;
-use crate::system::opening::{absence_of, open_asked, sweep};
-use pages::{FileStore, PageStore};
-use sessions::{Fault, ReadOnly};
+use crate::system::opening::{AskedStore, absence_of, open_asked, sweep};
+use mfcsv::Dimension;
+use pages::PageStore;
+use reports::Frame;
+use sessions::Fault;
 use std::alloc::Global;
 use std::fs::File;
 use std::hash::RandomState;
 use std::random::RandomSource;
 use std::rt::Files;
+use timebase::Ms;
 use trajdb::{Db, RunFault};
-
-/// The store of a file that is read alone.
-pub(crate) type AskedStore = ReadOnly<FileStore<HeldFile<'static, File>>>;
 
 /// The store of a file that is there, opened to be read alone; none is made.
 pub(crate) fn store_to_ask<'a, R: Files<File = File> + AllocGlobal>(
@@ -52,4 +51,23 @@ pub(crate) fn close_asked<'a, S: PageStore + Drop, T: Drop>(
     let told = told?;
     closed?;
     Ok(told)
+}
+
+/// How a database's records are written, behind a label.
+pub(crate) fn frame_of<'l, S: PageStore>(database: &Db<S>, label: &'l [u8]) -> Frame<'l> {
+    match database.head() {
+        Some(head) => Frame {
+            base: head.base,
+            dimension: head.dimension,
+            label,
+        },
+        None => match Ms::new(0) {
+            Some(base) => Frame {
+                base,
+                dimension: Dimension::Two,
+                label,
+            },
+            None => unreachable!(),
+        },
+    }
 }

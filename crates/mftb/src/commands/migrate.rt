@@ -34,6 +34,31 @@ fn bring<'a, S: PageStore + Drop, T: PageStore + Drop>(
     brought
 }
 
+/// Brings a store of version 1 over into the new file of these names.
+fn bring_into<'a, R: Files<File = File> + AllocGlobal, S: PageStore + Drop>(
+    rt: &R,
+    keys: RandomState,
+    old: S,
+    names: &Names,
+) -> Result<(), Fault<'a>> {
+    let new = open_in_place(rt, names)?;
+    bring(rt.alloc(), keys, old, new)
+}
+
+/// Brings a store of version 1 over into the new file of that name.
+fn bring_over<'a, R: Files<File = File> + AllocGlobal, S: PageStore + Drop>(
+    rt: &R,
+    keys: RandomState,
+    old: S,
+    new: &str,
+) -> Result<(), Fault<'a>> {
+    let names = Names::new(rt, new)?;
+    match bring_into(rt, keys, old, &names) {
+        Ok(()) => Ok(()),
+        Err(fault) => Err(names.caused(fault)),
+    }
+}
+
 /// Brings a store of version 1, which is opened to be read alone, over into a new file. Where the old
 /// one is absent or has no bytes, no file is made.
 pub(crate) fn migrate<'a, R: Files<File = File> + AllocGlobal + RandomSource, O: Output>(
@@ -51,10 +76,6 @@ pub(crate) fn migrate<'a, R: Files<File = File> + AllocGlobal + RandomSource, O:
         return Err(Fault::Run(RunFault::Memory));
     };
     let old = open_asked(rt, &Names::new(rt, migrate.old)?)?;
-    let names = Names::new(rt, migrate.new)?;
-    let new = open_in_place(rt, &names)?;
-    match bring(rt.alloc(), keys, old, new) {
-        Ok(()) => send_all(out, "ok 0\n".as_bytes()),
-        Err(fault) => Err(names.caused(fault)),
-    }
+    bring_over(rt, keys, old, migrate.new)?;
+    send_all(out, "ok 0\n".as_bytes())
 }

@@ -1,7 +1,7 @@
 //! Rectangles, one of the command line or those of a file.
 use crate::commands::bounds::{hold_words, rect_of};
 use arguments::{Corners, Where};
-use csv::{ByteRecord, ReaderBuilder};
+use csv::{ByteRecord, Reader, ReaderBuilder};
 use legs::Rect;
 use mfcsv::without_marks;
 use sessions::{Fault, MOST_BYTES, RectsFault, read_named};
@@ -83,6 +83,20 @@ fn rect_in(record: &ByteRecord, columns: &Columns) -> Result<Rect, RectsFault> {
     }
 }
 
+/// A record of a file of rectangles.
+#[derive(Clone, Copy)]
+struct Row<'r> {
+    name: &'r str,
+    rect: Rect,
+}
+
+/// What a record says.
+fn row_in<'r>(record: &'r ByteRecord, columns: &Columns) -> Result<Row<'r>, RectsFault> {
+    let name = name_in(record, columns)?;
+    let rect = rect_in(record, columns)?;
+    Ok(Row { name, rect })
+}
+
 /// The rectangles of a file so far.
 #[derive(Drop)]
 struct Rects {
@@ -103,49 +117,77 @@ impl Rects {
         }
     }
 
-    /// Takes a rectangle of a name in.
-    fn add(&mut self, name: &str, rect: Rect) -> Result<bool, AllocError> {
-        if self.names.contains_key(name) {
-            return Ok(false);
-        }
+    /// Takes a name in.
+    fn add_name(&mut self, name: &str) -> Result<(), AllocError> {
         self.names.insert(String::from_str(self.alloc, name)?, ())?;
-        let name = String::from_str(self.alloc, name)?;
-        self.rects.push(NamedRect { name, rect })?;
-        Ok(true)
+        Ok(())
     }
 
-    /// Takes the record of that number in: the first one names the columns.
-    fn take<'a>(&mut self, number: u64, record: &ByteRecord) -> Result<(), Fault<'a>> {
-        let refused = |why: RectsFault| Fault::Rects(number, why);
-        let Some(columns) = self.columns else {
-            self.columns = Some(columns_of(record).map_err(refused)?);
-            return Ok(());
-        };
-        let name = name_in(record, &columns).map_err(refused)?;
-        let rect = rect_in(record, &columns).map_err(refused)?;
-        if self.add(name, rect)? {
-            Ok(())
-        } else {
-            Err(refused(RectsFault::Twice))
+    /// Takes a rectangle in.
+    fn add(&mut self, row: Row<'_>) -> Result<(), AllocError> {
+        self.add_name(row.name)?;
+        let name = String::from_str(self.alloc, row.name)?;
+        let rect = row.rect;
+        Ok(self.rects.push(NamedRect { name, rect })?)
+    }
+
+    /// What a record says, where it is not the first one, which names the columns.
+    fn row<'r>(&mut self, record: &'r ByteRecord) -> Result<Option<Row<'r>>, RectsFault> {
+        match self.columns {
+            Some(columns) => {
+                let row = row_in(record, &columns)?;
+                if self.names.contains_key(row.name) {
+                    return Err(RectsFault::Twice);
+                }
+                Ok(Some(row))
+            }
+            None => {
+                self.columns = Some(columns_of(record)?);
+                Ok(None)
+            }
         }
+    }
+
+    /// Takes the record of that number in.
+    fn take<'a>(&mut self, number: u64, record: &ByteRecord) -> Result<(), Fault<'a>> {
+        match self.row(record) {
+            Ok(Some(row)) => Ok(self.add(row)?),
+            Ok(None) => Ok(()),
+            Err(why) => Err(Fault::Rects(number, why)),
+        }
+    }
+
+    /// Takes the records of a reader in, numbered from 1, the one that names the columns included.
+    fn take_each<'a>(
+        &mut self,
+        reader: &mut Reader<&[u8]>,
+        record: &mut ByteRecord,
+    ) -> Result<(), Fault<'a>> {
+        for number in 1..u64::MAX {
+            match reader.read_byte_record(record) {
+                Ok(true) => self.take(number, record)?,
+                Ok(false) => break,
+                Err(_) => return Err(Fault::Run(RunFault::Memory)),
+            }
+        }
+        Ok(())
+    }
+
+    /// Takes the records of a file in.
+    fn take_all<'a>(&mut self, bytes: &[u8]) -> Result<(), Fault<'a>> {
+        let mut reader = ReaderBuilder::new()
+            .has_headers(false)
+            .flexible(true)
+            .from_reader(self.alloc, without_marks(bytes));
+        let mut record = ByteRecord::new(self.alloc);
+        self.take_each(&mut reader, &mut record)
     }
 }
 
-/// The rectangles of a file, in its order. Its records are numbered from 1, the one that names the columns included.
+/// The rectangles of a file, in its order.
 fn rects_in<'a>(alloc: Global, bytes: &[u8]) -> Result<Vec<NamedRect>, Fault<'a>> {
-    let mut reader = ReaderBuilder::new()
-        .has_headers(false)
-        .flexible(true)
-        .from_reader(alloc, without_marks(bytes));
-    let mut record = ByteRecord::new(alloc);
     let mut rects = Rects::new(alloc);
-    for number in 1..u64::MAX {
-        match reader.read_byte_record(&mut record) {
-            Ok(true) => rects.take(number, &record)?,
-            Ok(false) => break,
-            Err(_) => return Err(Fault::Run(RunFault::Memory)),
-        }
-    }
+    rects.take_all(bytes)?;
     match rects.columns {
         Some(_) => Ok(rects.rects),
         None => Err(Fault::Rects(1, RectsFault::NoColumns)),
@@ -160,21 +202,22 @@ fn alone(alloc: Global, rect: Rect) -> Result<Vec<NamedRect>, AllocError> {
     Ok(rects)
 }
 
+/// The rectangle of the words of the command line.
+fn rect_of_words<'a>(corners: &Corners<'_>) -> Result<Rect, Fault<'a>> {
+    hold_words(&[corners.x1, corners.y1, corners.x2, corners.y2])?;
+    match rect_of(corners) {
+        Ok(rect) => Ok(rect),
+        Err(code) => Err(Fault::Bounds(code)),
+    }
+}
+
 /// The rectangles that are asked of.
 pub(crate) fn rects_of<'a, R: rt::Files + AllocGlobal>(
     rt: &R,
     place: &Where<'a>,
 ) -> Result<Vec<NamedRect>, Fault<'a>> {
-    let alloc = rt.alloc();
     match place {
-        Where::Rects(file) => rects_in(alloc, &read_named(rt, *file, MOST_BYTES)?),
-        Where::Rect(corners) => {
-            hold_words(&[corners.x1, corners.y1, corners.x2, corners.y2])?;
-            let rect = match rect_of(corners) {
-                Ok(rect) => rect,
-                Err(code) => return Err(Fault::Bounds(code)),
-            };
-            Ok(alone(alloc, rect)?)
-        }
+        Where::Rects(file) => rects_in(rt.alloc(), &read_named(rt, *file, MOST_BYTES)?),
+        Where::Rect(corners) => Ok(alone(rt.alloc(), rect_of_words(corners)?)?),
     }
 }

@@ -217,7 +217,7 @@ impl<'a, 'p, R: Files<File = File> + Clock + Eprint> Folder for SystemFolder<'a,
             Ok(copy) => copy,
             Err(fault) => return Err(self.refused.note(fault)),
         };
-        match FileStore::new(HeldFile::noted(copy, &self.names.cause)) {
+        match FileStore::new(HeldFile::new(copy, &self.names.cause)) {
             Ok(store) => Ok(Noted::new(store, self.progress)),
             Err(_) => Err(self.refused.note(Fault::NoStore(Cause::Other))),
         }

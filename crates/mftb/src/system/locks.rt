@@ -9,7 +9,7 @@ use std::{fs, io};
 const MOST_LOOKS: u32 = 1000;
 
 /// How a run holds a file.
-#[derive(Clone, Copy, PartialEq, Eq)]
+#[derive(Clone, Copy)]
 pub(crate) enum Hold {
     /// Alone.
     Alone,

@@ -4,4 +4,4 @@ pub(crate) mod folder;
 pub(crate) mod locks;
 pub(crate) mod names;
 pub(crate) mod opening;
-pub(crate) mod page_zero;
+pub(crate) mod stored;
