@@ -134,12 +134,7 @@ static RUN_WORDS: [Word<'static>; 12] = [
 ];
 
 /// The words of `mftb check`.
-static CHECK_WORDS: [Word<'static>; 4] = [
-    STORE,
-    CACHE,
-    EXPLAIN,
-    QUIET,
-];
+static CHECK_WORDS: [Word<'static>; 4] = [STORE, CACHE, EXPLAIN, QUIET];
 
 /// The words of `mftb migrate`.
 static MIGRATE_WORDS: [Word<'static>; 2] = [
@@ -262,14 +257,7 @@ static ZONES_WORDS: [Word<'static>; 12] = [
 ];
 
 /// The words of `mftb gaps`.
-static GAPS_WORDS: [Word<'static>; 6] = [
-    STORE,
-    FIRST,
-    LAST,
-    CACHE,
-    EXPLAIN,
-    QUIET,
-];
+static GAPS_WORDS: [Word<'static>; 6] = [STORE, FIRST, LAST, CACHE, EXPLAIN, QUIET];
 
 /// The words of `mftb info`.
 static INFO_WORDS: [Word<'static>; 2] = [
@@ -281,6 +269,63 @@ static INFO_WORDS: [Word<'static>; 2] = [
     },
 ];
 
+/// The commands that load, check and cut files.
+fn loading_commands<'a>() -> [Called<'a>; 5] {
+    [
+        Called {
+            name: "run",
+            about: "Runs a script over the database that a file keeps, and prints its answers",
+            words: &RUN_WORDS,
+        },
+        Called {
+            name: "check",
+            about: "Checks that the pages of a file hold one database",
+            words: &CHECK_WORDS,
+        },
+        Called {
+            name: "migrate",
+            about: "Brings the database of a file of version 1 over into a new file",
+            words: &MIGRATE_WORDS,
+        },
+        Called {
+            name: "part",
+            about: "Prints the part of a file that has the features of one of several parts",
+            words: &PART_WORDS,
+        },
+        Called {
+            name: "parts",
+            about: "Writes the parts of a file into a folder, 16 by one pass",
+            words: &PARTS_WORDS,
+        },
+    ]
+}
+
+/// The commands that ask a store.
+fn asking_commands<'a>() -> [Called<'a>; 4] {
+    [
+        Called {
+            name: "moments",
+            about: "Prints when legs are inside a rectangle in a period, as exact fractions",
+            words: &MOMENTS_WORDS,
+        },
+        Called {
+            name: "zones",
+            about: "Prints who is in which zone of a file, from when to when, exactly",
+            words: &ZONES_WORDS,
+        },
+        Called {
+            name: "gaps",
+            about: "Prints when features have no position: the times between their legs",
+            words: &GAPS_WORDS,
+        },
+        Called {
+            name: "info",
+            about: "Prints what the database of a file holds",
+            words: &INFO_WORDS,
+        },
+    ]
+}
+
 /// The program without its commands.
 fn bare<'a>(alloc: Global) -> Command<'a> {
     Command::new(alloc, "mftb")
@@ -289,33 +334,23 @@ fn bare<'a>(alloc: Global) -> Command<'a> {
         .subcommand_required(true)
 }
 
-/// The program with these commands.
+/// A program with these commands too.
 fn with_commands<'a>(
     alloc: Global,
     reading: Reading,
+    mut program: Command<'a>,
     commands: &[Called<'a>],
 ) -> Result<Command<'a>, AllocError> {
-    let mut program = bare(alloc);
     for called in commands {
         program = program.subcommand(command(alloc, reading, called)?)?;
     }
     Ok(program)
 }
 
-/// The words of the program, and its commands in the order in which the help says them.
+/// The program, and its commands in the order in which the help says them.
 fn mftb<'a>(alloc: Global, reading: Reading) -> Result<Command<'a>, AllocError> {
-    let commands = [
-        Called::new("run", "Runs a script over the database that a file keeps, and prints its answers", &RUN_WORDS),
-        Called::new("check", "Checks that the pages of a file hold one database", &CHECK_WORDS),
-        Called::new("migrate", "Brings the database of a file of version 1 over into a new file", &MIGRATE_WORDS),
-        Called::new("part", "Prints the part of a file that has the features of one of several parts", &PART_WORDS),
-        Called::new("parts", "Writes the parts of a file into a folder, 16 by one pass", &PARTS_WORDS),
-        Called::new("moments", "Prints when legs are inside a rectangle in a period, as exact fractions", &MOMENTS_WORDS),
-        Called::new("zones", "Prints who is in which zone of a file, from when to when, exactly", &ZONES_WORDS),
-        Called::new("gaps", "Prints when features have no position: the times between their legs", &GAPS_WORDS),
-        Called::new("info", "Prints what the database of a file holds", &INFO_WORDS),
-    ];
-    with_commands(alloc, reading, &commands)
+    let program = with_commands(alloc, reading, bare(alloc), &loading_commands())?;
+    with_commands(alloc, reading, program, &asking_commands())
 }
 
 /// Whether a word begins as a number below 0 does.

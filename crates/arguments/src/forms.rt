@@ -46,15 +46,9 @@ pub(crate) struct Word<'a> {
 /// A command: its name, what is said of it, and its words in their order.
 #[derive(Clone, Copy)]
 pub(crate) struct Called<'a> {
-    name: &'a str,
-    about: &'a str,
-    words: &'a [Word<'a>],
-}
-
-impl<'a> Called<'a> {
-    pub(crate) fn new(name: &'a str, about: &'a str, words: &'a [Word<'a>]) -> Called<'a> {
-        Called { name, about, words }
-    }
+    pub(crate) name: &'a str,
+    pub(crate) about: &'a str,
+    pub(crate) words: &'a [Word<'a>],
 }
 
 /// How the words of a command line are read.
