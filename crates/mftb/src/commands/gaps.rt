@@ -36,7 +36,9 @@ fn push_gaps<S: PageStore>(
     gaps: &[Gap],
 ) -> Result<(), RunFault> {
     let Frame {
-        base, dimension, ..
+        base,
+        dimension,
+        ..
     } = frame_of(database, b"");
     push_gap_fields(text, dimension)?;
     for gap in gaps {

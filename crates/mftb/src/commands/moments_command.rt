@@ -98,9 +98,21 @@ impl Asked {
     ) -> Result<(), RunFault> {
         match self.rows {
             RowKind::Dwell => {
-                push_dwells(self.alloc, text, database, label, &dwells_of(self.alloc, visits)?)
+                push_dwells(
+                    self.alloc,
+                    text,
+                    database,
+                    label,
+                    &dwells_of(self.alloc, visits)?,
+                )
             }
-            _ => push_visits(self.alloc, text, database, &frame_of(database, label), visits),
+            _ => push_visits(
+                self.alloc,
+                text,
+                database,
+                &frame_of(database, label),
+                visits,
+            ),
         }
     }
 

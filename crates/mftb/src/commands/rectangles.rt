@@ -131,28 +131,36 @@ impl Rects {
         Ok(self.rects.push(NamedRect { name, rect })?)
     }
 
-    /// What a record says, where it is not the first one, which names the columns.
-    fn row<'r>(&mut self, record: &'r ByteRecord) -> Result<Option<Row<'r>>, RectsFault> {
-        match self.columns {
-            Some(columns) => {
-                let row = row_in(record, &columns)?;
-                if self.names.contains_key(row.name) {
-                    return Err(RectsFault::Twice);
-                }
-                Ok(Some(row))
-            }
-            None => {
-                self.columns = Some(columns_of(record)?);
-                Ok(None)
-            }
+    /// Whether a rectangle has that name.
+    fn has_name(&self, name: &str) -> bool {
+        self.names.contains_key(name)
+    }
+
+    /// What a record says, whose name is a new one.
+    fn row<'r>(&self, record: &'r ByteRecord, columns: &Columns) -> Result<Row<'r>, RectsFault> {
+        let row = row_in(record, columns)?;
+        if self.has_name(row.name) {
+            return Err(RectsFault::Twice);
         }
+        Ok(row)
+    }
+
+    /// Takes the first record in, which names the columns.
+    fn take_columns(&mut self, record: &ByteRecord) -> Result<(), RectsFault> {
+        self.columns = Some(columns_of(record)?);
+        Ok(())
     }
 
     /// Takes the record of that number in.
     fn take<'a>(&mut self, number: u64, record: &ByteRecord) -> Result<(), Fault<'a>> {
-        match self.row(record) {
-            Ok(Some(row)) => Ok(self.add(row)?),
-            Ok(None) => Ok(()),
+        let Some(columns) = self.columns else {
+            return match self.take_columns(record) {
+                Ok(()) => Ok(()),
+                Err(why) => Err(Fault::Rects(number, why)),
+            };
+        };
+        match self.row(record, &columns) {
+            Ok(row) => Ok(self.add(row)?),
             Err(why) => Err(Fault::Rects(number, why)),
         }
     }

@@ -297,13 +297,7 @@ fn run_work<
     'a,
     R: rt::Files<File = File> + rt::Clock + Eprint + AllocGlobal + RandomSource,
     O: Output + Drop,
->(
-    rt: &R,
-    run: &Run<'a>,
-    work: &Work<'_>,
-    out: O,
-    is_terminal: bool,
-) -> Result<Outcome, Fault<'a>> {
+>(rt: &R, run: &Run<'a>, work: &Work<'_>, out: O, is_terminal: bool) -> Result<Outcome, Fault<'a>> {
     let is_shown = is_terminal && !matches!(run.telling, Telling::Never);
     let progress = Progress::new(rt, Told::new(run.progress, is_shown), work.script);
     let is_told = run.telling.is_told(is_terminal);

@@ -346,8 +346,14 @@ fn print_answer<'a, R: Files<File = File> + Eprint + AllocGlobal + RandomSource,
     let told = answer_of(rt, task, asked, file)?;
     send_all(out, &told.text)?;
     if task.telling.is_told(is_terminal) {
-        let period = asked.period;
-        tell_elsewhere(rt, task.store, Area::Zone, &period, &told.boxes, &told.empty);
+        tell_elsewhere(
+            rt,
+            task.store,
+            Area::Zone,
+            &asked.period,
+            &told.boxes,
+            &told.empty,
+        );
     }
     Ok(Outcome::Done)
 }

@@ -115,31 +115,13 @@ fn blank_words(alloc: Global, times: [&str; 2]) -> Option<String> {
     }
 }
 
-/// The corners that a task asks of, where they are words of the command line.
-fn corners_of<'a>(task: &Task<'a>) -> Corners<'a> {
-    match task {
-        Task::Moments(task) => match task.place {
-            Where::Rect(corners) => corners,
-            Where::Rects(_) => ORIGIN,
-        },
-        _ => ORIGIN,
-    }
-}
-
-/// The times that a task asks of.
-fn times_of<'a>(task: &Task<'a>) -> Option<[&'a str; 2]> {
-    match task {
-        Task::Moments(task) => Some(task.times),
-        Task::Zones(task) => Some(task.times),
-        Task::Gaps(task) => Some(task.times),
-        _ => None,
-    }
-}
-
-/// Which word of a rectangle and a period is refused, and why. That there are too few words is said of the line of a
-/// script alone.
-fn bounds_words(alloc: Global, task: &Task<'_>, code: LineCode) -> Option<String> {
-    let times = times_of(task)?;
+/// Which of these words is refused, and why. That there are too few words is said of the line of a script alone.
+fn words_of(
+    alloc: Global,
+    corners: Corners<'_>,
+    times: [&str; 2],
+    code: LineCode,
+) -> Option<String> {
     if matches!(code, LineCode::Q3) {
         return None;
     }
@@ -147,8 +129,26 @@ fn bounds_words(alloc: Global, task: &Task<'_>, code: LineCode) -> Option<String
         return Some(words);
     }
     let code = Code::read(code.as_str())?;
-    let line = line_of(alloc, corners_of(task), times).ok()?;
+    let line = line_of(alloc, corners, times).ok()?;
     line_words(alloc, line.as_bytes(), code).ok()
+}
+
+/// The corners that are words of the command line.
+fn corners_of<'a>(place: Where<'a>) -> Corners<'a> {
+    match place {
+        Where::Rect(corners) => corners,
+        Where::Rects(_) => ORIGIN,
+    }
+}
+
+/// Which word of a rectangle and a period is refused, and why.
+fn bounds_words(alloc: Global, task: &Task<'_>, code: LineCode) -> Option<String> {
+    match task {
+        Task::Moments(task) => words_of(alloc, corners_of(task.place), task.times, code),
+        Task::Zones(task) => words_of(alloc, ORIGIN, task.times, code),
+        Task::Gaps(task) => words_of(alloc, ORIGIN, task.times, code),
+        _ => None,
+    }
 }
 
 /// Says which word of a rectangle and a period is refused, and why.
