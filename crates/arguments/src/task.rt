@@ -2,7 +2,7 @@
 use predicates::Predicate;
 
 /// When it is said in words what went wrong.
-#[derive(Clone, Copy)]
+#[derive(Clone, Copy, PartialEq, Eq)]
 pub enum Telling {
     /// On a terminal.
     OnTerminal,
@@ -24,7 +24,7 @@ impl Telling {
 }
 
 /// Whether a store that is absent is made.
-#[derive(Clone, Copy)]
+#[derive(Clone, Copy, PartialEq, Eq)]
 pub enum StoreMode {
     /// It is made.
     Made,
@@ -33,7 +33,7 @@ pub enum StoreMode {
 }
 
 /// Where a run writes.
-#[derive(Clone, Copy)]
+#[derive(Clone, Copy, PartialEq, Eq)]
 pub enum WriteMode {
     /// Into a copy beside the store.
     OnCopy,

@@ -83,20 +83,6 @@ fn rect_in(record: &ByteRecord, columns: &Columns) -> Result<Rect, RectsFault> {
     }
 }
 
-/// A record of a file of rectangles.
-#[derive(Clone, Copy)]
-struct Row<'r> {
-    name: &'r str,
-    rect: Rect,
-}
-
-/// What a record says.
-fn row_in<'r>(record: &'r ByteRecord, columns: &Columns) -> Result<Row<'r>, RectsFault> {
-    let name = name_in(record, columns)?;
-    let rect = rect_in(record, columns)?;
-    Ok(Row { name, rect })
-}
-
 /// The rectangles of a file so far.
 #[derive(Drop)]
 struct Rects {
@@ -123,26 +109,16 @@ impl Rects {
         Ok(())
     }
 
-    /// Takes a rectangle in.
-    fn add(&mut self, row: Row<'_>) -> Result<(), AllocError> {
-        self.add_name(row.name)?;
-        let name = String::from_str(self.alloc, row.name)?;
-        let rect = row.rect;
+    /// Takes a rectangle of a name in.
+    fn add(&mut self, name: &str, rect: Rect) -> Result<(), AllocError> {
+        self.add_name(name)?;
+        let name = String::from_str(self.alloc, name)?;
         Ok(self.rects.push(NamedRect { name, rect })?)
     }
 
     /// Whether a rectangle has that name.
     fn has_name(&self, name: &str) -> bool {
         self.names.contains_key(name)
-    }
-
-    /// What a record says, whose name is a new one.
-    fn row<'r>(&self, record: &'r ByteRecord, columns: &Columns) -> Result<Row<'r>, RectsFault> {
-        let row = row_in(record, columns)?;
-        if self.has_name(row.name) {
-            return Err(RectsFault::Twice);
-        }
-        Ok(row)
     }
 
     /// Takes the first record in, which names the columns.
@@ -159,10 +135,18 @@ impl Rects {
                 Err(why) => Err(Fault::Rects(number, why)),
             };
         };
-        match self.row(record, &columns) {
-            Ok(row) => Ok(self.add(row)?),
-            Err(why) => Err(Fault::Rects(number, why)),
+        let name = match name_in(record, &columns) {
+            Ok(name) => name,
+            Err(why) => return Err(Fault::Rects(number, why)),
+        };
+        let rect = match rect_in(record, &columns) {
+            Ok(rect) => rect,
+            Err(why) => return Err(Fault::Rects(number, why)),
+        };
+        if self.has_name(name) {
+            return Err(Fault::Rects(number, RectsFault::Twice));
         }
+        Ok(self.add(name, rect)?)
     }
 
     /// Takes the records of a reader in, numbered from 1, the one that names the columns included.
