@@ -26,15 +26,21 @@ pub(crate) fn store_to_ask<'a, R: Files<File = File> + AllocGlobal>(
     open_asked(rt, &names)
 }
 
+/// What names are hashed with: a stranger who chooses the names of a file is not to know it.
+pub(crate) fn keys_of<'a, R: RandomSource>(rt: &R) -> Result<RandomState, Fault<'a>> {
+    match RandomState::new(rt) {
+        Ok(keys) => Ok(keys),
+        Err(_) => Err(Fault::Run(RunFault::Memory)),
+    }
+}
+
 /// The database of a store.
 pub(crate) fn database_to_ask<'a, R: AllocGlobal + RandomSource, S: PageStore + Drop>(
     rt: &R,
     store: S,
     cache_pages: u32,
 ) -> Result<Db<S>, Fault<'a>> {
-    let Ok(keys) = RandomState::new(rt) else {
-        return Err(Fault::Run(RunFault::Memory));
-    };
+    let keys = keys_of(rt)?;
     match Db::open(rt.alloc(), keys, store, cache_pages.max(1) as usize) {
         Ok(database) => Ok(database),
         Err((_store, fault)) => Err(Fault::Open(fault)),

@@ -1,4 +1,5 @@
 //! `mftb migrate`: a store of version 1 is brought over into a new one.
+use crate::commands::asking::keys_of;
 use crate::system::names::Names;
 use crate::system::opening::{is_absent, open_asked, open_in_place};
 use arguments::Migrate;
@@ -72,9 +73,7 @@ pub(crate) fn migrate<'a, R: Files<File = File> + AllocGlobal + RandomSource, O:
     if is_absent(rt, migrate.old) {
         return Err(Fault::Open(OpenFault::Malformed));
     }
-    let Ok(keys) = RandomState::new(rt) else {
-        return Err(Fault::Run(RunFault::Memory));
-    };
+    let keys = keys_of(rt)?;
     let old = open_asked(rt, &Names::new(rt, migrate.old)?)?;
     bring_over(rt, keys, old, migrate.new)?;
     send_all(out, "ok 0\n".as_bytes())

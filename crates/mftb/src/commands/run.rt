@@ -1,6 +1,7 @@
 //! `mftb run`: a script over the database that a file keeps.
-ghost use Rattle.std.specs.Prelude.{◌<◌, ◌≤◌, ◌^◌, IfOk};
+ghost use Rattle.std.specs.Prelude.{◌<◌, ◌≤◌, ◌^◌};
 
+use crate::commands::asking::keys_of;
 use crate::commands::reading::read_files;
 use crate::explain::notes::{Given, tell, tell_made, tell_sources};
 use crate::outcome::Outcome;
@@ -19,7 +20,6 @@ use sessions::{
     run_on_copy,
 };
 use std::fs::File;
-use std::hash::RandomState;
 use std::io::Eprint;
 use std::random::RandomSource;
 use std::{fs, rt};
@@ -220,28 +220,12 @@ fn has_no_legs(header: Option<Header>) -> bool {
     }
 }
 
-/// How the store is opened; refused where it is not there and none is to be made.
-fn opening_of<'a, R: rt::Files<File = File> + AllocGlobal + RandomSource>(
-    rt: &R,
-    run: &Run<'a>,
-    store: &str,
-) -> Result<Opening, Fault<'a>>
-    ensures { IfOk result (λ how. 0 < how.cache_pages) }
-{
-    let Ok(keys) = RandomState::new(rt) else {
-        return Err(Fault::Run(RunFault::Memory));
-    };
-    let is_new = is_absent(rt, store);
-    if is_new && matches!(run.store_mode, StoreMode::Existing) {
-        return Err(Fault::NoSuchStore);
+/// Refuses a store that is not there, where none is to be made.
+fn hold_store<'a>(run: &Run<'_>, is_new: bool) -> Result<(), Fault<'a>> {
+    match run.store_mode {
+        StoreMode::Existing if is_new => Err(Fault::NoSuchStore),
+        _ => Ok(()),
     }
-    Ok(Opening {
-        alloc: rt.alloc(),
-        keys,
-        is_new,
-        limits: limits(run),
-        cache_pages: run.cache_pages.max(1),
-    })
 }
 
 /// Says why what a run did is not kept, where its own fault does not say so.
@@ -326,16 +310,25 @@ fn run_script<
     out: O,
     is_terminal: bool,
 ) -> Result<Outcome, Fault<'a>> {
+    let keys = keys_of(rt)?;
     let names = Names::new(rt, run.store)?;
-    let how = opening_of(rt, run, names.store.as_str())?;
+    let is_new = is_absent(rt, names.store.as_str());
+    hold_store(run, is_new)?;
     let header = header_of(rt, names.store.as_str());
     hold_limits(run, header)?;
+    let how = Opening {
+        alloc: rt.alloc(),
+        keys,
+        is_new,
+        limits: limits(run),
+        cache_pages: run.cache_pages.max(1),
+    };
     let work = Work {
         script,
         files,
         names: &names,
         how,
-        is_empty: how.is_new || has_no_legs(header),
+        is_empty: is_new || has_no_legs(header),
     };
     run_work(rt, run, &work, out, is_terminal)
 }
