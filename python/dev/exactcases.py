@@ -199,16 +199,22 @@ BESIDE = {
 }
 
 
-def cases(seed, count):
-    """The cases of a seed: so many of each kind, every second one to be answered no. Each has days of its own."""
-    begin = START
-    for kind, make in KINDS.items():
+def made(kinds, seed, count):
+    """So many of each kind, every second one to be answered no: the kind, the number, whether it is yes, and what is
+    made."""
+    for kind, make in kinds.items():
         pick = random.Random(f"{seed} {kind}")
         for number in range(count):
             misses = number % 2 == 1
-            start, end, lasts, rect, period = make(pick, misses)
-            first, last = period or (0, lasts)
-            case = Case(kind, number, start, end, begin, begin + lasts, rect, (begin + first, begin + last))
-            assert case.is_inside() != misses, case
-            yield case
-            begin += DAY if lasts <= DAY else 2 * YEAR
+            yield kind, number, not misses, make(pick, misses)
+
+
+def cases(seed, count):
+    """The cases of a seed. Each has days of its own."""
+    begin = START
+    for kind, number, is_inside, (start, end, lasts, rect, period) in made(KINDS, seed, count):
+        first, last = period or (0, lasts)
+        case = Case(kind, number, start, end, begin, begin + lasts, rect, (begin + first, begin + last))
+        assert case.is_inside() == is_inside, case
+        yield case
+        begin += DAY if lasts <= DAY else 2 * YEAR

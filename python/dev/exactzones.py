@@ -3,12 +3,11 @@
 Each case asks of a leg whether it is in the zone at some moment, or at each. Of each kind one half is to be answered
 yes. The other half is the same, but the leg lies 10^-7 beside, and is to be answered no.
 """
-import random
 from fractions import Fraction
 from typing import NamedTuple
 
 import zone_cases
-from exactcases import DAY, START, UNIT, check, tenths
+from exactcases import DAY, START, UNIT, check, made, tenths
 
 LASTS = 10_000
 
@@ -172,14 +171,10 @@ KINDS = {
 
 
 def zone_kinds(seed, count):
-    """So many cases of each kind, every second one to be answered no. Each has a day of its own."""
+    """The cases of a seed. Each has a day of its own."""
     begin = START
-    for kind, make in KINDS.items():
-        pick = random.Random(f"{seed} {kind}")
-        for number in range(count):
-            misses = number % 2 == 1
-            question, start, end, parts = make(pick, misses)
-            case = ZoneCase(kind, number, question, start, end, begin, begin + LASTS, parts)
-            assert case.is_inside() != misses, case
-            yield case
-            begin += DAY
+    for kind, number, is_inside, (question, start, end, parts) in made(KINDS, seed, count):
+        case = ZoneCase(kind, number, question, start, end, begin, begin + LASTS, parts)
+        assert case.is_inside() == is_inside, case
+        yield case
+        begin += DAY
