@@ -68,7 +68,7 @@ OPTIONS: dict[str, dict[str, list[str]]] = {
 STORES = [
     *("sound", "large", "solid", "small", "link", "left", "cut", "rest", "unfinished", "state", "version-3", "letters"),
     *("root", "text", "former", "former-unfinished", "bytes", "letter", "zeros", *NAMES),
-    *(f"{kind}-{page}" for kind in ("bent", "lies", "former-bent") for page in range(4)),
+    *(f"{kind}-{page}" for kind in ("bent", "lies", "former-bent") for page in range(5)),
 ]
 TIMES = [
     *(["noon", T2], [T1, "2020-01-01T00:00:00"], [T2, T1], [T1, T1], ["", T2], [T1, "9999-06-01T00:00:00Z"]),
@@ -199,16 +199,8 @@ def lines() -> list[list[str]]:
 def random_line(chance: random.Random) -> list[str]:
     """A right line with some options, some words of which are others."""
     command = chance.choice(["run", *RIGHT])
-    others = [
-        *STORES,
-        *GOOD,
-        *BAD,
-        *SHAPES,
-        *RECTS,
-        *NUMBERS,
-        *PERIOD,
-        *(f"random-{number}.txt" for number in range(40)),
-    ]
+    # No number is so great that `parts` would write as many files.
+    others = [*STORES, *GOOD, *BAD, *SHAPES, *RECTS, *NUMBERS[:6], *PERIOD, "random-1.txt"]
     rest = [chance.choice(others) if chance.random() < 0.15 else word for word in RIGHT[command]]
     if command == "run":
         rest = [chance.choice(STORES), f"random-{chance.randrange(40)}.txt", *chance.sample([*GOOD, *BAD], 15)]
