@@ -73,9 +73,7 @@ fn asked_of(numbers: &mut Numbers) -> Option<Asked> {
 
 /// The case of a line; `None` where it gives none.
 pub fn read_case(alloc: Global, line: &str) -> Result<Option<Case>, AllocError> {
-    let Some(mut numbers) = Numbers::of_line(alloc, line)? else {
-        return Ok(None);
-    };
+    let mut numbers = Numbers::of_line(alloc, line)?;
     let Some(asked) = asked_of(&mut numbers) else {
         return Ok(None);
     };
