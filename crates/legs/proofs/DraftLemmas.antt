@@ -13,10 +13,9 @@ use Rattle.legs.specs.Legs.{leg_of, step_at}
 use Rattle.legs.specs.Limits.{LimitsView, IsLimits, greatest_limit}
 use Rattle.legs.specs.Index.{last_end}
 use Rattle.legs.specs.Book.{Book, feature_named, names_with, feature_number, leg_added, record_legs, with_record, is_before, has_join_fault, join_faults_of}
-use Rattle.legs.specs.Names.{NamesView, fresh_names, met, names_and, with_latest}
+use Rattle.legs.specs.Names.{NamesView, fresh_names, met, names_and, with_latest, new_count, feature_or_next}
 use Rattle.legs.specs.Tracks.{TracksView, IsLawful, StandsFor}
 use Rattle.legs.specs.Drafts.{latest_of, latest_in, known, IsDraft}
-use Rattle.legs.specs.Latest.{new_count, feature_or_next}
 use Rattle.legs.specs.declared.tracks.Track.{Track}
 use Rattle.legs.specs.declared.draft.Latest.{Latest}
 use Rattle.legs.specs.declared.draft.Draft.{Draft}

@@ -1,29 +1,27 @@
 -- Joining a file, record by record.
 use Rattle.std.proofs.Common.{ℕ, ◌+◌, ◌-◌, ◌≡◌, ◌∙◌, ap, sym, refl, List, [], ◌∷◌, ◌++◌, length, map, take, Bool, false, cond, Option, Some, None, Ok, Err, Result, inl, inr, append_assoc, ◌≤◌, subst, arith, is_some, true}
-use Rattle.std.specs.Prelude.{filter, IfOk, OnOk}
+use Rattle.std.specs.Prelude.{filter, IfOk}
 use Rattle.std.proofs.lemmas.Grind.{fold-append}
 use Rattle.std.proofs.lemmas.List.{append-nil, length-append, length-map, take_all}
 use Rattle.std.proofs.lemmas.List.Elements.{All-push}
 use Rattle.mfcsv.specs.declared.Head.{Head}
 use Rattle.legs.specs.declared.head.BookHead.{BookHead}
-use Rattle.mfcsv.specs.declared.File.{File}
 use Rattle.mfcsv.specs.Views.{RecordView, IsRecord}
 use Rattle.legs.specs.Legs.{LegView}
 use Rattle.legs.specs.Limits.{LimitsView}
 use Rattle.legs.specs.Index.{CanFollowInTurn}
-use Rattle.legs.specs.Book.{Book, file_of, names_with, record_legs, records_legs, with_record, with_records, with_file, has_join_fault, join_faults_of, record_faults, head_faults, legs_or_fault, joined, same_columns, same_space}
+use Rattle.legs.specs.Book.{Book, file_of, names_with, record_legs, records_legs, with_record, with_records, has_join_fault, join_faults_of, record_faults, head_faults, legs_or_fault, joined, same_columns, same_space}
 use Rattle.legs.specs.FirstFault.{IsFirst, IsFirstOf}
 use Rattle.legs.specs.Counting.{names_after}
 use Rattle.legs.specs.Drafts.{IsDraft}
-use Rattle.legs.specs.Joining.{AreJoined, AreJoinedOr, HasCounted, IsCounted, IsJoinedBy, IsJoining, JoinedView, JoiningView}
+use Rattle.legs.specs.Joining.{AreJoined, AreJoinedOr, HasCounted, IsCounted, IsJoinedBy, IsJoining, JoiningView}
 use Rattle.legs.specs.Names.{fresh_names, names_and}
-use Rattle.legs.specs.Tracks.{TracksView, StandsFor}
+use Rattle.legs.specs.Tracks.{TracksView}
 use Rattle.legs.specs.declared.draft.Draft.{Draft}
 use Rattle.legs.specs.declared.joining.JoinCode.{JoinCode}
 use Rattle.legs.specs.declared.joining.JoinCode.TheVariants.{F9, F10, F18, F19, F20}
 use Rattle.legs.specs.declared.joining.JoinFault.{JoinFault}
 use Rattle.legs.specs.declared.joining.JoinFault.TheVariants.{Refused, Memory}
-use Rattle.legs.proofs.AcceptLemmas.{joined_is}
 use Rattle.legs.proofs.NameLemmas.{cases_bool}
 use Rattle.legs.proofs.RecordLemmas.{with_record-legs, with_record-names, with_record-rows, follows_record, follow_append}
 
@@ -187,27 +185,6 @@ all_joined limits book head records joiner first base count is none same headed 
       lawful = are.lawful;
     }
 
--- what a book keeps of a head says nothing of its tracks
-pub other_head : (tracks : TracksView) (book : Book) (head : Option BookHead) → StandsFor tracks book → StandsFor tracks (record book { head = head })
-other_head tracks book head is = record {
-  names = is.names;
-  paired = is.paired;
-  each = is.each;
-  legs = is.legs;
-  rows = is.rows;
-  lawful = record { numbered = is.lawful.numbered; led = is.lawful.led; rows = is.lawful.rows; few_legs = is.lawful.few_legs; few_names = is.lawful.few_names };
-}
-
-headless : (book : Book) (head : Option BookHead) (records : List RecordView) → (with_records (record book { head = head }) records).legs ≡ (with_records book records).legs
-unfolding with_record
-headless book head [] = refl
-headless book head (r ∷ records) = headless (with_record book r) head records
-
-pub same_legs : (limits : LimitsView) (book : Book) (head : Option BookHead) (file : File) (by : JoinedView) → IsJoinedBy limits (record book { head = head }) file by → (with_file book file).legs ≡ book.legs ++ by.legs
-same_legs limits book head file by is =
-    sym (headless book head file.records) ∙ with_records-legs (record book { head = head }) file.records
-    ∙ ap (λ (legs : List LegView). book.legs ++ legs) (joined_is limits (record book { head = head }) file by.legs is.legs).1
-
 -- all records were taken
 pub all_taken : (limits : LimitsView) (book : Book) (joiner : JoiningView) (xs records : List RecordView) (i : ℕ) → xs ≡ records → length xs ≤ i → IsJoining limits joiner book (take i xs) → IsJoining limits joiner book records
 all_taken limits book joiner xs records i e h is = subst (λ (rs : List RecordView). IsJoining limits joiner book rs) (take_all i xs h ∙ e) is
@@ -216,10 +193,6 @@ all_taken limits book joiner xs records i e h is = subst (λ (rs : List RecordVi
 pub if_ok : {T E : Type 0} (r : Result T E) (P Q : T → Type 0) → ((x : T) → P x → Q x) → IfOk r P → IfOk r Q
 if_ok (Ok x) P Q more p = more x p
 if_ok (Err e) P Q more p = tt
-
-pub on_ok : {T E : Type 0} (r : Result T E) (Q : Type 0) → Q → OnOk r Q
-on_ok (Ok x) Q q = q
-on_ok (Err e) Q q = tt
 
 -- the fault of another CRS or dimension
 pub other_space : (o : Option BookHead) (first : BookHead) (head : Head) (t : Bool) → o ≡ Some first → t ≡ same_space first head → t ≡ false → (others : List (JoinCode × ℕ)) × (head_faults o head ≡ (F9, head.number_bounds) ∷ others)

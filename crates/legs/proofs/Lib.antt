@@ -1,3 +1,4 @@
+pub mod SieveLaws
 pub mod BlockLemmas
 pub mod GroupLemmas
 pub mod GroupSteps

@@ -99,11 +99,10 @@ is_before at None = false
 
 -- whether a joining fault holds of a record, given the book with the records before it
 abbrev pub has_join_fault : LimitsView → Book → RecordView → JoinCode → Bool
-has_join_fault limits book r F9 = false
-has_join_fault limits book r F10 = false
 has_join_fault limits book r F18 = is_before r.t0 (name_end book r.mfidref)
 has_join_fault limits book r F19 = nat_lt limits.legs (length (with_record book r).legs)
 has_join_fault limits book r F20 = nat_lt limits.features (length (with_record book r).names)
+has_join_fault limits book r _ = false
 
 -- the joining faults of a record, in the order of the table
 unfoldable pub join_faults_of : LimitsView → Book → RecordView → List JoinCode
@@ -128,9 +127,8 @@ same_columns first second =
 -- two dimensions are the same
 abbrev pub same_dimension : Dimension → Dimension → Bool
 same_dimension Two Two = true
-same_dimension Two Three = false
-same_dimension Three Two = false
 same_dimension Three Three = true
+same_dimension _ _ = false
 
 -- whether a file's head has the CRS name and the dimension of the book's
 abbrev pub same_space : BookHead → Head → Bool

@@ -1,5 +1,5 @@
 -- Helpers of private functions: how tracks take in a file, step by step.
-use Rattle.std.specs.Prelude.{ℕ, ◌≡◌, ◌+◌, ◌-◌, ◌^◌, min, List, ◌++◌, fold, All, slice_set, slice_index_or}
+use Rattle.std.specs.Prelude.{ℕ, ◌≡◌, ◌+◌, ◌-◌, ◌^◌, min, List, ◌++◌, fold, All, slice_set, slice_index_or, OnErr, OnOk, Result}
 use Rattle.mfcsv.specs.Views.{RecordView}
 use Rattle.legs.specs.Legs.{LegView}
 use Rattle.legs.specs.Book.{names_with}
@@ -23,6 +23,12 @@ pub record Extends (old new : TracksView) : Type 0 where
 pub record AddsNames (old new : TracksView) (added : List (List ℕ)) : Type 0 where
   pub extends : Extends old new
   pub names : new.names ≡ names_and old.names added
+
+-- names were added; or, where memory ran out, nothing has changed
+pub record TakesNames {E : Type 0} (old new : TracksView) (added : List (List ℕ))
+    (result : Result (Unit {0}) E) : Type 0 where
+  pub ok : OnOk result (AddsNames old new added)
+  pub err : OnErr result (new ≡ old)
 
 -- a leg was counted in the track of its feature
 abbrev pub counted : List Track → LegView → List Track

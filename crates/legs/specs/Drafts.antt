@@ -1,8 +1,10 @@
 -- Helpers of private functions: a draft of a book: what is known of each name.
-use Rattle.std.specs.Prelude.{ℕ, ◌≡◌, ◌≤◌, ◌^◌, List, length, slice_get, Option}
+use Rattle.std.specs.Prelude.{ℕ, ◌≡◌, ◌≤◌, ◌+◌, ◌^◌, ◌++◌, List, length, slice_get, OnOk, Option, Result}
+use Rattle.mfcsv.specs.Views.{RecordView}
+use Rattle.legs.specs.Legs.{LegView}
 use Rattle.std.specs.Option.{option_and_then, option_map, option_or}
 use Rattle.legs.specs.Index.{last_end}
-use Rattle.legs.specs.Book.{Book, feature_named}
+use Rattle.legs.specs.Book.{Book, feature_named, names_with, record_legs, with_record}
 use Rattle.legs.specs.Names.{met, names_and, fresh_names}
 use Rattle.legs.specs.Tracks.{TracksView, IsLawful}
 use Rattle.legs.specs.declared.draft.Latest.{Latest}
@@ -39,3 +41,15 @@ pub record IsDraft (draft : Draft) (book : Book) : Type 0 where
       (fresh_names (length draft.tracks.now.names) draft.names.names draft.names.latest)
       ≡ book.names
   pub lawful : IsLawful book
+
+-- what joining a record to a draft does, that of a book of which that is known: its legs are appended
+pub record TakesRecord {E : Type 0} (old new : Draft) (r : RecordView) (before after : List LegView)
+    (Is : Book → Type 0) (result : Result (Unit {0}) E) : Type 0 where
+  pub book : OnOk result
+      ((book : Book) → IsDraft old book → Is book → IsDraft new (with_record book r))
+  pub legs : OnOk result
+      ((book : Book) → IsDraft old book → Is book → after ≡ before ++ record_legs book r)
+  pub names : OnOk result (new.names.names ≡ names_with old.names.names r.mfidref)
+  pub rows : OnOk result (new.rows ≡ old.rows + 1)
+  pub tracks : new.tracks ≡ old.tracks
+  pub few_rows : new.rows ≤ new.legs

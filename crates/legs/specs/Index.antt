@@ -5,7 +5,7 @@ use Rattle.timebase.specs.Period.{PeriodView}
 use Rattle.legs.specs.Legs.{LegView, is_live}
 use Rattle.legs.specs.Boxes.{BoxView, box_of, boxes_meet}
 use Rattle.legs.specs.declared.index.IndexFault.{IndexFault}
-use Rattle.legs.specs.declared.index.IndexFault.TheVariants.{Memory, Store, Damaged, StoreFull, Spent}
+use Rattle.legs.specs.declared.index.IndexFault.TheVariants.{Memory, Store, StoreFull}
 
 -- the legs whose box meets a box
 abbrev pub legs_in_box : BoxView → List LegView → List LegView
@@ -60,14 +60,11 @@ HasRisen old new = min (old + 1) (2 ^ 64 - 1) ≤ new
 abbrev pub MayRefuse : IndexFault → Type 0
 MayRefuse Memory = Unit {0}
 MayRefuse Store = Unit {0}
-MayRefuse (Damaged page) = ⊥
-MayRefuse StoreFull = ⊥
-MayRefuse Spent = ⊥
+MayRefuse _ = ⊥
 
 -- a fault that a sound index may answer to a leg that may follow
 abbrev pub MayRefuseLeg : IndexFault → Type 0
 MayRefuseLeg Memory = Unit {0}
 MayRefuseLeg Store = Unit {0}
-MayRefuseLeg (Damaged page) = ⊥
 MayRefuseLeg StoreFull = Unit {0}
-MayRefuseLeg Spent = ⊥
+MayRefuseLeg _ = ⊥

@@ -17,7 +17,6 @@ pub mod Tracks
 pub mod Places
 pub mod Counting
 pub mod FirstFault
-pub mod Latest
 pub mod Drafts
 pub mod Joining
 pub mod CodeText

@@ -26,15 +26,13 @@ pub data Node (L B : Type 0) : Type 0 where
 
 -- the leaf, where the node is one
 abbrev pub as_leaf : {L B : Type 0} → Option (Node L B) → Option (LeafView L)
-as_leaf None = None
 as_leaf (Some (ALeaf leaf)) = Some leaf
-as_leaf (Some (AnInner page)) = None
+as_leaf _ = None
 
 -- the inner page, where the node is one
 abbrev pub as_inner : {L B : Type 0} → Option (Node L B) → Option (InnerView B)
-as_inner None = None
-as_inner (Some (ALeaf leaf)) = None
 as_inner (Some (AnInner page)) = Some page
+as_inner _ = None
 
 -- a leaf with a leg more at its end
 abbrev pub with_leg : {L : Type 0} → L → LeafView L → LeafView L

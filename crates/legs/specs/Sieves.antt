@@ -1,6 +1,5 @@
 -- Of the legs of a feature, those that a question wants.
 use Rattle.std.specs.Prelude.{◌≡◌, ◌⊎◌, false, List, [], ◌∷◌, Option, find, reverse, ◌<ℤ◌}
-use Rattle.std.proofs.Common.{refl, sym, subst, inl}
 use Rattle.timebase.specs.Period.{PeriodView}
 use Rattle.legs.specs.Legs.{LegView, is_live}
 use Rattle.legs.specs.Boxes.{RectView, box_of, box_over, boxes_meet}
@@ -39,20 +38,3 @@ pub record IsSieved (sieve : Sieve) (period : PeriodView) (all some : List LegVi
   pub of : LeavesOut (MayGo sieve period) all some
   pub first : first_live period some ≡ first_live period all
   pub last : last_live period some ≡ last_live period all
-
--- all legs are what any sieve keeps, or more
-pub leaves_none : (May : LegView → Type 0) (legs : List LegView) → LeavesOut May legs legs
-leaves_none May [] = refl
-leaves_none May (leg ∷ legs) = inl (legs, refl, leaves_none May legs)
-
--- all legs are what any sieve keeps, or more
-pub sieved_self : (sieve : Sieve) (period : PeriodView) (legs : List LegView)
-    → IsSieved sieve period legs legs
-sieved_self sieve period legs =
-    record { of = leaves_none (MayGo sieve period) legs; first = refl; last = refl }
-
--- so are legs that are the same list
-pub sieved_same : (sieve : Sieve) (period : PeriodView) (all some : List LegView) → some ≡ all
-    → IsSieved sieve period all some
-sieved_same sieve period all some e =
-    subst (λ l. IsSieved sieve period all l) (sym e) (sieved_self sieve period all)

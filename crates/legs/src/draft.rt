@@ -6,7 +6,7 @@ ghost use Rattle.mfcsv.specs.Views.{leg_count};
 ghost use Rattle.legs.specs.Legs.{leg_of, step_at};
 ghost use Rattle.legs.specs.Limits.{greatest_limit};
 ghost use Rattle.legs.specs.Book.{is_before};
-ghost use Rattle.legs.specs.Latest.{new_count, feature_or_next};
+ghost use Rattle.legs.specs.Names.{new_count, feature_or_next};
 
 use crate::cutting::{leg_count, step_at};
 use crate::joining::{JoinCode, JoinFault};
@@ -89,10 +89,10 @@ impl<'a> Draft<'a> {
     ghost use Rattle.std.specs.Prelude.{◌≡◌, ◌≤◌, ◌+◌, ◌^◌, ◌++◌, [], ◌<◌, length, OnOk, IfErr, IfNone, IfSome};
     ghost use Rattle.mfcsv.specs.Views.{IsRecord};
     ghost use Rattle.legs.specs.Limits.{greatest_limit};
-    ghost use Rattle.legs.specs.Book.{Book, feature_named, names_with, record_legs, with_record, join_faults_of};
+    ghost use Rattle.legs.specs.Book.{Book, feature_named, join_faults_of};
     ghost use Rattle.legs.specs.Tracks.{StandsFor};
     ghost use Rattle.legs.specs.FirstFault.{IsFirstOf, first_code};
-    ghost use Rattle.legs.specs.Drafts.{IsDraft, known, latest_of};
+    ghost use Rattle.legs.specs.Drafts.{IsDraft, TakesRecord, known, latest_of};
 
     /// A book before a file's first record.
     pub(crate) fn new(alloc: Global, tracks: &'a Tracks) -> Draft<'a>
@@ -134,7 +134,8 @@ impl<'a> Draft<'a> {
             → result ≡ first_code (join_faults_of limits.now book «record».now) }
         ensures few_legs { IfNone result (self.now.legs + leg_count
             (length «record».now.positions) ≤ greatest_limit) }
-        ensures few_features { IfNone result (self.now.features + new_count latest ≤ greatest_limit) }
+        ensures few_features { IfNone result (self.now.features + new_count latest
+            ≤ greatest_limit) }
     {
         if starts_before_end(record, latest) {
             return Some(JoinCode::F18);
@@ -161,19 +162,11 @@ impl<'a> Draft<'a> {
         requires place { place ≡ feature_named self.old.names.names «record».now.mfidref }
         requires within { IfSome place (λ place. place < length self.old.names.latest) }
         requires few_rows { self.old.rows ≤ self.old.legs }
-        requires few_legs { self.old.legs + leg_count (length «record».now.positions) ≤ greatest_limit }
+        requires few_legs { self.old.legs + leg_count (length «record».now.positions)
+            ≤ greatest_limit }
         requires few_features { self.old.features + new_count latest ≤ greatest_limit }
-        ensures book { OnOk result ((book : Book) → IsDraft self.old book
-            → latest ≡ latest_of book «record».now.mfidref
-            → IsDraft self.new (with_record book «record».now)) }
-        ensures legs { OnOk result ((book : Book) → IsDraft self.old book
-            → latest ≡ latest_of book «record».now.mfidref
-            → legs.new.items ≡ legs.old.items ++ record_legs book «record».now) }
-        ensures names { OnOk result (self.new.names.names
-            ≡ names_with self.old.names.names «record».now.mfidref) }
-        ensures tracks { self.new.tracks ≡ self.old.tracks }
-        ensures rows { OnOk result (self.new.rows ≡ self.old.rows + 1) }
-        ensures few_rows { self.new.rows ≤ self.new.legs }
+        ensures { TakesRecord self.old self.new «record».now legs.old.items legs.new.items
+            (λ book. latest ≡ latest_of book «record».now.mfidref) result }
     {
         let feature = feature_or_next(latest, self.features);
         push_legs(legs, record, self.legs, feature, self.rows as u32)?;
@@ -198,16 +191,9 @@ impl<'a> Draft<'a> {
         requires { self.old.rows ≤ self.old.legs }
         ensures faultless { OnOk result ((book : Book) → IsDraft self.old book
             → join_faults_of limits.now book «record».now ≡ []) }
-        ensures book { OnOk result ((book : Book) → IsDraft self.old book
-            → IsDraft self.new (with_record book «record».now)) }
-        ensures legs { OnOk result ((book : Book) → IsDraft self.old book
-            → legs.new.items ≡ legs.old.items ++ record_legs book «record».now) }
-        ensures names { OnOk result (self.new.names.names
-            ≡ names_with self.old.names.names «record».now.mfidref) }
-        ensures tracks { self.new.tracks ≡ self.old.tracks }
-        ensures rows { OnOk result (self.new.rows ≡ self.old.rows + 1) }
+        ensures takes { TakesRecord self.old self.new «record».now legs.old.items legs.new.items
+            (λ _. Unit {0}) result }
         ensures record { IsRecord «record».now }
-        ensures few_rows { self.new.rows ≤ self.new.legs }
         ensures refused { IfErr result (λ fault. (book : Book) → IsDraft self.old book
             → IsFirstOf fault (join_faults_of limits.now book «record».now) «record».now.number) }
     {

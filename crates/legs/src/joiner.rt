@@ -107,19 +107,19 @@ impl<'a> FileJoiner<'a> {
     }
 
     /// Joins the next record.
-    pub fn join(&mut self, record: &Record) -> Result<(), AllocError>
+    pub fn join(&mut self, next: &Record) -> Result<(), AllocError>
         // It has joined this record behind those before, or knows the first fault.
         ensures joining { OnOk result ((limits : LimitsView) (book : Book)
             (records : List RecordView) → IsJoining limits self.old book records
-            → IsJoining limits self.new book (records ++ «record».now ∷ [])) }
+            → IsJoining limits self.new book (records ++ next.now ∷ [])) }
         // It has counted this record behind those before, unless it knows a fault.
         ensures counted { OnOk result ((records : List RecordView) → HasCounted self.old records
-            → HasCounted self.new (records ++ «record».now ∷ [])) }
+            → HasCounted self.new (records ++ next.now ∷ [])) }
     {
         if self.fault.is_some() {
             return Ok(());
         }
-        match self.draft.join(&self.limits, record, &mut self.legs) {
+        match self.draft.join(&self.limits, next, &mut self.legs) {
             Ok(()) => Ok(()),
             Err(JoinFault::Memory) => Err(AllocError),
             Err(fault) => {

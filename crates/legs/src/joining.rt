@@ -1,9 +1,8 @@
 //! The joining of a file to a book.
-ghost use Rattle.std.specs.Prelude.{◌≡◌, [], length, map, zip, ◌++◌, Ok, IfOk, IfErr, OnOk};
+ghost use Rattle.std.specs.Prelude.{◌≡◌, [], length, zip, IfOk, IfErr, OnOk};
 ghost use Rattle.std.specs.List.{list_all};
 ghost use Rattle.std.specs.Option.{option_copied};
-ghost use Rattle.legs.specs.Index.{CanFollowInTurn};
-ghost use Rattle.legs.specs.Book.{Book, joined, IsRefusal, with_file, same_column, same_columns, same_dimension, same_space, head_faults};
+ghost use Rattle.legs.specs.Book.{Book, joined, IsRefusal, same_column, same_columns, same_dimension, same_space, head_faults};
 ghost use Rattle.legs.specs.Tracks.{StandsFor};
 ghost use Rattle.legs.specs.Joining.{IsJoinedBy};
 ghost use Rattle.legs.specs.FirstFault.{IsFirst};
@@ -174,23 +173,11 @@ pub fn join(
     limits: &Limits,
     file: &File,
 ) -> Result<Joined, JoinFault>
-    // What it adds, for the book that the tracks stand for.
+    // What it adds, for the book that the tracks stand for: the legs that the definition of joining gives the file, which
+    // may follow the book's, and the names.
     ensures joined { IfOk result (λ by. (book : Book) → StandsFor tracks.now book
         → book.head ≡ option_copied head.entry
         → IsJoinedBy limits.now book file.now by) }
-    // The legs are those that the definition of joining gives the file.
-    ensures legs { IfOk result (λ by. (book : Book) → StandsFor tracks.now book
-        → book.head ≡ option_copied head.entry
-        → joined limits.now book file.now ≡ Ok by.legs) }
-    // They may follow the book's legs, one after another.
-    ensures follow { IfOk result (λ by. (book : Book) → StandsFor tracks.now book
-        → CanFollowInTurn book.legs by.legs) }
-    // With the file the book has these legs at the end of its own.
-    ensures book_legs { IfOk result (λ by. (book : Book) → StandsFor tracks.now book
-        → (with_file book file.now).legs ≡ book.legs ++ by.legs) }
-    // With the file the book has the records' attribute values at the end of its rows.
-    ensures book_rows { OnOk result ((book : Book)
-        → (with_file book file.now).rows ≡ book.rows ++ map (λ r. r.attributes) file.now.records) }
 
     // The first fault.
     ensures refused { IfErr result (λ fault. (book : Book) → StandsFor tracks.now book

@@ -112,7 +112,7 @@ impl Tracks {
     ghost use Rattle.legs.specs.Law.{IsBook};
     ghost use Rattle.legs.specs.Legs.{IsLeg};
     ghost use Rattle.legs.specs.Index.{legs_of, live_legs_of};
-    ghost use Rattle.legs.specs.Counting.{AddsNames, Extends};
+    ghost use Rattle.legs.specs.Counting.{AddsNames, Extends, TakesNames};
     ghost use Rattle.mfcsv.specs.FileText.{HasWholeRows};
 
     /// The tracks of a book without legs. Names are hashed with the keys, which a stranger who
@@ -285,9 +285,8 @@ impl Tracks {
 
     /// Adds the names of the new features, each with an empty track.
     fn add_names(&mut self, names: &Names) -> Result<(), AllocError>
-        ensures ok { OnOk result (AddsNames self.old self.new (fresh_names (length self.old.names)
-            names.now.names names.now.latest)) }
-        ensures err { OnErr result (self.new ≡ self.old) }
+        ensures { TakesNames self.old self.new (fresh_names (length self.old.names)
+            names.now.names names.now.latest) result }
     {
         let known = self.names.len();
         match self.push_names(names) {
@@ -315,9 +314,8 @@ impl Tracks {
 
     /// Adds a name where its feature has that number or a greater one.
     fn push_new(&mut self, known: u64, name: &str, latest: Latest) -> Result<(), AllocError>
-        ensures ok { OnOk result (AddsNames self.old self.new
-            (if nat_le known latest.feature then name.now ∷ [] else [])) }
-        ensures err { OnErr result (self.new ≡ self.old) }
+        ensures { TakesNames self.old self.new
+            (if nat_le known latest.feature then name.now ∷ [] else []) result }
     {
         if u64::from(latest.feature) < known {
             return Ok(());
@@ -326,8 +324,7 @@ impl Tracks {
     }
 
     fn push_name(&mut self, name: &str, end: Ms) -> Result<(), AllocError>
-        ensures ok { OnOk result (AddsNames self.old self.new (name.now ∷ [])) }
-        ensures err { OnErr result (self.new ≡ self.old) }
+        ensures { TakesNames self.old self.new (name.now ∷ []) result }
     {
         self.tracks.reserve(1)?;
         if insert_name(&mut self.names, self.alloc, name)? {

@@ -10,10 +10,10 @@ use Rattle.fixedpoint.specs.Number.{IsInRange, units_within, most}
 use Rattle.timebase.specs.Instant.{IsMoment, some_moment, is_moment, least_moment, greatest_moment}
 use Rattle.legs.specs.Legs.{LegView, IsLeg}
 use Rattle.pages.specs.declared.payload.Payload.{Payload}
-use Rattle.tbnode.specs.Nodes.{LeafView, as_leaf}
+use Rattle.tbnode.specs.Nodes.{LeafView, ALeaf, as_leaf}
 use Rattle.tbnode.specs.Parts.{number_at, signed_at, slot}
 use Rattle.tbnode.specs.Layout.{leg_from_bytes, is_leg, has_moments, has_start, has_end}
-use Rattle.tbnode.specs.Form.{leaf_feature, leaf_leg_count, leaf_leg, leaf_from_bytes, is_leg_at, LegsAreLawful}
+use Rattle.tbnode.specs.Form.{leaf_feature, leaf_leg_count, leaf_leg, leaf_from_bytes, is_leg_at, node_of}
 use Rattle.tbnode.proofs.ListLemmas.{and_left, and_right, all_below-at, all-made}
 use Rattle.tbnode.proofs.FormLemmas.{leaf_form, leg_lawful}
 use Rattle.tbnode.proofs.KindLemmas.{HoldsLeaf, a_leaf, held, seen_is}
@@ -159,6 +159,12 @@ legs_of_form p h =
     let each : (i : ℕ) → i < n → IsLeg (leaf_leg p.bytes i) =
     λ i l. leg_is (leaf_feature p.bytes) (slot 80 i p.bytes) (leg_lawful p.bytes i (all_below-at (is_leg_at p.bytes) n i f.legs l)) in
     all-made IsLeg (leaf_leg p.bytes) n each
+
+-- the legs of each leaf are lawful
+abbrev pub LegsAreLawful : Type 0
+LegsAreLawful =
+    (payload : Payload) (leaf : LeafView LegView) → node_of payload ≡ Some (ALeaf leaf)
+    → All IsLeg leaf.legs
 
 pub legs_are_lawful : LegsAreLawful
 legs_are_lawful p l e =

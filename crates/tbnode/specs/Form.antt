@@ -1,7 +1,7 @@
 -- The node that a payload says.
 use Rattle.std.specs.Prelude.{ℕ, ◌≡◌, ◌+◌, ◌-◌, ◌*◌, ◌==◌, nat_lt, nat_le, Bool, ◌&&◌, ◌||◌, if◌then◌else◌, List, drop, map, Option, Some, None}
-use Rattle.std.specs.List.{All, range_with_len}
-use Rattle.legs.specs.Legs.{LegView, IsLeg}
+use Rattle.std.specs.List.{range_with_len}
+use Rattle.legs.specs.Legs.{LegView}
 use Rattle.legs.specs.Boxes.{BoxView}
 use Rattle.pages.specs.declared.payload.Kind.{Kind}
 use Rattle.pages.specs.declared.payload.Kind.TheVariants.{Header, Leaf, Inner, Catalogue}
@@ -92,12 +92,6 @@ OfLeaf payload P = (leaf : LeafView LegView) → node_of payload ≡ Some (ALeaf
 -- the head counts from 1 to 50 legs
 unfoldable pub is_counted : List ℕ → Bool
 is_counted bytes = nat_le 1 (leaf_leg_count bytes) && nat_le (leaf_leg_count bytes) 50
-
--- the legs of each leaf are lawful
-abbrev pub LegsAreLawful : Type 0
-LegsAreLawful =
-    (payload : Payload) (leaf : LeafView LegView) → node_of payload ≡ Some (ALeaf leaf)
-    → All IsLeg leaf.legs
 
 -- the bytes behind those that a head counts
 abbrev pub rest_by : Kind → List ℕ → List ℕ

@@ -8,7 +8,7 @@ use Rattle.std.proofs.lemmas.List.{append-nil}
 use Rattle.std.proofs.lemmas.List.Elements.{filter-append}
 use Rattle.std.proofs.lemmas.List.Sums.{sum_by-cons}
 use Rattle.legs.specs.Blocks.{begins, same, runs_after, runs}
-use Rattle.tbtree.specs.Order.{put_in, put_all, elements, run_for, with_last, numbered, in_blocks}
+use Rattle.tbtree.proofs.TurnOrders.{put_in, put_all, elements, run_for, with_last, numbered, in_blocks}
 use Rattle.tbtree.proofs.RoomLemmas.{neq-eqb, push_other, count_append}
 use Rattle.tbtree.proofs.KeyRuns.{is, gathered}
 

@@ -8,8 +8,8 @@ use Rattle.std.proofs.lemmas.List.Sums.{length-filter, count_by-le-length, sum_b
 use Rattle.std.proofs.lemmas.Option.{slice_get_within, slice_get-get_or}
 use Rattle.legs.specs.Blocks.{level, joined}
 use Rattle.legs.specs.Costs.{some_meets, block_meets, met_at, met, cost}
-use Rattle.legs.specs.Hull.{Boxes, both, hull}
-use Rattle.tbtree.specs.Descent.{children_met, node_at, pages_met, met_count, hits, legs_in, legs_met, HasInner, IsPruning}
+use Rattle.legs.specs.Hull.{IsPruning, Boxes, both, hull}
+use Rattle.tbtree.specs.Descent.{children_met, node_at, pages_met, met_count, hits, legs_in, legs_met, HasInner}
 use Rattle.tbtree.specs.Nodes.{Pages, HasLeaf}
 use Rattle.tbtree.specs.Stands.{page_at, TreeStands}
 use Rattle.tbtree.proofs.LawfulBoxes.{AreLawful}

@@ -9,11 +9,11 @@ use Rattle.std.proofs.lemmas.List.Sorted.{IsPermutation-trans, IsPermutation-sym
 use Rattle.std.proofs.lemmas.Nat.{mul-le}
 use Rattle.legs.specs.Blocks.{runs, level, joined, groups}
 use Rattle.legs.specs.Boxes.{BoxView, box_of}
-use Rattle.legs.specs.Costs.{height, leaves_of, leg_feature}
-use Rattle.legs.specs.Hull.{leg_boxes}
+use Rattle.legs.specs.Costs.{cost, height, leaves_of, leg_feature}
+use Rattle.legs.specs.Hull.{IsPruning, leg_boxes}
 use Rattle.legs.specs.Index.{CanFollowInTurn, legs_of}
 use Rattle.legs.specs.Legs.{LegView}
-use Rattle.tbtree.specs.Descent.{legs_met, pages_met, IsPruning, Descends, sort_by_ordinal, content_of, found_legs, children_met, entries_in, legs_in, node_at, node_in, IsSameTree}
+use Rattle.tbtree.specs.Descent.{legs_met, pages_met, met_count, IsInOrder, HasInner, sort_by_ordinal, content_of, found_legs, children_met, entries_in, legs_in, node_at, node_in, IsSameTree}
 use Rattle.tbtree.specs.Insert.{Stands, IsPlace}
 use Rattle.tbtree.specs.Joining.{Holds}
 use Rattle.tbtree.specs.Nodes.{EntryView, Node, ALeaf, AnInner, Pages, HasLeaf}
@@ -41,6 +41,24 @@ ordinals before (x ∷ xs) h (suc i) l e = let o = ordinals (before ++ x ∷ [])
 
 abbrev number : LegView → ℕ
 number leg = leg.ordinal
+
+-- the way down by a test of boxes, over pages that stand for legs
+pub record Descends (meets : BoxView → Bool) (nodes : Pages LegView BoxView) (tree : TbTree)
+    (legs : List LegView) : Type 0 where
+  -- it finds the legs whose boxes meet
+  pub found : (sorted : List LegView)
+      → IsInOrder (legs_met leg_boxes meets nodes tree.root tree.levels) sorted
+      → sorted ≡ filter (λ leg. meets (box_of leg)) legs
+  -- by one page for the root and one for each other block whose box meets
+  pub asked : met_count meets nodes tree.root tree.levels
+      ≡ cost leg_boxes meets tree.shape.inner (leaves_of tree.shape legs)
+  -- each page on it is an inner page of its level, or a leaf at its end
+  pub inners : (n k : ℕ) → n + suc (suc k) ≡ tree.levels
+      → All (λ p. HasInner nodes p (suc k)) (pages_met meets nodes tree.root n)
+  pub leaves : (n : ℕ) → suc n ≡ tree.levels
+      → All (λ p. HasLeaf nodes p) (pages_met meets nodes tree.root n)
+  -- and there are more pages than are met
+  pub fewer : (n : ℕ) → n ≤ tree.levels → met_count meets nodes tree.root n < nodes.count
 
 module _ (meets : BoxView → Bool) (prune : IsPruning leg_boxes meets) (nodes : Pages LegView BoxView) (tree : TbTree) (legs : List LegView) (pages : ℕ → List ℕ) (shape : IsShape tree.shape) (st : Stands nodes tree legs pages) where
   abbrev test : LegView → Bool

@@ -8,11 +8,12 @@ use Rattle.legs.specs.Hull.{leg_boxes}
 use Rattle.legs.specs.Legs.{IsLeg, LegView}
 use Rattle.pagecache.specs.Cache.{Cache, payload_of}
 use Rattle.pages.specs.declared.payload.Payload.{Payload}
-use Rattle.tbnode.specs.Form.{node_of, LegsAreLawful}
+use Rattle.tbnode.specs.Form.{node_of}
 use Rattle.tbtree.specs.Descent.{content_of, found_legs, hits, legs_in, legs_met, node_at, pages_met, sort_by_ordinal}
 use Rattle.tbtree.specs.Nodes.{ALeaf, AnInner, Pages, pages_of_cache}
 use Rattle.tbtree.specs.declared.tree.TbTree.{TbTree}
 use Rattle.tbtree.proofs.SortLemmas.{sort_moves}
+use Rattle.tbnode.proofs.LawLemmas.{LegsAreLawful}
 
 lawful_in : LegsAreLawful → (payload : Option Payload) → All IsLeg (legs_in (option_map node_of payload))
 lawful_in laws None = All-nil IsLeg

@@ -1,3 +1,4 @@
+pub mod TurnOrders
 pub mod LawfulBoxes
 pub mod PassLemmas
 pub mod FaultLemmas

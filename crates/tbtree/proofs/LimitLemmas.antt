@@ -1,13 +1,13 @@
 -- How great the numbers of a tree and of its places are.
 use Rattle.std.proofs.Common.{ℕ, suc, ◌-◌, ◌^◌, ◌<◌, ◌≤◌, ◌≡◌, ◌==◌, true, false, cond, List, [], ◌∷◌, ◌++◌, length, map, take, refl, sym, arith, subst, ⊎_elim, Some, slice_get}
-use Rattle.std.specs.List.{filter}
+use Rattle.std.specs.List.{count_by, filter}
+use Rattle.legs.specs.Index.{is_of}
 use Rattle.std.proofs.Math.Nat.{pow-le-pow_left, pow-le-pow_right}
 use Rattle.std.proofs.lemmas.Bool.{cases_lt}
 use Rattle.legs.specs.Blocks.{begins, level, runs_after, same}
 use Rattle.legs.specs.Boxes.{BoxView}
 use Rattle.legs.specs.Costs.{leaves_of, leg_feature}
 use Rattle.legs.specs.Legs.{LegView}
-use Rattle.tbtree.specs.Bounds.{IsBounded, IsBoundedPlace}
 use Rattle.tbtree.specs.Insert.{Stands, IsPlace}
 use Rattle.tbtree.specs.Nodes.{Pages}
 use Rattle.tbtree.specs.Shape.{IsShape}
@@ -18,6 +18,21 @@ use Rattle.tbtree.proofs.BeginLemmas.{zip-second}
 use Rattle.tbtree.proofs.BoundLemmas.{few_leaves}
 use Rattle.tbtree.proofs.LevelLemmas.{wide_level}
 use Rattle.tbtree.proofs.PlaceLemmas.{as_many}
+
+-- there is a page 0 and the root's page, no leaf without a page, and few levels where legs are few
+pub record IsBounded (nodes : Pages LegView BoxView) (tree : TbTree)
+    (legs : List LegView) : Type 0 where
+  pub page_0 : 0 < nodes.count
+  pub root : tree.root < nodes.count
+  pub leaves : tree.leaves ≤ nodes.count
+  pub levels : length legs ≤ 2 ^ 31 → tree.levels ≤ 32
+
+-- the place of the feature f: its pages are there, and it counts the legs of the feature
+pub record IsBoundedPlace (nodes : Pages LegView BoxView) (legs : List LegView) (f : ℕ)
+    (place : Place) : Type 0 where
+  pub first : place.first < nodes.count
+  pub last : place.last < nodes.count
+  pub legs_are : place.legs ≡ count_by (is_of f) legs
 
 -- there are no more runs than elements
 runs_within : {X : Type 0} (key : X → ℕ) (n : ℕ) (before xs : List X) → length (runs_after key n before xs) ≤ length xs

@@ -5,9 +5,9 @@ use Rattle.std.proofs.lemmas.List.{map-append, append-nil}
 use Rattle.std.proofs.lemmas.List.Elements.{filter-append}
 use Rattle.std.proofs.lemmas.Slice.Zip.{length-zip}
 use Rattle.legs.specs.Blocks.{groups, level, block, joined}
-use Rattle.legs.specs.Hull.{Boxes, both, hull_of}
+use Rattle.legs.specs.Hull.{IsPruning, Boxes, both, hull_of}
 use Rattle.legs.specs.Costs.{some_meets, block_meets}
-use Rattle.tbtree.specs.Descent.{entries_in, node_at, children_met, IsPruning}
+use Rattle.tbtree.specs.Descent.{entries_in, node_at, children_met}
 use Rattle.tbtree.specs.Nodes.{Pages, EntryView}
 use Rattle.tbtree.specs.Stands.{NumbersStand, InnerStands, LevelStands}
 use Rattle.legs.proofs.GroupLemmas.{some_none, some_same}

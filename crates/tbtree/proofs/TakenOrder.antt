@@ -16,10 +16,12 @@ use Rattle.legs.specs.Hull.{leg_boxes}
 use Rattle.legs.specs.Index.{CanFollowInTurn, feature_count}
 use Rattle.legs.specs.Legs.{LegView}
 use Rattle.tbtree.specs.Turn.{IsPast, IsRising}
-use Rattle.tbtree.specs.Joining.{CanJoin, CanTakeInTurn, Holds, IsReordered, leaf_by_leaf}
+use Rattle.tbtree.specs.Joining.{CanJoin, CanTakeInTurn, Holds}
+use Rattle.tbtree.specs.Insert.{IsPlace, Stands}
 use Rattle.tbtree.specs.Nodes.{Pages}
-use Rattle.tbtree.specs.Order.{put_in, put_all, elements, run_for, with_last, numbered}
+use Rattle.tbtree.proofs.TurnOrders.{put_in, put_all, elements, run_for, with_last, numbered, leaf_by_leaf}
 use Rattle.tbtree.specs.Stands.{TreeStands, PlaceStands, marks}
+use Rattle.tbtree.specs.declared.tree.Place.{Place}
 use Rattle.tbtree.specs.declared.tree.TbTree.{TbTree}
 use Rattle.tbtree.proofs.BlockOrder.{Each, IsUpFrom, PassesOthers, IsPut, ahead, count_differ, passes, begun_last, next_put, order_kept, order_moves, order_runs, start}
 use Rattle.legs.proofs.GroupLemmas.{some_same}
@@ -133,6 +135,15 @@ count_below legs f some =
     ⊎_elim (λ (l : f < feature_count legs). l)
     (λ (l : feature_count legs ≤ f). absurd (some (sym (length-filter (is leg_feature f) legs) ∙ ap length (none_beyond legs f l))))
     (cases_lt f (feature_count legs))
+
+-- pages that hold legs, the last of them leaf by leaf, stand for them in their own order
+pub record IsReordered (nodes : Pages LegView BoxView) (tree : TbTree)
+    (before legs turns : List LegView) (pages : ℕ → List ℕ) : Type 0 where
+  pub stands : Stands nodes tree (before ++ legs) pages
+  pub places : (f : ℕ) (place : Place) → IsPlace tree (before ++ turns) pages f place
+      → IsPlace tree (before ++ legs) pages f place
+  pub as_many : length (before ++ turns) ≡ length (before ++ legs)
+  pub features : feature_count (before ++ turns) ≡ feature_count (before ++ legs)
 
 module _ (leaf : ℕ) (before legs : List LegView) where
   abbrev turns : List LegView

@@ -1,12 +1,10 @@
 -- The way down from a tree's root: the pages that are met and the legs that they have, for any pages. Page 0 is none of
 -- a tree's.
 use Rattle.std.specs.Prelude.{ℕ, zero, suc, ◌≡◌, ◌+◌, ◌<◌, ◌≤◌, Bool, true, cond, nat_lt, List, [], ◌∷◌, map, filter, length, Option, Some, None}
-use Rattle.std.specs.List.{flat_map, All}
+use Rattle.std.specs.List.{flat_map}
 use Rattle.std.specs.List.Sorted.{IsPermutation, IsNonDecreasingBy}
 use Rattle.legs.specs.Legs.{LegView}
-use Rattle.legs.specs.Boxes.{BoxView, box_of}
-use Rattle.legs.specs.Costs.{cost, leaves_of}
-pub use Rattle.legs.specs.Hull.{IsPruning}
+use Rattle.legs.specs.Boxes.{BoxView}
 use Rattle.legs.specs.Hull.{Boxes, leg_boxes}
 use Rattle.tbtree.specs.Nodes.{Pages, Node, ALeaf, AnInner, EntryView, InnerView, HasLeaf}
 use Rattle.tbtree.specs.declared.tree.TbTree.{TbTree}
@@ -102,21 +100,3 @@ pub record HasInner {L B : Type 0} (nodes : Pages L B) (p level : ℕ) : Type 0 
 abbrev pub IsOnLevel : Pages LegView BoxView → ℕ → ℕ → Type 0
 IsOnLevel nodes zero p = HasLeaf nodes p
 IsOnLevel nodes (suc k) p = HasInner nodes p (suc k)
-
--- the way down by a test of boxes, over pages that stand for legs
-pub record Descends (meets : BoxView → Bool) (nodes : Pages LegView BoxView) (tree : TbTree)
-    (legs : List LegView) : Type 0 where
-  -- it finds the legs whose boxes meet
-  pub found : (sorted : List LegView)
-      → IsInOrder (legs_met leg_boxes meets nodes tree.root tree.levels) sorted
-      → sorted ≡ filter (λ leg. meets (box_of leg)) legs
-  -- by one page for the root and one for each other block whose box meets
-  pub asked : met_count meets nodes tree.root tree.levels
-      ≡ cost leg_boxes meets tree.shape.inner (leaves_of tree.shape legs)
-  -- each page on it is an inner page of its level, or a leaf at its end
-  pub inners : (n k : ℕ) → n + suc (suc k) ≡ tree.levels
-      → All (λ p. HasInner nodes p (suc k)) (pages_met meets nodes tree.root n)
-  pub leaves : (n : ℕ) → suc n ≡ tree.levels
-      → All (λ p. HasLeaf nodes p) (pages_met meets nodes tree.root n)
-  -- and there are more pages than are met
-  pub fewer : (n : ℕ) → n ≤ tree.levels → met_count meets nodes tree.root n < nodes.count

@@ -1,13 +1,10 @@
 -- What may go wrong with a page of a tree: what causes a refusal, which refusals good pages allow, and which page is
 -- named. A call reads where it changes no payload and adds no page, as a search does, and else it writes.
-use Rattle.std.specs.Prelude.{ℕ, ◌≡◌, ◌≢◌, ◌<◌, Result, MatchResult, Option, Some, None, IsTrue}
-use Rattle.legs.specs.Boxes.{BoxView}
-use Rattle.legs.specs.Legs.{LegView}
+use Rattle.std.specs.Prelude.{ℕ, ◌≡◌, ◌≢◌, ◌<◌, Result, MatchResult, None, IsTrue}
 use Rattle.pages.specs.Store.{Faulted}
 use Rattle.pagecache.specs.Cache.{Cache, payload_of}
 use Rattle.pagecache.specs.declared.fault.CacheFault.{CacheFault}
 use Rattle.pagecache.specs.declared.fault.CacheFault.TheVariants as cache
-use Rattle.tbtree.specs.Nodes.{Pages}
 use Rattle.tbtree.specs.declared.fault.TreeFault.{TreeFault}
 use Rattle.tbtree.specs.declared.fault.TreeFault.TheVariants.{Cache as OfCache, Malformed, Spent}
 
@@ -92,9 +89,3 @@ NamesEach P Q Spent = Unit {0}
 -- P of the page that is said to be damaged or malformed
 abbrev pub IfNamed : (ℕ → Type 0) → TreeFault → Type 0
 IfNamed P fault = NamesEach P P fault
-
--- a page that is named is that one; it is malformed only if it is page 0, or is not there, or has a payload
-abbrev pub IsNamed : Pages LegView BoxView → Option ℕ → TreeFault → Type 0
-IsNamed nodes at fault =
-    NamesEach (λ n. at ≡ Some n)
-    (λ n. (at ≡ Some n) × (0 < n → n < nodes.count → nodes.at n ≢ None)) fault

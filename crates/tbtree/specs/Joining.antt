@@ -10,8 +10,7 @@ use Rattle.tbtree.specs.Faults.{GivesWrite, RefusesWrite}
 use Rattle.tbtree.specs.Nodes.{Pages, pages_of_cache}
 use Rattle.tbtree.specs.Passes.{KeepsLength, Passes, Touches}
 use Rattle.tbtree.specs.Stands.{TreeStands}
-use Rattle.tbtree.specs.Insert.{IsPlace, Stands}
-use Rattle.tbtree.specs.Order.{in_blocks}
+use Rattle.tbtree.specs.Insert.{IsPlace}
 use Rattle.tbtree.specs.declared.tree.Place.{Place}
 use Rattle.tbtree.specs.declared.tree.TbTree.{TbTree}
 use Rattle.tbtree.specs.declared.fault.TreeFault.{TreeFault}
@@ -94,16 +93,3 @@ pub record CanTake (legs : List LegView) (leg : LegView) : Type 0 where
 abbrev pub CanTakeInTurn : List LegView → List LegView → Type 0
 CanTakeInTurn legs [] = Unit {0}
 CanTakeInTurn legs (leg ∷ others) = CanTake legs leg × CanTakeInTurn (legs ++ leg ∷ []) others
-
--- legs in the order in which they fill leaf after leaf, after those before them
-abbrev pub leaf_by_leaf : ℕ → List LegView → List LegView → List LegView
-leaf_by_leaf leaf before legs = in_blocks leg_feature leaf (feature_count before) before legs
-
--- pages that hold legs, the last of them leaf by leaf, stand for them in their own order
-pub record IsReordered (nodes : Pages LegView BoxView) (tree : TbTree)
-    (before legs turns : List LegView) (pages : ℕ → List ℕ) : Type 0 where
-  pub stands : Stands nodes tree (before ++ legs) pages
-  pub places : (f : ℕ) (place : Place) → IsPlace tree (before ++ turns) pages f place
-      → IsPlace tree (before ++ legs) pages f place
-  pub as_many : length (before ++ turns) ≡ length (before ++ legs)
-  pub features : feature_count (before ++ turns) ≡ feature_count (before ++ legs)

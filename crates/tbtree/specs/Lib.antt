@@ -6,9 +6,6 @@ pub mod Shape
 pub mod Stands
 pub mod Way
 pub mod Insert
-pub mod Order
 pub mod Joining
 pub mod Descent
-pub mod Bounds
 pub mod Turn
-pub mod Planting

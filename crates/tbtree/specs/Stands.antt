@@ -3,6 +3,7 @@ use Rattle.std.specs.Prelude.{ℕ, suc, ◌≡◌, ◌<◌, ◌≤◌, ◌==◌,
 use Rattle.std.specs.List.{zip, count_by}
 use Rattle.legs.specs.Blocks.{block, level}
 use Rattle.legs.specs.Costs.{ShapeView}
+use Rattle.legs.specs.Finding.{FeaturePlace}
 use Rattle.legs.specs.Hull.{Boxes, hull_of}
 pub use Rattle.legs.specs.Nodes.{new_leaf, owner}
 use Rattle.tbtree.specs.declared.tree.Place.{Place}
@@ -104,3 +105,7 @@ no_place = record { first = 0; last = 0; last_index = 0; legs = 0 }
 -- the tree without legs
 abbrev pub empty_tree : ShapeView → TbTree
 empty_tree shape = record { root = 0; levels = 0; leaves = 0; shape = shape; spent = false }
+
+-- where a feature's legs are
+abbrev pub place_of : Place → FeaturePlace
+place_of p = record { first = p.first; last = p.last; last_index = p.last_index; legs = p.legs }

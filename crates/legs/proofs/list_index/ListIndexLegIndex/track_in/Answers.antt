@@ -2,8 +2,8 @@ use Rattle.std.proofs.Common.{◌∙◌, ap, refl}
 use Rattle.std.specs.Prelude.{filter}
 use Rattle.legs.specs.Index.{live_legs_of}
 use Rattle.legs.specs.Legs.{is_live}
-use Rattle.legs.specs.Sieves.{sieved_same}
 use Rattle.legs.proofs.list_index.ListIndexLegIndex.track_in.Goals as goal
+use Rattle.legs.proofs.SieveLaws.{sieved_same}
 
 pub returns-clause-found : goal.returns-clause-found
 returns-clause-found c = λ sound.

@@ -1,6 +1,9 @@
 -- The order in which elements fill run after run, the runs in order of their first elements.
 use Rattle.std.specs.Prelude.{ℕ, suc, ◌==◌, cond, nat_lt, List, [], ◌∷◌, ◌++◌, map}
 use Rattle.legs.specs.Blocks.{begins}
+use Rattle.legs.specs.Legs.{LegView}
+use Rattle.legs.specs.Costs.{leg_feature}
+use Rattle.legs.specs.Index.{feature_count}
 
 module _ {X : Type 0} where
   -- an element with the number of its run is put among others, before the first whose number is higher
@@ -37,3 +40,7 @@ module _ {X : Type 0} (key : X → ℕ) (n : ℕ) where
   -- run by run: those that go on runs that are there, which are numbered by their keys, and then each new run
   abbrev pub in_blocks : ℕ → List X → List X → List X
   in_blocks made before xs = elements (put_all [] (numbered (λ f. f) before made xs))
+
+-- legs in the order in which they fill leaf after leaf, after those before them
+abbrev pub leaf_by_leaf : ℕ → List LegView → List LegView → List LegView
+leaf_by_leaf leaf before legs = in_blocks leg_feature leaf (feature_count before) before legs
