@@ -19,8 +19,8 @@ use Rattle.querylang.specs.declared.Command.TheVariants.{Load, Count, Box, Legs,
 use Rattle.querylang.specs.declared.parse.Question.{Question}
 
 -- what stands between runs of spaces and tabs
-abbrev pub words : List ℕ → List (List ℕ)
-words text = words_between is_blank text
+abbrev pub line_words : List ℕ → List (List ℕ)
+line_words text = words_between is_blank text
 
 -- a rectangle of four coordinates: Q5 where one of them is not read, Q6 where a lesser one is the greater
 abbrev pub rectangle : Result ℤ NumberFault → Result ℤ NumberFault → Result ℤ NumberFault
@@ -124,12 +124,12 @@ keyword_of word =
 -- what a text asks for whose first word is that command
 abbrev pub asked_in_words : Keyword → List ℕ → Result Command LineCode
 asked_in_words keyword.Load text = named Load (name_read (behind_word is_blank text))
-asked_in_words keyword.Count text = alone Count (words text)
-asked_in_words keyword.Box text = box_command (words text)
-asked_in_words keyword.Legs text = tested Legs (question_of (words text))
-asked_in_words keyword.Features text = tested Features (question_of (words text))
+asked_in_words keyword.Count text = alone Count (line_words text)
+asked_in_words keyword.Box text = box_command (line_words text)
+asked_in_words keyword.Legs text = tested Legs (question_of (line_words text))
+asked_in_words keyword.Features text = tested Features (question_of (line_words text))
 asked_in_words keyword.Trajectory text = named Trajectory (name_read (behind_word is_blank text))
-asked_in_words keyword.Write text = alone Write (words text)
+asked_in_words keyword.Write text = alone Write (line_words text)
 asked_in_words keyword.Unknown text = Err Q2
 
 -- what a text asks for that is cut

@@ -2,7 +2,7 @@
 ghost use Rattle.std.specs.Prelude.{◌≡◌, ◌==◌, ◌≤◌, ◌<◌, ◌+◌, ◌||◌, length, map, true, false, IfOk, IsErrOf, None, MatchOption, slice_index, slice_index_or, []};
 ghost use Rattle.std.specs.Str.{is_utf8};
 ghost use Rattle.querylang.specs.Line.{alone, box_command, command_of, keyword_of, named, is_no_command, line_command, name_read, period_behind, predicate_of, question_of, rect_behind, tested};
-ghost use Rattle.querylang.specs.Line.{words, word_at};
+ghost use Rattle.querylang.specs.Line.{line_words, word_at};
 ghost use Rattle.querylang.specs.Answer.{Gives};
 ghost use Rattle.querylang.specs.declared.Command.TheVariants.{Features, Legs, Load, Trajectory};
 
@@ -241,7 +241,7 @@ fn keyword_of(word: &str) -> Keyword
 
 /// The words of a line.
 fn line_words(alloc: Global, text: &str) -> Result<Vec<&str>, AllocError>
-    ensures { IfOk result (λ ws. map (λ w. w.now) ws.items ≡ words text.now) }
+    ensures { IfOk result (λ ws. map (λ w. w.now) ws.items ≡ line_words text.now) }
 {
     words_of(alloc, text, Separator::Blank)
 }

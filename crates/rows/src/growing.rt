@@ -5,7 +5,7 @@ ghost use Rattle.rows.specs.Rows.{row_of, IsIn};
 
 use crate::guesses::STEPS;
 use crate::places::Places;
-use crate::row::{Place, Row};
+use crate::row::{Row, RowPlace};
 use crate::rows::Rows;
 use csv::ByteRecord;
 use mfcsv::Text;
@@ -74,21 +74,21 @@ fn are_same(values: &ByteRecord, one: usize, other: usize, count: usize) -> bool
 }
 
 /// Whether a place has as many values as another, and as many blank ones.
-fn has_counts_of(known: Place, place: Place) -> bool
+fn has_counts_of(known: RowPlace, place: RowPlace) -> bool
     ensures { IsTrue result → (known.count ≡ place.count) × (known.blanks ≡ place.blanks) }
 {
     known.count == place.count && known.blanks == place.blanks
 }
 
 /// Whether a place ends where another begins, or before.
-fn stands_before(known: Place, place: Place) -> bool
+fn stands_before(known: RowPlace, place: RowPlace) -> bool
     ensures { IsTrue result → known.first + known.count ≤ place.first }
 {
     known.first <= place.first && place.first - known.first >= known.count as usize
 }
 
 /// Whether a place stands before another, and has an equal row.
-fn is_equal(values: &ByteRecord, known: Place, place: Place) -> bool
+fn is_equal(values: &ByteRecord, known: RowPlace, place: RowPlace) -> bool
     requires { IsIn (fields_of values.now) place }
     ensures { IsTrue result → IsIn (take place.first (fields_of values.now)) known
         × (row_of (take place.first (fields_of values.now)) known ≡ row_of (fields_of values.now) place) }
@@ -103,7 +103,7 @@ fn is_equal(values: &ByteRecord, known: Place, place: Place) -> bool
 }
 
 /// A place before that of a row, with an equal row.
-fn find(values: &ByteRecord, places: &Places, place: Place, hash: u32) -> Option<Place>
+fn find(values: &ByteRecord, places: &Places, place: RowPlace, hash: u32) -> Option<RowPlace>
     requires { IsIn (fields_of values.now) place }
     ensures { IfSome result (λ known. IsIn (take place.first (fields_of values.now)) known
         × (row_of (take place.first (fields_of values.now)) known ≡ row_of (fields_of values.now) place)) }
@@ -198,7 +198,7 @@ impl GrowingRows {
         let Ok(count) = u32::try_from(end - first) else {
             return Err(AllocError);
         };
-        let place = Place {
+        let place = RowPlace {
             first,
             count,
             blanks,

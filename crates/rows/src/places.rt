@@ -2,7 +2,7 @@
 ghost use Rattle.std.specs.Prelude.{◌≡◌, IfSome, Some, slice_get};
 
 use crate::guesses::{Guess, Guesses, STEPS};
-use crate::row::Place;
+use crate::row::RowPlace;
 use std::alloc::{AllocError, Global};
 use std::marker::Model;
 
@@ -11,7 +11,7 @@ use std::marker::Model;
 /// A place is kept once, in 16 bytes, with its number, 4 bytes, for each row that stands there.
 #[derive(Drop)]
 pub(crate) struct Places {
-    kept: Vec<Place>,
+    kept: Vec<RowPlace>,
     /// Of each row, the number of its place.
     numbers: Vec<u32>,
     guesses: Guesses,
@@ -20,9 +20,9 @@ pub(crate) struct Places {
 impl Model for Places {
     ghost use Rattle.std.specs.Prelude.{List, ◌<◌, length, All};
     ghost use Rattle.rows.specs.Rows.{places_of};
-    ghost use Rattle.rows.specs.declared.row.Place.{Place};
+    ghost use Rattle.rows.specs.declared.row.RowPlace.{RowPlace};
 
-    ghost Value = { List Place };
+    ghost Value = { List RowPlace };
 
     ghost view = { λ a. places_of a.kept.items a.numbers.items };
 
@@ -30,7 +30,7 @@ impl Model for Places {
 }
 
 /// The number under which a place is kept, where a guess has it.
-fn number_of(guesses: &Guesses, kept: &[Place], place: Place, hash: u32) -> Option<u32>
+fn number_of(guesses: &Guesses, kept: &[RowPlace], place: RowPlace, hash: u32) -> Option<u32>
     ensures { IfSome result (λ number. slice_get kept.now number ≡ Some place) }
 {
     for step in 0..STEPS {
@@ -70,7 +70,7 @@ impl Places {
     }
 
     /// The place of the row of that number, counted from 0.
-    pub(crate) fn get(&self, i: usize) -> Option<Place>
+    pub(crate) fn get(&self, i: usize) -> Option<RowPlace>
         ensures { result ≡ slice_get self.now i }
     {
         let number = self.numbers.get(i).copied()?;
@@ -78,14 +78,14 @@ impl Places {
     }
 
     /// A place where a row of this hash may stand.
-    pub(crate) fn guess(&self, hash: u32, step: usize) -> Option<Place> {
+    pub(crate) fn guess(&self, hash: u32, step: usize) -> Option<RowPlace> {
         let number = self.guesses.guess(hash, step)?;
         self.kept.get(number as usize).copied()
     }
 
     /// Puts the place of a row of this hash behind the others. It is refused where memory runs out,
     /// and where 2^32 places are kept.
-    pub(crate) fn push(&mut self, place: Place, hash: u32) -> Result<(), AllocError>
+    pub(crate) fn push(&mut self, place: RowPlace, hash: u32) -> Result<(), AllocError>
         ensures pushed { OnOk result (self.new ≡ self.old ++ place ∷ []) }
         ensures stays { OnErr result (self.new ≡ self.old) }
     {

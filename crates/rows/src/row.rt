@@ -7,7 +7,7 @@ use std::str;
 
 /// Where a row stands among the values of all rows.
 #[derive(Clone, Copy, Drop)]
-pub(crate) struct Place {
+pub(crate) struct RowPlace {
     /// The number of its first value.
     pub(crate) first: usize,
     /// How many values are kept.
@@ -20,7 +20,7 @@ pub(crate) struct Place {
 #[derive(Drop)]
 pub struct Row<'a> {
     pub(crate) values: &'a ByteRecord,
-    pub(crate) place: Place,
+    pub(crate) place: RowPlace,
 }
 
 impl<'a> Model for Row<'a> {

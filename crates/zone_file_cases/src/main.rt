@@ -6,12 +6,12 @@
 use std::alloc::Global;
 use std::io::{self, Read};
 use zone_files::{Shape, Zone, read_zones};
-use zones::{Position, Ring};
+use zones::{GridPoint, Ring};
 
 /// What stands behind each file.
 const END: &[u8] = b"====";
 
-fn print_position(rt: &impl Print, position: &Position) -> io::Result<()> {
+fn print_position(rt: &impl Print, position: &GridPoint) -> io::Result<()> {
     print!(rt; " {} {}", position.x, position.y)
 }
 

@@ -7,7 +7,7 @@ use crate::tokens::{Token, next_token};
 use fixedpoint::read_coord;
 use std::alloc::Global;
 use std::{mem, str};
-use zones::{Gate, Position, Ring};
+use zones::{Gate, GridPoint, Ring};
 
 /// What may come next.
 #[derive(Clone, Copy)]
@@ -35,7 +35,7 @@ struct Drawing {
     level: u8,
     next: Next,
     /// The positions of the ring that is open.
-    positions: Vec<Position>,
+    positions: Vec<GridPoint>,
     rings: Vec<Ring>,
 }
 
@@ -48,7 +48,7 @@ fn read_ordinate(word: &[u8]) -> Result<i64, Flaw<'_>> {
 }
 
 /// Whether the positions end where they begin.
-fn is_closed(positions: &[Position]) -> bool {
+fn is_closed(positions: &[GridPoint]) -> bool {
     match positions {
         [first, .., last] => first == last,
         _ => false,
@@ -129,7 +129,7 @@ impl Drawing {
 
     fn end_position<'a>(&mut self, x: i64, word: &'a [u8]) -> Result<(), Flaw<'a>> {
         let y = read_ordinate(word)?;
-        match Position::new(x, y) {
+        match GridPoint::new(x, y) {
             Some(position) => self.positions.push(position)?,
             None => return Err(Flaw::Wrong(Code::Z5, word)),
         }

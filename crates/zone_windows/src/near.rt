@@ -7,7 +7,7 @@ ghost use Rattle.zone_windows.specs.Near.{are_port, are_starboard, is_above, is_
 ghost use Rattle.zone_windows.specs.Near.{is_far, is_needless, is_ring_far, near_ring, ring_kept};
 
 use std::alloc::{AllocError, Global};
-use zones::{Course, Position, Ring};
+use zones::{GridPoint, Ring, Segment};
 
 /// The points from `left` to `right` and from `low` to `high`, all four among them.
 #[derive(Clone, Copy)]
@@ -19,7 +19,7 @@ pub(crate) struct Window {
 }
 
 /// A course that stands still: no corner is on a side of it.
-const STILL: Course = Course {
+const STILL: Segment = Segment {
     x0: 0,
     y0: 0,
     x1: 0,
@@ -27,28 +27,28 @@ const STILL: Course = Course {
 };
 
 /// Whether a corner is above the window.
-fn is_above(window: Window, corner: &Position) -> bool
+fn is_above(window: Window, corner: &GridPoint) -> bool
     ensures { result ≡ is_above window corner.now }
 {
     corner.y > window.high
 }
 
 /// Whether a corner is below the window.
-fn is_below(window: Window, corner: &Position) -> bool
+fn is_below(window: Window, corner: &GridPoint) -> bool
     ensures { result ≡ is_below window corner.now }
 {
     corner.y < window.low
 }
 
 /// Whether a corner is left of the window.
-fn is_left(window: Window, corner: &Position) -> bool
+fn is_left(window: Window, corner: &GridPoint) -> bool
     ensures { result ≡ is_left window corner.now }
 {
     corner.x < window.left
 }
 
 /// Whether a corner is right of the window.
-fn is_right(window: Window, corner: &Position) -> bool
+fn is_right(window: Window, corner: &GridPoint) -> bool
     ensures { result ≡ is_right window corner.now }
 {
     corner.x > window.right
@@ -56,7 +56,7 @@ fn is_right(window: Window, corner: &Position) -> bool
 
 /// Whether three corners are above the window.
 #[tactic(auto, unfolding(crate::specs::Near::are_above))]
-fn are_above(window: Window, one: &Position, two: &Position, three: &Position) -> bool
+fn are_above(window: Window, one: &GridPoint, two: &GridPoint, three: &GridPoint) -> bool
     ensures { result ≡ are_above window one.now two.now three.now }
 {
     is_above(window, one) && is_above(window, two) && is_above(window, three)
@@ -64,7 +64,7 @@ fn are_above(window: Window, one: &Position, two: &Position, three: &Position) -
 
 /// Whether three corners are below it.
 #[tactic(auto, unfolding(crate::specs::Near::are_below))]
-fn are_below(window: Window, one: &Position, two: &Position, three: &Position) -> bool
+fn are_below(window: Window, one: &GridPoint, two: &GridPoint, three: &GridPoint) -> bool
     ensures { result ≡ are_below window one.now two.now three.now }
 {
     is_below(window, one) && is_below(window, two) && is_below(window, three)
@@ -72,7 +72,7 @@ fn are_below(window: Window, one: &Position, two: &Position, three: &Position) -
 
 /// Whether three corners are left of it.
 #[tactic(auto, unfolding(crate::specs::Near::are_left))]
-fn are_left(window: Window, one: &Position, two: &Position, three: &Position) -> bool
+fn are_left(window: Window, one: &GridPoint, two: &GridPoint, three: &GridPoint) -> bool
     ensures { result ≡ are_left window one.now two.now three.now }
 {
     is_left(window, one) && is_left(window, two) && is_left(window, three)
@@ -80,7 +80,7 @@ fn are_left(window: Window, one: &Position, two: &Position, three: &Position) ->
 
 /// Whether three corners are right of it.
 #[tactic(auto, unfolding(crate::specs::Near::are_right))]
-fn are_right(window: Window, one: &Position, two: &Position, three: &Position) -> bool
+fn are_right(window: Window, one: &GridPoint, two: &GridPoint, three: &GridPoint) -> bool
     ensures { result ≡ are_right window one.now two.now three.now }
 {
     is_right(window, one) && is_right(window, two) && is_right(window, three)
@@ -103,7 +103,7 @@ fn product(a: i64, b: i64) -> i128
 }
 
 /// The greater of two products where a corner is left of the course's line.
-fn along(course: &Course, corner: &Position) -> i128
+fn along(course: &Segment, corner: &GridPoint) -> i128
     ensures { result ≡ along course.now corner.now }
 {
     product(
@@ -113,7 +113,7 @@ fn along(course: &Course, corner: &Position) -> i128
 }
 
 /// The greater where it is right.
-fn across(course: &Course, corner: &Position) -> i128
+fn across(course: &Segment, corner: &GridPoint) -> i128
     ensures { result ≡ across course.now corner.now }
 {
     product(
@@ -123,14 +123,14 @@ fn across(course: &Course, corner: &Position) -> i128
 }
 
 /// Whether a corner is left of the course's line.
-fn is_port(course: &Course, corner: &Position) -> bool
+fn is_port(course: &Segment, corner: &GridPoint) -> bool
     ensures { result ≡ is_port course.now corner.now }
 {
     along(course, corner) > across(course, corner)
 }
 
 /// Whether a corner is right of it.
-fn is_starboard(course: &Course, corner: &Position) -> bool
+fn is_starboard(course: &Segment, corner: &GridPoint) -> bool
     ensures { result ≡ is_starboard course.now corner.now }
 {
     along(course, corner) < across(course, corner)
@@ -138,7 +138,7 @@ fn is_starboard(course: &Course, corner: &Position) -> bool
 
 /// Whether three corners are left of the course's line.
 #[tactic(auto, unfolding(crate::specs::Near::are_port))]
-fn are_port(course: &Course, one: &Position, two: &Position, three: &Position) -> bool
+fn are_port(course: &Segment, one: &GridPoint, two: &GridPoint, three: &GridPoint) -> bool
     ensures { result ≡ are_port course.now one.now two.now three.now }
 {
     is_port(course, one) && is_port(course, two) && is_port(course, three)
@@ -146,14 +146,20 @@ fn are_port(course: &Course, one: &Position, two: &Position, three: &Position) -
 
 /// Whether three corners are right of it.
 #[tactic(auto, unfolding(crate::specs::Near::are_starboard))]
-fn are_starboard(course: &Course, one: &Position, two: &Position, three: &Position) -> bool
+fn are_starboard(course: &Segment, one: &GridPoint, two: &GridPoint, three: &GridPoint) -> bool
     ensures { result ≡ are_starboard course.now one.now two.now three.now }
 {
     is_starboard(course, one) && is_starboard(course, two) && is_starboard(course, three)
 }
 
 /// Whether three corners are all on one side of the window, or of the course's line.
-fn is_far(window: Window, course: &Course, one: &Position, two: &Position, three: &Position) -> bool
+fn is_far(
+    window: Window,
+    course: &Segment,
+    one: &GridPoint,
+    two: &GridPoint,
+    three: &GridPoint,
+) -> bool
     ensures { result ≡ is_far window course.now one.now two.now three.now }
 {
     are_above(window, one, two, three)
@@ -167,10 +173,10 @@ fn is_far(window: Window, course: &Course, one: &Position, two: &Position, three
 /// Whether a corner may be left out, between the one that stayed before it and the first of those behind it.
 fn is_needless(
     window: Window,
-    course: &Course,
-    before: &Position,
-    corner: &Position,
-    behind: &[Position],
+    course: &Segment,
+    before: &GridPoint,
+    corner: &GridPoint,
+    behind: &[GridPoint],
 ) -> bool
     ensures { result ≡ is_needless window course.now before.now corner.now behind.now }
 {
@@ -185,7 +191,7 @@ fn ring_near(
     alloc: Global,
     ring: &Ring,
     window: Window,
-    course: &Course,
+    course: &Segment,
 ) -> Result<Ring, AllocError>
     ensures { IfOk result (λ near. near ≡ near_ring window course.now ring.now) }
 {
@@ -208,28 +214,28 @@ fn ring_near(
 }
 
 /// Whether all corners are above the window.
-fn is_all_above(corners: &[Position], window: Window) -> bool
+fn is_all_above(corners: &[GridPoint], window: Window) -> bool
     ensures { result ≡ list_all (is_above window) corners.now }
 {
     corners.iter().all(|corner| is_above(window, corner))
 }
 
 /// Whether all corners are below it.
-fn is_all_below(corners: &[Position], window: Window) -> bool
+fn is_all_below(corners: &[GridPoint], window: Window) -> bool
     ensures { result ≡ list_all (is_below window) corners.now }
 {
     corners.iter().all(|corner| is_below(window, corner))
 }
 
 /// Whether all corners are left of it.
-fn is_all_left(corners: &[Position], window: Window) -> bool
+fn is_all_left(corners: &[GridPoint], window: Window) -> bool
     ensures { result ≡ list_all (is_left window) corners.now }
 {
     corners.iter().all(|corner| is_left(window, corner))
 }
 
 /// Whether all corners are right of it.
-fn is_all_right(corners: &[Position], window: Window) -> bool
+fn is_all_right(corners: &[GridPoint], window: Window) -> bool
     ensures { result ≡ list_all (is_right window) corners.now }
 {
     corners.iter().all(|corner| is_right(window, corner))
@@ -252,7 +258,7 @@ fn push_ring_near(
     near: &mut Vec<Ring>,
     ring: &Ring,
     window: Window,
-    course: &Course,
+    course: &Segment,
 ) -> Result<(), AllocError>
     ensures { OnOk result (near.new.items
         ≡ near.old.items ++ ring_kept window course.now ring.now) }
@@ -269,7 +275,7 @@ pub(crate) fn rings_along(
     alloc: Global,
     rings: &[Ring],
     window: Window,
-    course: &Course,
+    course: &Segment,
 ) -> Result<Vec<Ring>, AllocError>
     ensures { IfOk result (λ near. AgreeAlong window course.now near.items rings.now) }
 {

@@ -6,7 +6,7 @@ use crate::near::{Window, rings_along};
 use crate::part::{Cut, MOST_DEPTH, Part};
 use std::alloc::{AllocError, Global};
 use std::marker::Model;
-use zones::{Course, Ring};
+use zones::{Ring, Segment};
 
 /// The most parts that are cut.
 const MOST_CUTS: usize = 65536;
@@ -39,7 +39,7 @@ impl Model for Windows {
 }
 
 /// The least window with the course.
-fn window_of(course: &Course) -> Window
+fn window_of(course: &Segment) -> Window
     ensures { result ≡ window_of course.now }
 {
     Window {
@@ -141,7 +141,7 @@ impl Windows {
     }
 
     /// The rings near a course.
-    pub fn near(&self, alloc: Global, course: &Course) -> Result<Vec<Ring>, AllocError>
+    pub fn near(&self, alloc: Global, course: &Segment) -> Result<Vec<Ring>, AllocError>
         // At each place on the course their zone is the whole zone.
         ensures { IfOk result (λ near. AgreeOn course.now near.items self.now) }
     {

@@ -5,7 +5,7 @@ ghost use Rattle.zones.specs.Places.{IsCoordinate, point_at};
 ghost use Rattle.zones.specs.Turns.{side_start, side_slope, sign, is_steep};
 ghost use Rattle.zones.specs.Edges.{across, along, either, is_between_by, is_on_edge, is_crossed};
 
-use crate::places::{Course, Gate, Position};
+use crate::places::{Gate, GridPoint, Segment};
 use fractions::{Fraction, sign_at};
 use std::cmp::Ordering;
 
@@ -20,7 +20,7 @@ fn against(start: i64, end: i64, mark: i64, at: Fraction) -> Ordering
 }
 
 /// The course's x against a corner's.
-fn sideways(corner: &Position, course: &Course, at: Fraction) -> Ordering
+fn sideways(corner: &GridPoint, course: &Segment, at: Fraction) -> Ordering
     ensures { result
         ≡ int_cmp (point_at course.now at.num at.den).x (corner.now.x *ℤ at.den) }
 {
@@ -28,7 +28,7 @@ fn sideways(corner: &Position, course: &Course, at: Fraction) -> Ordering
 }
 
 /// The course's y against a corner's.
-fn upwards(corner: &Position, course: &Course, at: Fraction) -> Ordering
+fn upwards(corner: &GridPoint, course: &Segment, at: Fraction) -> Ordering
     ensures { result
         ≡ int_cmp (point_at course.now at.num at.den).y (corner.now.y *ℤ at.den) }
 {
@@ -36,14 +36,14 @@ fn upwards(corner: &Position, course: &Course, at: Fraction) -> Ordering
 }
 
 /// Whether the second corner is higher than the first.
-fn rises(from: &Position, to: &Position) -> bool
+fn rises(from: &GridPoint, to: &GridPoint) -> bool
     ensures { result ≡ int_lt from.now.y to.now.y }
 {
     from.y < to.y
 }
 
 /// Whether the corners have not one height.
-pub(crate) fn is_steep(from: &Position, to: &Position) -> bool
+pub(crate) fn is_steep(from: &GridPoint, to: &GridPoint) -> bool
     ensures { result ≡ is_steep (record { from = from.now; to = to.now }) }
 {
     from.y != to.y
@@ -62,7 +62,7 @@ fn cross(a: i64, b: i64, c: i64, d: i64) -> i128
 }
 
 /// The course's cross product with the edge's line at the course's start.
-pub(crate) fn start_of(from: &Position, to: &Position, course: &Course) -> i128
+pub(crate) fn start_of(from: &GridPoint, to: &GridPoint, course: &Segment) -> i128
     ensures value { result ≡ side_start course.now (record { from = from.now; to = to.now }) }
     ensures small { unsigned_abs result < 2 ^ 103 }
 {
@@ -75,7 +75,7 @@ pub(crate) fn start_of(from: &Position, to: &Position, course: &Course) -> i128
 }
 
 /// How it grows along the course.
-pub(crate) fn slope_of(from: &Position, to: &Position, course: &Course) -> i128
+pub(crate) fn slope_of(from: &GridPoint, to: &GridPoint, course: &Segment) -> i128
     ensures value { result ≡ side_slope course.now (record { from = from.now; to = to.now }) }
     ensures small { unsigned_abs result < 2 ^ 103 }
 {
@@ -89,7 +89,7 @@ pub(crate) fn slope_of(from: &Position, to: &Position, course: &Course) -> i128
 
 /// How the course crosses a gate's line: `Less` to its left, `Greater` to its right, `Equal` if it runs along the line or
 /// stands still.
-pub fn heading(gate: &Gate, course: &Course) -> Ordering
+pub fn heading(gate: &Gate, course: &Segment) -> Ordering
     ensures { result
         ≡ sign (side_slope course.now (record { from = gate.now.from; to = gate.now.to })) }
 {
@@ -97,7 +97,7 @@ pub fn heading(gate: &Gate, course: &Course) -> Ordering
 }
 
 /// The two products that are equal where the course is on the edge's line.
-fn side_of(from: &Position, to: &Position, course: &Course, at: Fraction) -> Ordering
+fn side_of(from: &GridPoint, to: &GridPoint, course: &Segment, at: Fraction) -> Ordering
     ensures { result
         ≡ int_cmp
         (across (record { from = from.now; to = to.now }) (point_at course.now at.num at.den))
@@ -124,7 +124,7 @@ pub(crate) fn either(one: bool, other: bool) -> bool
 }
 
 /// Whether the course is on the edge, or at one of its ends.
-pub(crate) fn is_on_edge(from: &Position, to: &Position, course: &Course, at: Fraction) -> bool
+pub(crate) fn is_on_edge(from: &GridPoint, to: &GridPoint, course: &Segment, at: Fraction) -> bool
     ensures { result
         ≡ is_on_edge (record { from = from.now; to = to.now }) (point_at course.now at.num at.den) }
 {
@@ -142,7 +142,7 @@ pub(crate) fn is_on_edge(from: &Position, to: &Position, course: &Course, at: Fr
 }
 
 /// Whether the edge is crossed by the ray from the course to greater x.
-pub(crate) fn is_crossed(from: &Position, to: &Position, course: &Course, at: Fraction) -> bool
+pub(crate) fn is_crossed(from: &GridPoint, to: &GridPoint, course: &Segment, at: Fraction) -> bool
     ensures { result
         ≡ is_crossed (record { from = from.now; to = to.now }) (point_at course.now at.num at.den) }
 {

@@ -4,7 +4,7 @@ ghost use Rattle.zones.specs.Entries.{IsNextEntry};
 
 use crate::cuts::{CoursePlace, fraction_of, is_before};
 use crate::inside::is_inside;
-use crate::places::{Course, Ring};
+use crate::places::{Ring, Segment};
 use crate::turns::next_turn;
 
 /// Where a course is in a zone first.
@@ -17,7 +17,7 @@ pub(crate) enum Entry {
 /// Where a course is in a zone first, from `first` to `last`.
 pub(crate) fn next_entry(
     rings: &[Ring],
-    course: &Course,
+    course: &Segment,
     first: CoursePlace,
     last: CoursePlace,
 ) -> Entry

@@ -5,11 +5,11 @@ ghost use Rattle.zones.specs.Edges.{either};
 ghost use Rattle.zones.specs.Zones.{edges, zone_edges, is_on_some, is_odd, in_zone};
 
 use crate::edges::{either, is_crossed, is_on_edge};
-use crate::places::{Course, Position, Ring};
+use crate::places::{GridPoint, Ring, Segment};
 use fractions::Fraction;
 
 /// Whether the course is on an edge of a ring.
-fn is_on_ring(ring: &Ring, course: &Course, at: Fraction) -> bool
+fn is_on_ring(ring: &Ring, course: &Segment, at: Fraction) -> bool
     ensures { result ≡ is_on_some (edges ring.now) (point_at course.now at.num at.den) }
 {
     let corners = ring.corners();
@@ -27,7 +27,7 @@ fn is_on_ring(ring: &Ring, course: &Course, at: Fraction) -> bool
 }
 
 /// Whether the ray from the course to greater x crosses an odd number of a ring's edges.
-fn is_odd_round(ring: &Ring, course: &Course, at: Fraction) -> bool
+fn is_odd_round(ring: &Ring, course: &Segment, at: Fraction) -> bool
     ensures { result ≡ is_odd (edges ring.now) (point_at course.now at.num at.den) }
 {
     let corners = ring.corners();
@@ -45,7 +45,7 @@ fn is_odd_round(ring: &Ring, course: &Course, at: Fraction) -> bool
 
 /// Whether a course is in a zone at a fraction of its duration: on an edge of some ring, or with an odd number of edges to
 /// its right.
-pub fn is_inside(rings: &[Ring], course: &Course, at: Fraction) -> bool
+pub fn is_inside(rings: &[Ring], course: &Segment, at: Fraction) -> bool
     ensures { result ≡ in_zone rings.now (point_at course.now at.num at.den) }
 {
     let mut odd = false;

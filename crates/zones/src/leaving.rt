@@ -6,7 +6,7 @@ ghost use Rattle.zones.specs.Stays.{IsStay};
 
 use crate::cuts::{CoursePlace, is_before, mediant};
 use crate::inside::is_inside;
-use crate::places::{Course, Ring};
+use crate::places::{Ring, Segment};
 use crate::turns::next_turn;
 
 /// The place up to which a course stays in a zone, and a later one up to which it is outside.
@@ -19,7 +19,7 @@ pub(crate) struct Stay {
 /// The place up to which a course that is in a zone at `first` stays in it without a break, up to `last` at most.
 pub(crate) fn stay_from(
     rings: &[Ring],
-    course: &Course,
+    course: &Segment,
     first: CoursePlace,
     last: CoursePlace,
 ) -> Stay

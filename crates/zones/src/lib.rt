@@ -14,5 +14,5 @@ mod turns;
 pub use cuts::{CoursePlace, Cut};
 pub use edges::heading;
 pub use inside::is_inside;
-pub use places::{Course, Gate, Position, Ring};
+pub use places::{Gate, GridPoint, Ring, Segment};
 pub use staying::stays;

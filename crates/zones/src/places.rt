@@ -6,12 +6,12 @@ const MOST: u64 = 1000000000000000;
 
 /// A position, in units of 10^-7.
 #[derive(Clone, Copy, PartialEq, Eq, Debug)]
-pub struct Position {
+pub struct GridPoint {
     pub x: i64,
     pub y: i64,
 }
 
-impl Model for Position {
+impl Model for GridPoint {
     ghost use Rattle.zones.specs.Places.{Corner, IsCorner};
 
     ghost Value = { Corner };
@@ -23,19 +23,19 @@ impl Model for Position {
     ghost inverse = { λ v. record { x = v.x; y = v.y } };
 }
 
-impl Position {
+impl GridPoint {
     ghost use Rattle.std.specs.Prelude.{◌≡◌, ◌↔◌, IsSome, IfSome};
     ghost use Rattle.zones.specs.Places.{Corner, IsCorner};
 
     /// The position at (x, y); `None` out of range.
-    pub fn new(x: i64, y: i64) -> Option<Position>
+    pub fn new(x: i64, y: i64) -> Option<GridPoint>
         // There is one exactly if both coordinates are in range.
         ensures some { IsSome result ↔ IsCorner (record { x = x; y = y }) }
         // It is at (x, y).
         ensures value { IfSome result (λ position. position ≡ record { x = x; y = y }) }
     {
         if x.unsigned_abs() <= MOST && y.unsigned_abs() <= MOST {
-            Some(Position { x, y })
+            Some(GridPoint { x, y })
         } else {
             None
         }
@@ -45,7 +45,7 @@ impl Position {
 /// The corners of a ring, which is closed from the last to the first.
 #[derive(Drop)]
 pub struct Ring {
-    corners: Vec<Position>,
+    corners: Vec<GridPoint>,
 }
 
 impl Model for Ring {
@@ -61,14 +61,14 @@ impl Ring {
     ghost use Rattle.std.specs.Prelude.{◌≡◌};
 
     /// The ring of these corners, in order.
-    pub fn new(corners: Vec<Position>) -> Ring
+    pub fn new(corners: Vec<GridPoint>) -> Ring
         ensures { result ≡ corners.items }
     {
         Ring { corners }
     }
 
     /// The corners, in order.
-    pub fn corners(&self) -> &[Position]
+    pub fn corners(&self) -> &[GridPoint]
         ensures { result.now ≡ self.now }
     {
         &self.corners
@@ -78,20 +78,20 @@ impl Ring {
 /// A line from one position to another, which has a left and a right.
 #[derive(Clone, Copy, PartialEq, Eq, Debug)]
 pub struct Gate {
-    pub from: Position,
-    pub to: Position,
+    pub from: GridPoint,
+    pub to: GridPoint,
 }
 
 /// A straight course from (`x0`, `y0`) to (`x1`, `y1`), at an even speed.
 #[derive(Clone, Copy, PartialEq, Eq, Debug)]
-pub struct Course {
+pub struct Segment {
     pub x0: i64,
     pub y0: i64,
     pub x1: i64,
     pub y1: i64,
 }
 
-impl Model for Course {
+impl Model for Segment {
     ghost use Rattle.zones.specs.Places.{CourseView, IsCourse};
 
     ghost Value = { CourseView };
@@ -121,14 +121,14 @@ impl Model for Course {
         } };
 }
 
-impl Course {
+impl Segment {
     ghost use Rattle.std.specs.Prelude.{◌≡◌};
 
     /// The course from one position to another.
-    pub fn new(from: Position, to: Position) -> Course
+    pub fn new(from: GridPoint, to: GridPoint) -> Segment
         ensures { result ≡ record { x0 = from.x; y0 = from.y; x1 = to.x; y1 = to.y } }
     {
-        Course {
+        Segment {
             x0: from.x,
             y0: from.y,
             x1: to.x,

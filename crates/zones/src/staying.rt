@@ -5,14 +5,14 @@ ghost use Rattle.zones.specs.Cuts.{IsStays};
 use crate::cuts::{CoursePlace, Cut, is_before};
 use crate::entries::{Entry, next_entry};
 use crate::leaving::stay_from;
-use crate::places::{Course, Ring};
+use crate::places::{Ring, Segment};
 use std::alloc::{AllocError, Global};
 
 /// The stays of a course in a zone from `first` to `last`: closed cuts that rise and do not touch. The course is in the
 /// zone at exactly the places that they hold.
 pub fn stays(
     rings: &[Ring],
-    course: &Course,
+    course: &Segment,
     first: CoursePlace,
     last: CoursePlace,
     alloc: Global,

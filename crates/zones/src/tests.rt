@@ -2,7 +2,7 @@
 ghost use Rattle.std.specs.Prelude.{◌≤◌, unsigned_abs};
 
 use crate::inside::is_inside;
-use crate::places::{Course, Position, Ring};
+use crate::places::{GridPoint, Ring, Segment};
 use fractions::Fraction;
 use std::alloc::{AllocError, Global};
 use std::process::Abort;
@@ -13,10 +13,10 @@ fn box_of(alloc: Global, low: i64, high: i64) -> Result<Ring, AllocError>
     requires high { unsigned_abs high ≤ 1000 }
 {
     let mut corners = Vec::new(alloc);
-    corners.push(Position { x: low, y: low })?;
-    corners.push(Position { x: high, y: low })?;
-    corners.push(Position { x: high, y: high })?;
-    corners.push(Position { x: low, y: high })?;
+    corners.push(GridPoint { x: low, y: low })?;
+    corners.push(GridPoint { x: high, y: low })?;
+    corners.push(GridPoint { x: high, y: high })?;
+    corners.push(GridPoint { x: low, y: high })?;
     Ok(Ring::new(corners))
 }
 
@@ -26,7 +26,7 @@ fn a_square_with_a_hole(rt: HostRuntime) -> Result<(), Fail> {
     rings.push(box_of(rt.alloc(), 0, 10)?)?;
     rings.push(box_of(rt.alloc(), 3, 7)?)?;
     // From (-10, -10) to (20, 20): it is at a corner of the square at 1/3 and 2/3, of the hole at 13/30 and 17/30.
-    let course = Course {
+    let course = Segment {
         x0: -10,
         y0: -10,
         x1: 20,

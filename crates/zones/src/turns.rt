@@ -7,7 +7,7 @@ ghost use Rattle.zones.specs.Turns.{sign, at, is_opposite, side, height, width, 
 
 use crate::cuts::{CoursePlace, sign_on};
 use crate::edges::{is_steep, slope_of, start_of};
-use crate::places::{Course, Position, Ring};
+use crate::places::{GridPoint, Ring, Segment};
 use std::cmp::Ordering;
 
 /// Whether one is below 0 and one above.
@@ -52,9 +52,9 @@ pub(crate) fn turn(c0: i128, c1: i128, from: CoursePlace, to: CoursePlace) -> Co
 
 /// Where the course crosses an edge's line, between two places; the second where it does not.
 fn turn_of_line(
-    from: &Position,
-    to: &Position,
-    course: &Course,
+    from: &GridPoint,
+    to: &GridPoint,
+    course: &Segment,
     first: CoursePlace,
     last: CoursePlace,
 ) -> CoursePlace
@@ -76,8 +76,8 @@ fn turn_of_line(
 
 /// Where the course passes a corner's height.
 fn turn_upwards(
-    corner: &Position,
-    course: &Course,
+    corner: &GridPoint,
+    course: &Segment,
     first: CoursePlace,
     last: CoursePlace,
 ) -> CoursePlace
@@ -98,8 +98,8 @@ fn turn_upwards(
 
 /// Where the course passes a corner in x.
 fn turn_sideways(
-    corner: &Position,
-    course: &Course,
+    corner: &GridPoint,
+    course: &Segment,
     first: CoursePlace,
     last: CoursePlace,
 ) -> CoursePlace
@@ -121,9 +121,9 @@ fn turn_sideways(
 /// The first place between two, or the second, up to which no sign turns round that tells of an
 /// edge.
 fn turn_of_edge(
-    from: &Position,
-    to: &Position,
-    course: &Course,
+    from: &GridPoint,
+    to: &GridPoint,
+    course: &Segment,
     first: CoursePlace,
     last: CoursePlace,
 ) -> CoursePlace
@@ -145,7 +145,7 @@ fn turn_of_edge(
 }
 
 /// The same of all edges of a ring.
-fn turn_round(ring: &Ring, course: &Course, first: CoursePlace, last: CoursePlace) -> CoursePlace
+fn turn_round(ring: &Ring, course: &Segment, first: CoursePlace, last: CoursePlace) -> CoursePlace
     requires order { (first.num *ℤ last.den) <ℤ (last.num *ℤ first.den) }
     ensures after { (first.num *ℤ result.den) <ℤ (result.num *ℤ first.den) }
     ensures up_to { (result.num *ℤ last.den) ≤ℤ (last.num *ℤ result.den) }
@@ -170,7 +170,7 @@ fn turn_round(ring: &Ring, course: &Course, first: CoursePlace, last: CoursePlac
 /// moments or at none.
 pub(crate) fn next_turn(
     rings: &[Ring],
-    course: &Course,
+    course: &Segment,
     first: CoursePlace,
     last: CoursePlace,
 ) -> CoursePlace
