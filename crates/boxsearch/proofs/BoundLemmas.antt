@@ -10,21 +10,26 @@ use Rattle.legs.specs.Index.{is_of}
 use Rattle.legs.specs.Legs.{LegView}
 use Rattle.pagecache.specs.Cache.{Cache, payload_of}
 use Rattle.tbnode.specs.Form.{node_of}
-use Rattle.tbtree.specs.Bounds as limits
 use Rattle.tbtree.specs.Descent.{node_in}
 use Rattle.tbtree.specs.Nodes.{pages_of_cache}
 use Rattle.tbtree.specs.declared.tree.Place.{Place}
 use Rattle.tbtree.proofs.LimitLemmas as tree
-use Rattle.boxsearch.specs.Beside.{IsBeside}
-use Rattle.boxsearch.specs.Bounds.{IsBounded}
 use Rattle.boxsearch.specs.Index.{IndexView, content, IsSoundIndex}
+use Rattle.boxsearch.proofs.StartLemmas.{IsBeside}
+
+-- the root and each place are among its pages, which are at least its leaves, and it has few levels
+pub record IsBounded (index : IndexView) : Type 0 where
+  pub root : index.tree.root < index.cache.count
+  pub leaves : index.tree.leaves ≤ index.cache.count
+  pub levels : index.tree.levels ≤ 32
+  pub places : All (λ place. (place.first < index.cache.count) × (place.last < index.cache.count)) index.places
 
 all_at : {X : Type 0} (P : X → Type 0) (xs : List X) → ((i : ℕ) (x : X) → slice_get xs i ≡ Some x → P x) → All P xs
 all_at P [] h = All-nil P
 all_at P (x ∷ xs) h = All-cons P x xs (h 0 x refl) (all_at P xs (λ i. h (suc i)))
 
 module _ (index : IndexView) (s : IsSoundIndex index) where
-  place_is : (f : ℕ) (place : Place) → slice_get index.places f ≡ Some place → limits.IsBoundedPlace (pages_of_cache index.cache) (content index) f place
+  place_is : (f : ℕ) (place : Place) → slice_get index.places f ≡ Some place → tree.IsBoundedPlace (pages_of_cache index.cache) (content index) f place
   place_is f place e = tree.bounded_place (pages_of_cache index.cache) index.tree (content index) s.pages f place s.stands (s.placed f place e)
 
   pub bounded : length (content index) ≤ 2 ^ 31 → IsBounded index

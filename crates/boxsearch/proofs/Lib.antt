@@ -25,4 +25,3 @@ pub mod TurnNumbers
 pub mod KnownLemmas
 pub mod LevelLemmas
 pub mod AskedLemmas
-pub mod KnowsLemmas

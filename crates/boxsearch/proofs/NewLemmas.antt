@@ -13,7 +13,7 @@ use Rattle.tbtree.specs.Stands.{empty_tree}
 use Rattle.boxsearch.specs.Index.{content, new_index, IsSoundIndex}
 use Rattle.boxsearch.proofs.PlaceLemmas.{some_none}
 
-pub no_content : (cache : Cache) (shape : ShapeView) → content (new_index cache shape) ≡ []
+no_content : (cache : Cache) (shape : ShapeView) → content (new_index cache shape) ≡ []
 unfolding found_legs
 no_content cache shape = elim cache.store.is_faithful as (λ b. cond b (content_of (pages_of_cache cache) (empty_tree shape)) [] ≡ []) [ true ↦ refl | false ↦ refl ]
 

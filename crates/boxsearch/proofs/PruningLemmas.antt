@@ -4,8 +4,7 @@ use Rattle.std.specs.Prelude.{int_le}
 use Rattle.std.proofs.lemmas.Bool.{false≢true}
 use Rattle.std.proofs.lemmas.Int.{ints, clamps}
 use Rattle.legs.specs.Boxes.{BoxView, Holds, cover_of, boxes_meet, intervals_meet, meet_in_plane}
-use Rattle.legs.specs.Hull.{leg_boxes}
-use Rattle.tbtree.specs.Descent.{IsPruning}
+use Rattle.legs.specs.Hull.{IsPruning, leg_boxes}
 use Rattle.boxsearch.specs.Way.{meets}
 
 and_left : (a b : Bool) → (a && b) ≡ true → a ≡ true

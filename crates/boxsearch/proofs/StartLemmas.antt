@@ -14,9 +14,10 @@ use Rattle.pagecache.specs.Cache.{Cache, IsClean, pages_as_written, payload_of}
 use Rattle.pagecache.specs.declared.fault.CacheFault.{CacheFault}
 use Rattle.pagecache.specs.declared.fault.CacheFault.TheVariants as cache
 use Rattle.tbnode.specs.Form.{node_of}
-use Rattle.tbtree.specs.Descent.{found_legs, node_in}
+use Rattle.tbtree.specs.Descent.{found_legs, node_in, IsSameTree}
 use Rattle.tbtree.specs.Insert.{Stands, IsPlace}
 use Rattle.tbtree.specs.Nodes.{pages_of_cache}
+use Rattle.tbtree.specs.Passes.{KeepsLength}
 use Rattle.boxsearch.specs.Answers.{answered, of_cache}
 use Rattle.boxsearch.specs.Index.{IndexView, words, content, legs_by, written, IsSoundIndex, IsMarked}
 use Rattle.boxsearch.specs.Marking.{Marks, IsNotMarked}
@@ -25,8 +26,14 @@ use Rattle.tbtree.proofs.LawLemmas.{same_found, still_stands}
 use Rattle.boxsearch.proofs.PlaceLemmas.{some_none}
 use Rattle.boxsearch.proofs.AnswerLemmas.{each_fault, each_value, of_each_cache, the_fault, Said}
 use Rattle.chains.specs.declared.spans.LeafSpan.{LeafSpan}
-use Rattle.boxsearch.specs.Beside.{with_cache, IsBeside}
+use Rattle.boxsearch.specs.Beside.{with_cache}
 use Rattle.boxsearch.proofs.ResultLemmas.{on_err}
+
+-- the pages of a tree say what they said; page 0 and those that say nothing of one may have changed, and there may be more
+pub record IsBeside (old new : Cache) : Type 0 where
+  pub faithful : new.store.is_faithful ≡ old.store.is_faithful
+  pub length : KeepsLength old new
+  pub tree : IsTrue old.store.is_faithful → IsSameTree (pages_of_cache old) (pages_of_cache new)
 
 map_none : {X Y : Type 0} (f : X → Y) (o : Option X) → option_map f o ≡ None → o ≡ None
 map_none f None e = refl

@@ -3,7 +3,7 @@ use Rattle.std.proofs.Common.{ℕ, zero, suc, All, drop, take, get_or, ◌≡◌
 use Rattle.std.specs.Prelude.{IfErr}
 use Rattle.std.proofs.lemmas.Bool.{cases_eq}
 use Rattle.std.proofs.lemmas.Int.{clamps}
-use Rattle.std.proofs.lemmas.List.{length-append, length-drop, length-set, append-nil, take_all}
+use Rattle.std.proofs.lemmas.List.{length-append, length-drop, length-map, length-set, append-nil, take_all}
 use Rattle.std.proofs.lemmas.Nat.{mul-le}
 use Rattle.legs.specs.Asking.{IsLater}
 use Rattle.legs.specs.Index.{MayRefuseLeg, feature_count}
@@ -20,12 +20,14 @@ use Rattle.tbtree.specs.declared.fault.TreeFault.{TreeFault}
 use Rattle.tbtree.specs.declared.tree.Place.{Place}
 use Rattle.boxsearch.specs.Answers.{answered, of_tree}
 use Rattle.boxsearch.specs.Index.{IndexView, words, IsMarked, with_place}
-use Rattle.boxsearch.specs.Putting.{PutsAll, spent_from}
+use Rattle.boxsearch.specs.Putting.{PutsAll}
 use Rattle.boxsearch.specs.Taking.{HoldsLegs, Taking, taken}
 use Rattle.boxsearch.specs.declared.turns.Turn.{Turn}
 use Rattle.boxsearch.proofs.AddLemmas.{made, marked_after, feature_count-push}
+use Rattle.legs.proofs.GrowLemmas.{later-trans}
 use Rattle.tbtree.proofs.LawLemmas.{held_fit, none_of}
 use Rattle.boxsearch.proofs.AnswerLemmas.{each_fault, the_fault, SaidOfLeg, write_said, write_allowed}
+use Rattle.boxsearch.proofs.OtherLemmas.{later_put, later_same, later_spent}
 use Rattle.boxsearch.proofs.PlaceLemmas.{get-set_same, get-set_other, made_places, length-made, some_same}
 use Rattle.boxsearch.proofs.TrackLemmas.{no_legs}
 
@@ -119,10 +121,6 @@ module _ (old new : IndexView) (feature : ℕ) (legs : List LegView) (some : 0 <
   on_refusal P (Ok tt) h = tt
   on_refusal P (Err x) h = h
 
-  shape_kept : (r : Result (Unit {0}) TreeFault) → new.tree.shape ≡ old.tree.shape → OnOk r (new.tree.shape ≡ old.tree.shape)
-  shape_kept (Ok tt) h = h
-  shape_kept (Err x) h = tt
-
   allowed : (r : Result (Unit {0}) TreeFault) → PutsAll (made old feature) new feature legs r → IfErr r (λ fault. (before : List LegView) → HoldsLegs old before → CanTakeInTurn before legs → MayRefuseWrite fault)
   allowed (Ok tt) p = tt
   allowed (Err x) p = λ before s w. gives old new feature legs before some one (Err x) p s w
@@ -133,7 +131,7 @@ module _ (old new : IndexView) (feature : ℕ) (legs : List LegView) (some : 0 <
       let said = each_fault say (RefusesWrite old.cache new.cache) (SaidOfLeg old.cache new.cache) (write_said old.cache new.cache) r p.caused in
       record {
         takes = takes r p;
-        shape = on_answer (new.tree.shape ≡ old.tree.shape) r (shape_kept r p.shape);
+        later = later_put old new p.shape p.passes;
         works = on_answer (new.tree.spent ≡ false) r p.works;
         spent = on_refusal (new.tree.spent ≡ true) r p.spent;
         refused = each_fault say (λ fault. (before : List LegView) → HoldsLegs old before → CanTakeInTurn before legs → MayRefuseWrite fault)
@@ -153,25 +151,23 @@ pub record IsTaking (old now : IndexView) (all left : List LegView) : Type 0 whe
   pub going : (before : List LegView) → HoldsLegs old before → CanTakeInTurn before all
       → (done : List LegView) × HoldsLegs now (before ++ done) × CanTakeInTurn (before ++ done) left × (done ++ left ≡ all)
   pub works : now.tree.spent ≡ false
-  pub shape : now.tree.shape ≡ old.tree.shape
   pub marked : IsMarked old.cache → IsMarked now.cache
-  pub faults : old.cache.store.faults ≤ now.cache.store.faults
+  pub later : IsLater words old now
 
 pub taking_start : (old : IndexView) (all : List LegView) → old.tree.spent ≡ false → IsTaking old old all all
 taking_start old all works = record {
   going = λ before s w. ([], subst (λ l. HoldsLegs old l) (sym (append-nil before)) s, subst (λ l. CanTakeInTurn l all) (sym (append-nil before)) w, refl);
   works = works;
-  shape = refl;
   marked = λ m. m;
-  faults = omega arith;
+  later = later_same old;
 }
 
 take_back : (b xs ys : List LegView) → CanTakeInTurn b (xs ++ ys) → CanTakeInTurn (b ++ xs) ys
 take_back b [] ys w = subst (λ l. CanTakeInTurn l ys) (sym (append-nil b)) w
 take_back b (x ∷ xs) ys w = subst (λ l. CanTakeInTurn l ys) (append_assoc b (x ∷ []) xs) (take_back (b ++ x ∷ []) xs ys w.1)
 
-pub taking_more : (old now new : IndexView) (all left run : List LegView) → IsTaking old now all (run ++ left) → Taking now new run (Ok tt) → IsLater words now new → IsTaking old new all left
-taking_more old now new all left run so_far more later = record {
+pub taking_more : (old now new : IndexView) (all left run : List LegView) → IsTaking old now all (run ++ left) → Taking now new run (Ok tt) → IsTaking old new all left
+taking_more old now new all left run so_far more = record {
   going = λ before s w.
       let at = so_far.going before s w in
       let done = at.0 in
@@ -182,39 +178,59 @@ taking_more old now new all left run so_far more later = record {
         append_assoc done run left ∙ at.3,
       );
   works = more.works;
-  shape = more.shape ∙ so_far.shape;
   marked = λ m. more.marked (so_far.marked m);
-  faults = let a = so_far.faults in let b = later.faults in omega (arith, a, b);
+  later = later-trans words old now new so_far.later more.later;
 }
 
 pub taking_refused : (old now new : IndexView) (all left run : List LegView) (fault : IndexFault) → IsTaking old now all (run ++ left) → Taking now new run (Err fault) → Taking old new all (Err fault)
 taking_refused old now new all left run fault so_far more = record {
   takes = tt;
-  shape = tt;
+  later = later-trans words old now new so_far.later more.later;
   works = tt;
   spent = more.spent;
   refused = λ before s w. (let at = so_far.going before s w in more.refused (before ++ at.0) at.1 (take_front (before ++ at.0) run left at.2));
-  store = λ e. (let a = so_far.faults in let b = more.store e in omega (arith, clamps, a, b));
+  store = λ e. (let a = so_far.later.faults in let b = more.store e in omega (arith, clamps, a, b));
   full = more.full;
   works_on = more.works_on;
   marked = λ m. more.marked (so_far.marked m);
 }
 
 -- memory that runs out before a leg is put spends the index
-pub taking_none : (old mid new : IndexView) (legs : List LegView) → new ≡ spent_from mid → mid.cache ≡ old.cache → Taking old new legs (Err index.Memory)
-taking_none old mid new legs is same =
-    let cache : new.cache ≡ old.cache = ap (λ (v : IndexView). v.cache) is ∙ same in
-    record {
-      takes = tt;
-      shape = tt;
-      works = tt;
-      spent = ap (λ (v : IndexView). v.tree.spent) is;
-      refused = λ before s w. tt;
-      store = λ e. absurd cc;
-      full = λ e. absurd cc;
-      works_on = λ e. absurd cc;
-      marked = λ m. subst (λ c. IsMarked c) (sym cache) m;
-    }
+pub taking_none : (old new : IndexView) (legs : List LegView) → new.tree.spent ≡ true → new.cache ≡ old.cache → new.tree.shape ≡ old.tree.shape → Taking old new legs (Err index.Memory)
+taking_none old new legs spent cache shape = record {
+  takes = tt;
+  later = later_spent old new cache shape;
+  works = tt;
+  spent = spent;
+  refused = λ before s w. tt;
+  store = λ e. absurd cc;
+  full = λ e. absurd cc;
+  works_on = λ e. absurd cc;
+  marked = λ m. subst (λ c. IsMarked c) (sym cache) m;
+}
+
+-- memory that runs out between two runs spends the index too
+pub taking_ends : (old now new : IndexView) (all left : List LegView) → IsTaking old now all left → new.tree.spent ≡ true → new.cache ≡ now.cache → new.tree.shape ≡ now.tree.shape → Taking old new all (Err index.Memory)
+taking_ends old now new all left so_far spent cache shape = record {
+  takes = tt;
+  later = later-trans words old now new so_far.later (later_spent now new cache shape);
+  works = tt;
+  spent = spent;
+  refused = λ before s w. tt;
+  store = λ e. absurd cc;
+  full = λ e. absurd cc;
+  works_on = λ e. absurd cc;
+  marked = λ m. subst (λ c. IsMarked c) (sym cache) (so_far.marked m);
+}
+
+-- a run is of no more turns than there are
+pub run_fits : (legs run : List LegView) (turns : List Turn) → taken legs turns ≡ run ++ taken legs (drop (length run) turns) → length run ≤ length turns
+run_fits legs run turns e =
+    let all = length-map turns (λ turn. get_or legs turn.place no_leg) in
+    let rest = length-map (drop (length run) turns) (λ turn. get_or legs turn.place no_leg) in
+    let split = ap length e ∙ length-append run (taken legs (drop (length run) turns)) in
+    let left = length-drop (length run) turns in
+    omega (arith, all, rest, split, left)
 
 pub drop_none : {X : Type 0} (k : ℕ) → let none : List X = [] in drop k none ≡ none
 drop_none zero = refl

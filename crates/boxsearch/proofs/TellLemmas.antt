@@ -1,12 +1,10 @@
 -- What an index over pages tells, and why it does not.
 use Rattle.std.proofs.Common.{ℕ, ◌≡◌, ◌∙◌, refl, sym, subst, true, false, List, [], IsTrue, Option, Some, None, slice_get, Result, Ok, Err}
 use Rattle.std.proofs.lemmas.Bool.{true≢false}
-use Rattle.std.specs.Prelude.{IfOk, IfErr, OnOk, MatchResult, Bool}
+use Rattle.std.specs.Prelude.{MatchResult, Bool}
 use Rattle.legs.specs.Asking as asking
 use Rattle.legs.specs.Asking.{TellsSieved}
-use Rattle.legs.specs.Sieves.{sieved_same, sieved_self}
 use Rattle.legs.specs.declared.sieve.Sieve.{Sieve}
-use Rattle.legs.specs.Hull.{leg_boxes}
 use Rattle.legs.specs.Legs.{LegView}
 use Rattle.legs.specs.Boxes.{BoxView}
 use Rattle.legs.specs.Questions.{Question, InBox, OfFeature}
@@ -16,7 +14,6 @@ use Rattle.pagecache.specs.declared.fault.CacheFault.TheVariants as cache
 use Rattle.chains.specs.Chains.{IsOffPlaceChain, chain_legs}
 use Rattle.chains.specs.Trajectory.{RetrievalCall}
 use Rattle.chains.specs.declared.spans.LeafSpan.{LeafSpan}
-use Rattle.tbtree.specs.Descent.{legs_met, IsInOrder}
 use Rattle.tbtree.specs.Faults.{IfNamed, RefusesRead}
 use Rattle.tbtree.specs.Nodes.{pages_of_cache}
 use Rattle.tbtree.specs.declared.fault.TreeFault.{TreeFault}
@@ -25,7 +22,8 @@ use Rattle.tbtree.specs.declared.tree.Place.{Place}
 use Rattle.boxsearch.specs.Answers.{answered, of_tree}
 use Rattle.boxsearch.specs.Index.{IndexView, words, tells}
 use Rattle.boxsearch.specs.Telling.{Denies, TellsTrack, DeniesTrack}
-use Rattle.boxsearch.specs.Way.{meets, IsWay, IsOffWay}
+use Rattle.boxsearch.specs.Way.{IsOffWay, Searches}
+use Rattle.legs.proofs.SieveLaws.{sieved_same, sieved_self}
 
 -- a page that is named is one that denies the question
 named_denies : (i : IndexView) (c : Cache) (question : Question) (P : ℕ → Type 0) → ((n : ℕ) → P n → Denies (pages_of_cache i.cache) i.tree i.places question n) → (fault : TreeFault)
@@ -39,32 +37,20 @@ named_denies i c question P denies (tree.Malformed n) named caused = λ f. denie
 named_denies i c question P denies tree.Spent named caused = absurd caused
 
 -- of a search
-module _ (i : IndexView) (c : Cache) (query : BoxView) where
-  module _ {A : Type 0} (items : A → List LegView) where
-    abbrev Ways : Result A TreeFault → Type 0
-    Ways r = IsTrue i.cache.store.is_faithful → OnOk r (IsWay query (pages_of_cache i.cache) i.tree.root i.tree.levels)
+module _ {A : Type 0} (i : IndexView) (c : Cache) (query : BoxView) (items : A → List LegView) where
+  abbrev Told : Result A TreeFault → Type 0
+  Told r = MatchResult (answered (λ fault. of_tree fault) r) (λ found. tells i (InBox query) (items found)) (λ fault. asking.Denies words i (InBox query) fault)
 
-    abbrev Meets : Result A TreeFault → Type 0
-    Meets r = IsTrue i.cache.store.is_faithful → IfOk r (λ found. IsInOrder (legs_met leg_boxes (meets query) (pages_of_cache i.cache) i.tree.root i.tree.levels) (items found))
+  told : (r : Result A TreeFault) → Searches query i.tree i.cache c items r → i.tree.spent ≡ false → Told r
+  told (Ok found) k works = λ f. record { way = k.way f; met = k.met f }
+  told (Err fault) k works = named_denies i c (InBox query) (IsOffWay query (pages_of_cache i.cache) i.tree.root i.tree.levels) (λ n h. h) fault k.named (k.caused works)
 
-    abbrev NamesOff : Result A TreeFault → Type 0
-    NamesOff r = IsTrue i.cache.store.is_faithful → IfErr r (IfNamed (IsOffWay query (pages_of_cache i.cache) i.tree.root i.tree.levels))
+  told_by : (spent : Bool) → i.tree.spent ≡ spent → (r : Result A TreeFault) → Searches query i.tree i.cache c items r → (i.tree.spent ≡ true → (r ≡ Err tree.Spent) × (c ≡ i.cache)) → Told r
+  told_by true e r k refused = subst Told (sym (refused e).0) e
+  told_by false e r k refused = told r k e
 
-    abbrev Told : Result A TreeFault → Type 0
-    Told r = MatchResult (answered (λ fault. of_tree fault) r) (λ found. tells i (InBox query) (items found)) (λ fault. asking.Denies words i (InBox query) fault)
-
-    told : (r : Result A TreeFault) → Ways r → Meets r → NamesOff r → IfErr r (RefusesRead i.cache c) → Told r
-    told (Ok found) way met named caused = λ f. record { way = way f; met = met f }
-    told (Err fault) way met named caused = named_denies i c (InBox query) (IsOffWay query (pages_of_cache i.cache) i.tree.root i.tree.levels) (λ n h. h) fault named caused
-
-    told_by : (spent : Bool) → i.tree.spent ≡ spent → (r : Result A TreeFault) → Ways r → Meets r → NamesOff r
-        → (i.tree.spent ≡ true → (r ≡ Err tree.Spent) × (c ≡ i.cache)) → (i.tree.spent ≡ false → IfErr r (RefusesRead i.cache c)) → Told r
-    told_by true e r way met named refused caused = subst Told (sym (refused e).0) e
-    told_by false e r way met named refused caused = told r way met named (caused e)
-
-    pub search_told : (r : Result A TreeFault) → Ways r → Meets r → NamesOff r
-        → (i.tree.spent ≡ true → (r ≡ Err tree.Spent) × (c ≡ i.cache)) → (i.tree.spent ≡ false → IfErr r (RefusesRead i.cache c)) → Told r
-    search_told r way met named refused caused = told_by i.tree.spent refl r way met named refused caused
+  pub search_told : (r : Result A TreeFault) → Searches query i.tree i.cache c items r → (i.tree.spent ≡ true → (r ≡ Err tree.Spent) × (c ≡ i.cache)) → Told r
+  search_told r k refused = told_by i.tree.spent refl r k refused
 
 -- of a retrieval
 module _ {A : Type 0} (i : IndexView) (c : Cache) (feature : ℕ) (sieve : Sieve) (place : Place) (at : slice_get i.places feature ≡ Some place) (spans : List LeafSpan) (items : A → List LegView) where

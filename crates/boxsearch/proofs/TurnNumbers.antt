@@ -14,7 +14,7 @@ use Rattle.legs.specs.Costs.{leg_feature}
 use Rattle.legs.specs.Index.{feature_count, CanFollowInTurn}
 use Rattle.legs.specs.Legs.{LegView}
 use Rattle.legs.specs.Places.{no_leg}
-use Rattle.tbtree.specs.Order.{numbered, run_for, with_last}
+use Rattle.tbtree.proofs.TurnOrders.{numbered, run_for, with_last}
 use Rattle.tbtree.specs.declared.tree.Place.{Place}
 use Rattle.boxsearch.specs.Turns.{leaf_for, open_after, open_at, open_with, opened_from, turns_from}
 use Rattle.boxsearch.specs.declared.turns.Open.{Open}

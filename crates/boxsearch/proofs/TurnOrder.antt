@@ -12,8 +12,7 @@ use Rattle.legs.specs.Legs.{LegView}
 use Rattle.legs.specs.Places.{no_leg}
 use Rattle.tbtree.proofs.RisingLists.{in_order_once}
 use Rattle.tbtree.specs.Turn.{IsPast, IsRising}
-use Rattle.tbtree.specs.Joining.{leaf_by_leaf}
-use Rattle.tbtree.specs.Order.{put_in, put_all, elements, numbered}
+use Rattle.tbtree.proofs.TurnOrders.{put_in, put_all, elements, numbered, leaf_by_leaf}
 use Rattle.tbtree.specs.declared.tree.Place.{Place}
 use Rattle.boxsearch.specs.Taking.{taken}
 use Rattle.boxsearch.specs.Turns.{leaf_for, open_after, opened_from, turn_number, turns_from}

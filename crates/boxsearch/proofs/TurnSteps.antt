@@ -1,16 +1,18 @@
 -- The turns of legs, leg by leg.
-use Rattle.std.proofs.Common.{ℕ, suc, ◌≡◌, ◌≢◌, ◌≤◌, ◌<◌, ◌+◌, ◌==◌, max, false, cond, refl, sym, ap, ◌∙◌, arith, subst, ⊎_elim, eq-eqb, List, [], ◌∷◌, ◌++◌, drop, length, append_assoc, get_or}
+use Rattle.std.proofs.Common.{ℕ, zero, suc, ◌≡◌, ◌≢◌, ◌≤◌, ◌<◌, ◌+◌, ◌==◌, max, false, cond, refl, sym, ap, ◌∙◌, arith, subst, ⊎_elim, eq-eqb, List, [], ◌∷◌, ◌++◌, drop, length, append_assoc, get_or}
 use Rattle.std.proofs.lemmas.Bool.{cases_eq}
 use Rattle.std.proofs.lemmas.Bool.Decides.{nat_tests}
-use Rattle.std.proofs.lemmas.List.{length_push, length-set}
+use Rattle.std.proofs.lemmas.List.{append-nil, length_push, length-set}
 use Rattle.legs.specs.Index.{feature_count, CanFollowInTurn, SkipNone}
 use Rattle.legs.specs.Legs.{LegView}
+use Rattle.legs.specs.declared.index.IndexFault.{IndexFault}
+use Rattle.legs.specs.declared.index.IndexFault.TheVariants as index
 use Rattle.tbtree.specs.declared.tree.Place.{Place}
-use Rattle.boxsearch.specs.Turns.{leaf_for, open_after, open_with, opened_from, turns_from}
+use Rattle.boxsearch.specs.Turns.{leaf_for, open_after, open_with, opened_from, turns_from, IsTurnFault}
 use Rattle.boxsearch.specs.declared.turns.Open.{Open}
 use Rattle.boxsearch.specs.declared.turns.Turn.{Turn}
 use Rattle.boxsearch.proofs.AddLemmas.{feature_count-push}
-use Rattle.boxsearch.proofs.TakingTurns.{drop_next}
+use Rattle.boxsearch.proofs.TakingTurns.{drop_next, drop_none}
 
 pub opened_length : (most feature : ℕ) (places : List Place) → length (opened_from most feature places) ≡ length places
 opened_length most feature [] = refl
@@ -38,6 +40,11 @@ none_skipped before (leg ∷ legs) n e w = (
   none_skipped (before ++ leg ∷ []) legs (max n (leg.feature + 1)) (ap (λ k. max k (leg.feature + 1)) e ∙ sym (feature_count-push before leg)) w.1,
 )
 
+drop_past : {X : Type 0} (xs : List X) (k : ℕ) → length xs ≤ k → drop k xs ≡ []
+drop_past [] k l = drop_none k
+drop_past (x ∷ xs) zero l = absurd (omega (arith, l))
+drop_past (x ∷ xs) (suc k) l = drop_past xs k (omega (arith, l))
+
 pub next_leg : (legs : List LegView) (k : ℕ) (leg : LegView) → k < length legs → leg ≡ get_or legs k leg → drop k legs ≡ leg ∷ drop (k + 1) legs
 next_leg legs k leg l is = let next : suc k ≡ k + 1 = omega arith in drop_next legs k leg l ∙ ap (λ x. x ∷ drop (suc k) legs) (sym is) ∙ ap (λ n. leg ∷ drop n legs) next
 
@@ -63,8 +70,14 @@ fit_step most k ends ends' legs leg feature made l is f b h =
     let same : max (length ends) (leg.feature + 1) ≡ length ends' = (let e = ap length b in omega (arith, f, len, e)) in
     subst (λ n. SkipNone n (drop (k + 1) legs)) same on.1
 
-pub fit_back : (most k : ℕ) (ends ends' : List Open) (legs : List LegView) (leg : LegView) (feature made : ℕ) → k < length legs → leg ≡ get_or legs k leg → feature ≡ leg.feature → feature ≤ length ends → ends' ≡ open_after most ends feature made → SkipNone (length ends') (drop (k + 1) legs) → SkipNone (length ends) (drop k legs)
-fit_back most k ends ends' legs leg feature made l is f low b h =
-    let len = length_after most ends feature made low in
-    let same : length ends' ≡ max (length ends) (leg.feature + 1) = (let e = ap length b in omega (arith, f, len, e)) in
-    subst (λ ls. SkipNone (length ends) ls) (sym (next_leg legs k leg l is)) (omega (arith, f, low), subst (λ n. SkipNone n (drop (k + 1) legs)) same h)
+-- where no leg is left
+pub turns_all : (most base k : ℕ) (ends : List Open) (legs : List LegView) (turns all : List Turn) → length legs ≤ k → turns ++ turns_from most ends base k (drop k legs) ≡ all → turns ≡ all
+turns_all most base k ends legs turns all l so_far = sym (append-nil turns) ∙ ap (λ ls. turns ++ turns_from most ends base k ls) (sym (drop_past legs k l)) ∙ so_far
+
+-- turns that are not told of a leg that skips a feature are not told of the legs
+pub turn_skips : (skips all : Type 0) (fault : IndexFault) → (skips → all) → IsTurnFault skips fault → IsTurnFault all fault
+turn_skips skips all index.Memory f h = tt
+turn_skips skips all index.Store f h = h
+turn_skips skips all (index.Damaged n) f h = h
+turn_skips skips all index.StoreFull f h = h
+turn_skips skips all index.Spent f h = f h

@@ -9,7 +9,7 @@ use Rattle.legs.specs.Legs.{LegView}
 use Rattle.pagecache.specs.Cache.{Cache}
 use Rattle.tbtree.specs.Descent.{children_met, hits, pages_met, met_count, legs_met, HasInner}
 use Rattle.tbtree.specs.Faults.{IfNamed, RefusesRead}
-use Rattle.tbtree.specs.Nodes.{Pages, HasLeaf}
+use Rattle.tbtree.specs.Nodes.{Pages}
 use Rattle.tbtree.specs.declared.fault.TreeFault.{TreeFault}
 use Rattle.tbtree.specs.declared.fault.TreeFault.TheVariants.{Malformed}
 use Rattle.chains.proofs.LiveLemmas.{all_at}

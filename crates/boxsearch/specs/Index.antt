@@ -13,7 +13,7 @@ use Rattle.pagecache.specs.Cache.{Cache, IsClean, is_changed, pages_as_written, 
 use Rattle.tbtree.specs.Descent.{found_legs}
 use Rattle.tbtree.specs.Insert.{Stands, IsPlace}
 use Rattle.tbtree.specs.Nodes.{pages_of_cache}
-pub use Rattle.tbtree.specs.Planting.{place_of}
+pub use Rattle.tbtree.specs.Stands.{place_of}
 use Rattle.tbtree.specs.Shape.{IsShape}
 use Rattle.tbtree.specs.Stands.{empty_tree, no_place}
 use Rattle.tbtree.specs.declared.tree.Place.{Place}

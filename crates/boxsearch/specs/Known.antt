@@ -19,9 +19,3 @@ abbrev pub Widens : List (List LeafSpan) → List (List LeafSpan) → Type 0
 Widens old new =
     (feature : ℕ) (spans : List LeafSpan) → slice_get new feature ≡ Some spans
     → (slice_get old feature ≡ Some spans) ⊎ (spans ≡ [])
-
--- and what was known of each feature is known
-abbrev pub Holds : List (List LeafSpan) → List (List LeafSpan) → Type 0
-Holds old new =
-    (feature : ℕ) (spans : List LeafSpan) → slice_get old feature ≡ Some spans
-    → slice_get new feature ≡ Some spans

@@ -7,6 +7,5 @@ pub mod Lending
 pub mod Putting
 pub mod Answers
 pub mod Marking
-pub mod Bounds
 pub mod Taking
 pub mod Turns

@@ -1,34 +1,13 @@
 -- Helpers of private functions: what putting legs into its tree makes of an index.
-use Rattle.std.specs.Prelude.{ℕ, ◌≡◌, ◌≤◌, ◌+◌, ◌*◌, ◌-◌, ◌^◌, ◌<◌, min, true, false, IsTrue, OnOk, OnErr, IfErr, List, length, Result, Some, slice_get, set}
+use Rattle.std.specs.Prelude.{ℕ, ◌≡◌, ◌+◌, ◌-◌, ◌^◌, ◌<◌, min, true, false, IsTrue, OnOk, OnErr, IfErr, List, length, Result, Some, slice_get, set}
 use Rattle.legs.specs.Legs.{LegView}
 use Rattle.tbtree.specs.Faults.{RefusesWrite}
-use Rattle.tbtree.specs.Insert.{Inserts}
 use Rattle.tbtree.specs.Joining.{JoinsAll}
 use Rattle.tbtree.specs.Nodes.{pages_of_cache}
 use Rattle.tbtree.specs.Passes.{Passes, KeepsLength}
 use Rattle.tbtree.specs.declared.fault.TreeFault.{TreeFault}
 use Rattle.tbtree.specs.declared.tree.Place.{Place}
 use Rattle.boxsearch.specs.Index.{IndexView}
-
--- what putting a leg makes of it
-pub record Puts (old new : IndexView) (leg : LegView)
-    (result : Result (Unit {0}) TreeFault) : Type 0 where
-  pub was : Place
-  pub is : Place
-  pub found : slice_get old.places leg.feature ≡ Some was
-  pub places : new.places ≡ set old.places leg.feature is
-  pub inserts : IsTrue old.cache.store.is_faithful
-      → Inserts (pages_of_cache old.cache) (pages_of_cache new.cache) old.tree new.tree
-      was is leg result
-  pub shape : new.tree.shape ≡ old.tree.shape
-  pub passes : Passes old.cache new.cache
-  pub count : OnOk result (KeepsLength old.cache new.cache)
-  pub few : new.cache.count < 2 ^ 32
-  pub caused : IfErr result (RefusesWrite old.cache new.cache)
-  pub asked : OnOk result (new.cache.asked ≤ old.cache.asked + (2 * (new.tree.levels - 1) + 4))
-  pub works : OnOk result (new.tree.spent ≡ false)
-  pub spent : OnErr result (new.tree.spent ≡ true)
-  pub legs : OnOk result (new.legs ≡ min (old.legs + 1) (2 ^ 64 - 1))
 
 -- what putting legs of one feature makes of it
 pub record PutsAll (old new : IndexView) (feature : ℕ) (legs : List LegView)
@@ -48,7 +27,3 @@ pub record PutsAll (old new : IndexView) (feature : ℕ) (legs : List LegView)
   pub works : OnOk result (new.tree.spent ≡ false)
   pub spent : OnErr result (new.tree.spent ≡ true)
   pub counted : OnOk result (new.legs ≡ min (old.legs + length legs) (2 ^ 64 - 1))
-
--- an index that refuses all calls
-abbrev pub spent_from : IndexView → IndexView
-spent_from i = record i { tree = record i.tree { spent = true } }

@@ -1,5 +1,6 @@
 -- An index whose legs came in any order, and what legs make of it.
 use Rattle.std.specs.Prelude.{ℕ, ◌≡◌, List, ◌++◌, map, length, slice_get, slice_index_or, Some, IsTrue, true, false, Result, OnOk, OnErr, IfErr, IsErrOf}
+use Rattle.legs.specs.Asking.{IsLater}
 use Rattle.legs.specs.Index.{feature_count, HasRisen, MayRefuseLeg}
 use Rattle.legs.specs.Legs.{LegView}
 use Rattle.legs.specs.Places.{no_leg}
@@ -10,7 +11,7 @@ use Rattle.tbtree.specs.Joining.{CanTakeInTurn, Holds}
 use Rattle.tbtree.specs.Nodes.{pages_of_cache}
 use Rattle.tbtree.specs.Shape.{IsShape}
 use Rattle.tbtree.specs.declared.tree.Place.{Place}
-use Rattle.boxsearch.specs.Index.{IndexView, IsMarked}
+use Rattle.boxsearch.specs.Index.{IndexView, words, IsMarked}
 use Rattle.boxsearch.specs.declared.turns.Turn.{Turn}
 
 -- over a faithful store, all of whose pages its cache counts, and not spent, its pages hold the legs, which it counts,
@@ -33,7 +34,7 @@ pub record Taking (old new : IndexView) (legs : List LegView)
   pub takes : OnOk result
       ((before : List LegView) → HoldsLegs old before → CanTakeInTurn before legs
       → HoldsLegs new (before ++ legs))
-  pub shape : OnOk result (new.tree.shape ≡ old.tree.shape)
+  pub later : IsLater words old new
   pub works : OnOk result (new.tree.spent ≡ false)
   pub spent : OnErr result (new.tree.spent ≡ true)
   pub refused : IfErr result

@@ -45,10 +45,10 @@ turns_from most ends base place (leg ∷ legs) =
     ∷ turns_from most (open_after most ends leg.feature (base + place)) base (place + 1) legs
 
 -- turns are not told for want of memory, or of legs that skip a feature
-abbrev pub IsTurnFault : IndexFault → Type 0
-IsTurnFault Memory = Unit {0}
-IsTurnFault Spent = Unit {0}
-IsTurnFault _ = ⊥
+abbrev pub IsTurnFault : (skips : Type 0) → IndexFault → Type 0
+IsTurnFault skips Memory = Unit {0}
+IsTurnFault skips Spent = skips
+IsTurnFault skips _ = ⊥
 
 -- a turn's place in the order
 abbrev pub turn_number : Turn → ℕ

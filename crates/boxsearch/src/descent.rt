@@ -1,16 +1,16 @@
 //! The search, level by level.
-ghost use Rattle.std.specs.Prelude.{ℕ, ◌≡◌, ◌+◌, ◌<◌, ◌≤◌, List, Some, Err, true, false, length, slice_get, OnOk, IfOk, IfErr, IsTrue};
+ghost use Rattle.std.specs.Prelude.{ℕ, ◌≡◌, ◌+◌, ◌<◌, List, Some, Err, true, false};
+ghost use Rattle.std.specs.Prelude.{length, slice_get, OnOk, IfErr, IsTrue};
 ghost use Rattle.legs.specs.Costs.{RisesBy, search_cost};
 ghost use Rattle.legs.specs.Hull.{leg_boxes};
 ghost use Rattle.legs.specs.Index.{legs_in_box};
 ghost use Rattle.legs.specs.Legs.{LegView};
-ghost use Rattle.chains.specs.Reads.{OnlyReads, Reads};
-ghost use Rattle.tbtree.specs.Descent.{children_met, hits, legs_met, met_count, HasInner, IsInOrder};
-ghost use Rattle.tbtree.specs.Faults.{GivesRead, IfNamed, RefusesRead};
+ghost use Rattle.tbtree.specs.Descent.{children_met, hits, HasInner};
+ghost use Rattle.tbtree.specs.Faults.{GivesRead};
 ghost use Rattle.tbtree.specs.Insert.{Stands};
 ghost use Rattle.tbtree.specs.Nodes.{pages_of_cache, HasLeaf};
 ghost use Rattle.tbtree.specs.declared.fault.TreeFault.{TreeFault};
-ghost use Rattle.boxsearch.specs.Way.{meets, IsWay, IsOffWay, LevelCall};
+ghost use Rattle.boxsearch.specs.Way.{meets, LevelCall, Searches};
 
 use crate::nodes::{push_children, push_legs};
 use legs::{Box3, Leg};
@@ -75,7 +75,7 @@ fn spend(left: &mut usize, pages: &[u32]) -> Result<(), TreeFault>
     Ok(())
 }
 
-/// The legs whose boxes meet, leaf by leaf.
+/// The legs of a tree that is not spent.
 #[tactic(auto, using(chains::proofs::ReadLemmas::reading))]
 fn collected<S: PageStore>(
     alloc: Global,
@@ -83,22 +83,11 @@ fn collected<S: PageStore>(
     tree: &TbTree,
     query: &Box3,
 ) -> Result<Vec<Leg>, TreeFault>
-    requires levels { 0 < tree.now.levels }
-    ensures found { IsTrue cache.old.store.is_faithful
-        → IfOk result (λ found. found.items
-        ≡ legs_met leg_boxes (meets query.now) (pages_of_cache cache.old) tree.now.root
-        tree.now.levels) }
-    ensures way { IsTrue cache.old.store.is_faithful
-        → OnOk result (IsWay query.now (pages_of_cache cache.old) tree.now.root tree.now.levels) }
-    ensures named { IsTrue cache.old.store.is_faithful
-        → IfErr result (IfNamed (IsOffWay query.now (pages_of_cache cache.old) tree.now.root
-        tree.now.levels)) }
-    ensures reads { Reads cache.old cache.new result }
-    ensures asked { IsTrue cache.old.store.is_faithful
-        → OnOk result (RisesBy cache.old.asked cache.new.asked
-        (met_count (meets query.now) (pages_of_cache cache.old) tree.now.root tree.now.levels)) }
-    ensures most { cache.new.asked ≤ cache.old.asked + cache.old.count }
+    ensures { Searches query.now tree.now cache.old cache.new (λ found. found.items) result }
 {
+    if tree.levels == 0 {
+        return Ok(Vec::new(alloc));
+    }
     let mut left = cache.count() as usize;
     let mut pages = Vec::new(alloc);
     pages.push(tree.root)?;
@@ -107,15 +96,18 @@ fn collected<S: PageStore>(
         pages = next_level(alloc, cache, &pages, tree.levels - level, query)?;
         spend(&mut left, &pages)?;
     }
-    legs_in(alloc, cache, &pages, query)
+    let mut found = legs_in(alloc, cache, &pages, query)?;
+    found.sort_by_key(|leg: &Leg| leg.ordinal)?;
+    Ok(found)
 }
 
 /// The legs of a tree whose boxes meet a box, each once, in the order in which they were accepted.
 ///
-/// Pages are read level by level from the root down. The first page that is not the inner page or the leaf that the
-/// tree expects there is `Malformed`. Where a level has more pages than are left of as many as the store has, none of
-/// them is read, and the first one beyond is `Malformed`. What else the cache refuses is `Cache`, and so is want of
-/// memory for the legs or the numbers of pages. A spent tree is `Spent`.
+/// Pages are read level by level from the root down. A page that is not the inner page or the leaf
+/// that the tree expects there is `Malformed`. Where a level has more pages than are left of as many
+/// as the store has, none of them is read, and one of them is `Malformed`. What else the cache
+/// refuses is `Cache`, and so is want of memory for the legs or the numbers of pages. A spent tree
+/// is `Spent`.
 #[tactic(auto, using(chains::proofs::ReadLemmas::reading))]
 pub fn search<S: PageStore>(
     alloc: Global,
@@ -123,7 +115,8 @@ pub fn search<S: PageStore>(
     tree: &TbTree,
     query: &Box3,
 ) -> Result<Vec<Leg>, SearchFault>
-    // Of pages that stand for a list: exactly its legs whose boxes meet; only a failed store and want of memory refuse.
+    // Of pages that stand for a list: exactly its legs whose boxes meet; only a failed store and
+    // want of memory refuse.
     ensures found { tree.now.spent ≡ false → IsTrue cache.old.store.is_faithful
         → (legs : List LegView) (pages : ℕ → List ℕ)
         → Stands (pages_of_cache cache.old) tree.now legs pages
@@ -135,37 +128,17 @@ pub fn search<S: PageStore>(
         → OnOk result (RisesBy cache.old.asked cache.new.asked
         (search_cost query.now (Some tree.now.shape) legs)) }
 
-    // Of any pages: the legs of the pages that are met, in order.
-    ensures met { IsTrue cache.old.store.is_faithful
-        → IfOk result (λ found. IsInOrder (legs_met leg_boxes (meets query.now)
-        (pages_of_cache cache.old) tree.now.root tree.now.levels) found.items) }
-    // It succeeds only if every page that it meets is what the tree expects there.
-    ensures way { IsTrue cache.old.store.is_faithful
-        → OnOk result (IsWay query.now (pages_of_cache cache.old) tree.now.root tree.now.levels) }
-    // A page that is named is met and is not what the tree expects, or met with more than there are.
-    ensures named { IsTrue cache.old.store.is_faithful
-        → IfErr result (IfNamed (IsOffWay query.now (pages_of_cache cache.old) tree.now.root
-        tree.now.levels)) }
+    // Of any pages: the legs of the pages that are met, each of which is what the tree expects, or
+    // one that is not is named.
+    ensures searches { Searches query.now tree.now cache.old cache.new (λ found. found.items) result }
 
-    // Over any store.
+    // A spent tree is refused, and nothing is read.
     ensures spent { tree.now.spent ≡ true
         → (result ≡ Err TreeFault.Spent) × (cache.new ≡ cache.old) }
-    // No payload changes, and no page more is changed or written.
-    ensures reads { OnlyReads cache.old cache.new }
-    // `Store` is returned only if the store failed, and a page that is called damaged has no
-    // payload.
-    ensures caused { tree.now.spent ≡ false → IfErr result (RefusesRead cache.old cache.new) }
-    // It asks for no more pages than there are.
-    ensures most { cache.new.asked ≤ cache.old.asked + cache.old.count }
 {
     if tree.spent {
         return Err(TreeFault::Spent);
     }
     prove!(tree.shape.leaf() > 0);
-    if tree.levels == 0 {
-        return Ok(Vec::new(alloc));
-    }
-    let mut found = collected(alloc, cache, tree, query)?;
-    found.sort_by_key(|leg: &Leg| leg.ordinal)?;
-    Ok(found)
+    collected(alloc, cache, tree, query)
 }

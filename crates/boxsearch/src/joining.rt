@@ -1,7 +1,5 @@
 //! Legs that are put into an index over pages leaf by leaf.
-ghost use Rattle.std.specs.Prelude.{◌≡◌, ◌+◌, ◌++◌, ◌<◌, ◌≤◌, drop, false, length, All, IfOk, OnOk};
-ghost use Rattle.legs.specs.Asking.{IsLater};
-ghost use Rattle.boxsearch.specs.Index.{words};
+ghost use Rattle.std.specs.Prelude.{◌≡◌, ◌++◌, ◌<◌, drop, false, length, All, IfOk, OnOk};
 ghost use Rattle.boxsearch.specs.Taking.{Taking, taken};
 ghost use Rattle.boxsearch.specs.declared.turns.Turn.{Turn};
 
@@ -12,17 +10,15 @@ use legs::{IndexFault, Leg};
 use pages::PageStore;
 use std::alloc::AllocError;
 
-/// Takes the legs of the next turns, as long as they are of one leaf and of one feature, and gives that feature.
+/// Takes the legs of the next turns, as long as they are of one leaf and of one feature, and gives
+/// that feature.
 fn next_run(run: &mut Vec<Leg>, legs: &[Leg], turns: &[Turn]) -> Result<u32, AllocError>
     requires some { 0 < length turns.now }
     requires within { All (λ (turn : Turn). turn.place < length legs.now) turns.now }
     ensures some { OnOk result (0 < length run.new.items) }
-    ensures most { OnOk result (length run.new.items ≤ length turns.now) }
     ensures run { OnOk result (taken legs.now turns.now
         ≡ run.new.items ++ taken legs.now (drop (length run.new.items) turns.now)) }
     ensures one { IfOk result (λ feature. All (λ leg. leg.feature ≡ feature) run.new.items) }
-
-// It is the whole of a run.
 {
     run.clear();
     let leaf = turns[0].leaf;
@@ -41,8 +37,8 @@ fn next_run(run: &mut Vec<Leg>, legs: &[Leg], turns: &[Turn]) -> Result<u32, All
     Ok(feature)
 }
 
-/// Puts legs of one feature into its leaves, whatever the order of the legs before them. Legs that skip a feature have no
-/// turns, so that there is a place for each.
+/// Puts legs of one feature into its leaves, whatever the order of the legs before them. Legs that
+/// skip a feature have no turns, so that there is a place for each.
 fn join<S: PageStore>(
     index: &mut TreeIndex<S>,
     feature: usize,
@@ -51,15 +47,14 @@ fn join<S: PageStore>(
     requires works { index.old.tree.spent ≡ false }
     requires some { 0 < length legs.now }
     requires one { All (λ leg. leg.feature ≡ feature) legs.now }
-    ensures taking { Taking index.old index.new legs.now result }
-    ensures later { IsLater words index.old index.new }
+    ensures { Taking index.old index.new legs.now result }
 {
     if index.make_place(feature).is_err() {
-        index.spend();
+        index.tree.spent = true;
         return Err(IndexFault::Memory);
     }
-    if !index.has_place(feature) {
-        index.spend();
+    if feature >= index.places.len() {
+        index.tree.spent = true;
         return Err(IndexFault::Memory);
     }
     answer(index.put_all(feature, legs))
@@ -73,8 +68,7 @@ pub(crate) fn join_all<S: PageStore>(
 ) -> Result<(), IndexFault>
     requires works { index.old.tree.spent ≡ false }
     requires within { All (λ (turn : Turn). turn.place < length legs.now) turns.now }
-    ensures taking { Taking index.old index.new (taken legs.now turns.now) result }
-    ensures later { IsLater words index.old index.new }
+    ensures { Taking index.old index.new (taken legs.now turns.now) result }
 {
     let mut run = Vec::new(index.alloc);
     let mut from = 0;
@@ -82,7 +76,7 @@ pub(crate) fn join_all<S: PageStore>(
         let feature = match next_run(&mut run, legs, &turns[from..]) {
             Ok(feature) => feature as usize,
             Err(_fault) => {
-                index.spend();
+                index.tree.spent = true;
                 return Err(IndexFault::Memory);
             }
         };

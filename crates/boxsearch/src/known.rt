@@ -1,6 +1,6 @@
 //! The spans of leaves that are known, by feature.
-ghost use Rattle.std.specs.Prelude.{◌≡◌, ◌<◌, map, length, OnOk};
-ghost use Rattle.boxsearch.specs.Known.{Holds, Widens};
+ghost use Rattle.std.specs.Prelude.{◌<◌, map, length, OnOk};
+ghost use Rattle.boxsearch.specs.Known.{Widens};
 
 use chains::LeafSpan;
 use std::alloc::{AllocError, Global};
@@ -13,8 +13,6 @@ pub(crate) fn make_room(
 ) -> Result<(), AllocError>
     ensures room { OnOk result (feature < length known.new.items) }
     ensures widens { Widens (map (λ spans. spans.items) known.old.items)
-        (map (λ spans. spans.items) known.new.items) }
-    ensures holds { Holds (map (λ spans. spans.items) known.old.items)
         (map (λ spans. spans.items) known.new.items) }
 {
     'room: while known.len() <= feature {

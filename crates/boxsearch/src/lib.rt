@@ -14,5 +14,4 @@ mod turns;
 
 pub use answers::{answer, of_tree};
 pub use descent::{SearchFault, search};
-pub use parts::laws;
 pub use tree_index::TreeIndex;

@@ -1,5 +1,5 @@
 //! The mark of a store that is not finished, in its page 0.
-ghost use Rattle.std.specs.Prelude.{◌≡◌, ◌<◌, ◌≤◌, ◌+◌, drop, None, IsTrue, IfErr, OnErr, OnOk};
+ghost use Rattle.std.specs.Prelude.{◌≡◌, drop, IsTrue, IfErr, OnErr, OnOk};
 ghost use Rattle.pages.specs.Store.{Faulted, IsSynced};
 ghost use Rattle.pagecache.specs.Cache.{IsClean, pages_as_written};
 ghost use Rattle.boxsearch.specs.Index.{IsMarked};

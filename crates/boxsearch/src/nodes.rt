@@ -1,13 +1,12 @@
 //! One page on the way down.
-ghost use Rattle.std.specs.Prelude.{◌≡◌, ◌++◌, filter, map, OnOk, IfErr, Some};
+ghost use Rattle.std.specs.Prelude.{◌≡◌, ◌++◌, filter, map, OnOk, Some};
 ghost use Rattle.legs.specs.Boxes.{BoxView, box_of, boxes_meet};
 ghost use Rattle.legs.specs.Hull.{leg_boxes};
 ghost use Rattle.legs.specs.Legs.{LegView};
 ghost use Rattle.tbnode.specs.Form.{node_of};
-ghost use Rattle.chains.specs.Taking.{IsNodeFault};
 ghost use Rattle.tbtree.specs.Descent.{children_met, entries_in, hits, legs_in, HasInner};
 ghost use Rattle.tbtree.specs.Nodes.{AnInner, ALeaf, InnerView, LeafView, HasLeaf};
-ghost use Rattle.boxsearch.specs.Way.{meets, PageCall};
+ghost use Rattle.boxsearch.specs.Way.{meets, PageCall, Pushes};
 
 use legs::{Box3, Leg};
 use pagecache::PageCache;
@@ -53,13 +52,10 @@ fn push_inner(
     query: &Box3,
     found: &mut Vec<u32>,
 ) -> Result<(), TreeFault>
-    ensures pushed { OnOk result (found.new.items
-        ≡ found.old.items ++ map (λ e. e.child) (filter (λ e. boxes_meet e.bounds query.now)
-        (entries_in (Some (node_of payload.now))))) }
-    ensures way { OnOk result ((inner : InnerView BoxView)
-        × (node_of payload.now ≡ Some (AnInner inner)) × (inner.level ≡ level)) }
-    ensures refused { IfErr result (IsNodeFault ((inner : InnerView BoxView)
-        → node_of payload.now ≡ Some (AnInner inner) → inner.level ≡ level → ⊥) page) }
+    ensures { Pushes ((inner : InnerView BoxView)
+        × (node_of payload.now ≡ Some (AnInner inner)) × (inner.level ≡ level))
+        (map (λ e. e.child) (filter (λ e. boxes_meet e.bounds query.now)
+        (entries_in (Some (node_of payload.now))))) page found.old.items found.new.items result }
 {
     let Some(inner) = tbnode::inner(payload) else {
         return Err(TreeFault::Malformed(page));
@@ -78,13 +74,9 @@ fn push_leaf(
     query: &Box3,
     found: &mut Vec<Leg>,
 ) -> Result<(), TreeFault>
-    ensures pushed { OnOk result (found.new.items
-        ≡ found.old.items ++ filter (λ leg. boxes_meet (box_of leg) query.now)
-        (legs_in (Some (node_of payload.now)))) }
-    ensures way { OnOk result ((leaf : LeafView LegView)
-        × (node_of payload.now ≡ Some (ALeaf leaf))) }
-    ensures refused { IfErr result (IsNodeFault ((leaf : LeafView LegView)
-        → node_of payload.now ≡ Some (ALeaf leaf) → ⊥) page) }
+    ensures { Pushes ((leaf : LeafView LegView) × (node_of payload.now ≡ Some (ALeaf leaf)))
+        (filter (λ leg. boxes_meet (box_of leg) query.now) (legs_in (Some (node_of payload.now))))
+        page found.old.items found.new.items result }
 {
     let Some(leaf) = tbnode::leaf(payload) else {
         return Err(TreeFault::Malformed(page));
@@ -93,8 +85,8 @@ fn push_leaf(
     Ok(())
 }
 
-/// Adds the children of an inner page of that level whose boxes meet. The pages that are read next may
-/// come into memory with it.
+/// Adds the children of an inner page of that level whose boxes meet. The pages that are read next
+/// may come into memory with it.
 pub(crate) fn push_children<S: PageStore>(
     cache: &mut PageCache<S>,
     page: u32,
@@ -117,8 +109,8 @@ pub(crate) fn push_children<S: PageStore>(
     push_inner(payload, page, level, query, found)
 }
 
-/// Adds the legs of a leaf whose boxes meet. The leaves that are read next may come into memory with
-/// it.
+/// Adds the legs of a leaf whose boxes meet. The leaves that are read next may come into memory
+/// with it.
 pub(crate) fn push_legs<S: PageStore>(
     cache: &mut PageCache<S>,
     page: u32,

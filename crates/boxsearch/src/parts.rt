@@ -1,14 +1,5 @@
 //! The parts of an index, for what is kept beside its tree.
-ghost use Rattle.std.specs.Prelude.{ℕ, ◌≡◌, ◌≢◌, ◌<◌, ◌≤◌, ◌^◌, [], true, List, length, count_by, slice_get, IsTrue, None, Some};
-ghost use Rattle.std.specs.List.{sum_by};
-ghost use Rattle.legs.specs.Index.{is_of, CanFollowInTurn};
-ghost use Rattle.pagecache.specs.Cache.{payload_of, Cache, IsClean, IsSettled};
-ghost use Rattle.tbtree.specs.declared.tree.Place.{Place};
-ghost use Rattle.chains.specs.declared.spans.LeafSpan.{LeafSpan};
-ghost use Rattle.boxsearch.specs.Beside.{with_cache, IsBeside};
-ghost use Rattle.boxsearch.specs.Bounds.{IsBounded};
-ghost use Rattle.boxsearch.specs.Index.{content, IndexView, IsMarked, IsSoundIndex};
-ghost use Rattle.header.specs.Front.{SaysState};
+ghost use Rattle.std.specs.Prelude.{◌≡◌};
 
 use crate::tree_index::TreeIndex;
 use pagecache::PageCache;
@@ -121,43 +112,3 @@ impl<S: PageStore> TreeIndex<S> {
         &mut self.cache
     }
 }
-
-/// What holds of an index beside whose tree pages are written, for the proofs of a caller. It does nothing.
-pub fn laws()
-    // If the tree's pages say what they said, the index has the same legs.
-    ensures content { (index : IndexView) (cache : Cache) (known : List (List LeafSpan))
-        → IsBeside index.cache cache → content (with_cache index cache known) ≡ content index }
-    // If the tree's pages say what they said, a sound index stays sound.
-    ensures sound { (index : IndexView) (cache : Cache) (known : List (List LeafSpan))
-        → IsBeside index.cache cache → IsSoundIndex index → IsSoundIndex (with_cache index cache known) }
-
-    // A cache is beside another one where each page has the payload that it had.
-    ensures alike { (old new : Cache) → new.store.is_faithful ≡ old.store.is_faithful
-        → new.count ≡ old.count → new.store.count ≡ old.store.count
-        → (IsTrue old.store.is_faithful → (n : ℕ) → payload_of new n ≡ payload_of old n)
-        → IsBeside old new }
-
-    // The legs of a sound one follow one another from the first.
-    ensures in_turn { (index : IndexView) → IsSoundIndex index → CanFollowInTurn [] (content index) }
-
-    // Page 0 is marked where it says that the store is not finished, and no page is changed.
-    ensures marked { (index : IndexView) → IsSoundIndex index → IsSettled index.cache
-        → IsClean index.cache → SaysState true (payload_of index.cache 0)
-        → IsMarked index.cache }
-
-    // There is a page 0, which has a payload.
-    ensures some_page { (index : IndexView) → IsSoundIndex index → 0 < index.cache.count }
-    // That page has a payload.
-    ensures page_0 { (index : IndexView) → IsSoundIndex index → payload_of index.cache 0 ≢ None }
-
-    // The numbers of an index are those of its pages, and each place counts the legs of its feature.
-    ensures bounds { (index : IndexView) → IsSoundIndex index
-        → length (content index) ≤ 2 ^ 31 → IsBounded index }
-    // The place of a feature counts the feature's legs.
-    ensures counts { (index : IndexView) → IsSoundIndex index → (feature : ℕ) (place : Place)
-        → slice_get index.places feature ≡ Some place
-        → place.legs ≡ count_by (is_of feature) (content index) }
-    // The places together count all legs.
-    ensures total { (index : IndexView) → IsSoundIndex index
-        → sum_by (λ (place : Place). place.legs) index.places ≡ length (content index) }
-{}

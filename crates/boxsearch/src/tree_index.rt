@@ -61,28 +61,28 @@ impl<S: PageStore> Model for TreeIndex<S> {
 }
 
 impl<S: PageStore> TreeIndex<S> {
-    ghost use Rattle.std.specs.Prelude.{◌≡◌, ◌<◌, ◌↔◌, [], false, length, slice_get, IfErr, IsTrue, OnErr, OnOk};
+    ghost use Rattle.std.specs.Prelude.{◌≡◌, ◌+◌, ◌-◌, ◌*◌, ◌<◌, ◌≤◌, ◌∷◌, [], false};
+    ghost use Rattle.std.specs.Prelude.{length, slice_get, IfErr, IsTrue, OnErr, OnOk};
     ghost use Rattle.pages.specs.Store.{IsSynced};
     ghost use Rattle.pagecache.specs.Cache.{IsSettled, IsWritten};
     ghost use Rattle.tbtree.specs.Nodes.{pages_of_cache};
     ghost use Rattle.chains.specs.Chains.{AreHeld};
-    ghost use Rattle.boxsearch.specs.Index.{content, new_index, words, IsMarked, IsSoundIndex, with_place};
+    ghost use Rattle.boxsearch.specs.Index.{new_index, words, IsSoundIndex, with_place};
     ghost use Rattle.legs.specs.Asking.{Leaves, Starts, Refusals};
     ghost use Rattle.legs.specs.Index.{MayRefuse};
     ghost use Rattle.chains.specs.Reads.{OnlyReads};
     ghost use Rattle.boxsearch.specs.Beside.{with_cache};
-    ghost use Rattle.boxsearch.specs.Putting.{Puts, PutsAll, spent_from};
+    ghost use Rattle.boxsearch.specs.Putting.{PutsAll};
 
-    /// An index without legs over the pages of a cache. It is sound where the store is faithful, has a page 0, all its
-    /// pages are sealed, and the cache counts all of them.
+    /// An index without legs over the pages of a cache. It is sound where the store is faithful, has
+    /// a page 0, all its pages are sealed, and the cache counts all of them.
     pub fn new(alloc: Global, cache: PageCache<S>, shape: Shape) -> TreeIndex<S>
-        // It has this cache, a tree without pages, and no place.
+        // It has this cache, a tree without pages, no place, and no legs.
         ensures value { result ≡ new_index cache shape }
-        // It has no legs.
-        ensures empty { content result ≡ [] }
         // It is sound over a faithful store with a page 0, if all pages are sealed and counted.
         ensures sound { IsTrue cache.store.is_faithful → 0 < cache.count
-            → AreHeld (pages_of_cache cache) → cache.count ≡ cache.store.count → IsSoundIndex result }
+            → AreHeld (pages_of_cache cache) → cache.count ≡ cache.store.count
+            → IsSoundIndex result }
     {
         prove!(shape.leaf() > 0);
         TreeIndex {
@@ -95,8 +95,8 @@ impl<S: PageStore> TreeIndex<S> {
         }
     }
 
-    /// Marks the store as one that is not finished, in its page 0. A page 0 that says so, and is written so, is left as it
-    /// is; any other is made to, and all that is changed is written.
+    /// Marks the store as one that is not finished, in its page 0. A page 0 that says so, and is
+    /// written so, is left as it is; any other is made to, and all that is changed is written.
     ///
     /// Refused are a spent index, and what the cache refuses.
     pub fn mark(&mut self) -> Result<(), IndexFault>
@@ -105,10 +105,6 @@ impl<S: PageStore> TreeIndex<S> {
         ensures starts { Starts words self.old self.new result }
         // A sound index fails only if memory runs out or the store fails, and a spent one always.
         ensures refusals { Refusals words self.old self.new result }
-
-        // Page 0 as written says that the store is not finished.
-        ensures marked { OnOk result (IsTrue self.old.cache.store.is_faithful
-            → IsMarked self.new.cache) }
     {
         if self.tree.spent {
             return Err(IndexFault::Spent);
@@ -192,25 +188,14 @@ impl<S: PageStore> TreeIndex<S> {
         Ok(())
     }
 
-    /// Refuses all calls from now on.
-    pub(crate) fn spend(&mut self)
-        ensures { self.new ≡ spent_from self.old }
-    {
-        self.tree.spent = true;
-    }
-
-    /// Whether there is a place for a feature.
-    pub(crate) fn has_place(&self, feature: usize) -> bool
-        ensures { IsTrue result ↔ (feature < length self.now.places) }
-    {
-        feature < self.places.len()
-    }
-
     /// Puts a leg into the tree, at the place of its feature.
     pub(crate) fn put(&mut self, leg: Leg) -> Result<(), TreeFault>
         requires works { self.old.tree.spent ≡ false }
         requires feature { leg.feature < length self.old.places }
-        ensures { Puts self.old self.new leg result }
+        // It is put as a list of one leg is.
+        ensures puts { PutsAll self.old self.new leg.feature (leg ∷ []) result }
+        ensures asked { OnOk result (self.new.cache.asked
+            ≤ self.old.cache.asked + (2 * (self.new.tree.levels - 1) + 4)) }
     {
         prove!(self.tree.shape.leaf() > 0);
         let (alloc, feature) = (self.alloc, leg.feature as usize);

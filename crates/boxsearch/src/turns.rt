@@ -2,11 +2,10 @@
 ghost use Rattle.std.specs.Prelude.{◌≡◌, ◌+◌, ◌<◌, ◌≤◌, ◌^◌, length, IfOk, IfErr, OnOk};
 ghost use Rattle.std.specs.List.Sorted.{IsPermutation, IsNonDecreasingBy};
 ghost use Rattle.legs.specs.Index.{SkipNone};
-ghost use Rattle.legs.specs.declared.index.IndexFault.TheVariants.{Memory};
 ghost use Rattle.boxsearch.specs.Turns.{leaf_for, open_after, opened_from, turn_number, turns_from, IsTurnFault};
 
 use legs::{IndexFault, Leg};
-use std::alloc::Global;
+use std::alloc::{AllocError, Global};
 use tbtree::Place;
 
 /// The turn of a leg: the number of the leaf that takes it, and its place among the legs. The leaves that are there
@@ -25,11 +24,10 @@ pub(crate) struct Open {
 }
 
 /// The last leaves of the features that are there.
-fn opened(alloc: Global, places: &[Place], most: u64) -> Result<Vec<Open>, IndexFault>
+fn opened(alloc: Global, places: &[Place], most: u64) -> Result<Vec<Open>, AllocError>
     requires some { 0 < most }
     requires few { length places.now < 2 ^ 32 }
-    ensures opened { IfOk result (λ ends. ends.items ≡ opened_from most 0 places.now) }
-    ensures only { IfErr result (λ fault. fault ≡ Memory) }
+    ensures { IfOk result (λ ends. ends.items ≡ opened_from most 0 places.now) }
 {
     let mut ends = Vec::with_capacity(alloc, places.len())?;
     for feature in 0..places.len() {
@@ -48,9 +46,7 @@ fn take(ends: &mut Vec<Open>, most: u64, feature: usize, made: u32) -> Result<u3
     requires some { 0 < most }
     ensures leaf { IfOk result (λ leaf. leaf ≡ leaf_for ends.old.items feature made) }
     ensures after { OnOk result (ends.new.items ≡ open_after most ends.old.items feature made) }
-    ensures there { OnOk result (feature ≤ length ends.old.items) }
-    ensures only { IfErr result (λ fault. feature ≤ length ends.old.items → fault ≡ Memory) }
-    ensures kinds { IfErr result IsTurnFault }
+    ensures refused { IfErr result (IsTurnFault (feature ≤ length ends.old.items → ⊥)) }
 {
     if feature == ends.len() {
         ends.push(Open {
@@ -70,32 +66,24 @@ fn take(ends: &mut Vec<Open>, most: u64, feature: usize, made: u32) -> Result<u3
     Ok(leaf)
 }
 
-/// Puts turns in order.
-fn sort_turns(turns: &mut Vec<Turn>)
-    ensures permutation { IsPermutation turns.old.items turns.new.items }
-    ensures rises { IsNonDecreasingBy turn_number turns.new.items }
-{
-    turns.sort_unstable_by_key(|turn: &Turn| {
-        u64::from(turn.leaf) * 4_294_967_296 + u64::from(turn.place)
-    });
-}
-
-/// The turns of legs, as the legs stand.
-fn turns_as_they_stand(
+/// The turns of legs, in order: leaf by leaf, and those of one leaf as they stand.
+pub(crate) fn turns_of(
     alloc: Global,
     places: &[Place],
     most: u64,
     legs: &[Leg],
 ) -> Result<Vec<Turn>, IndexFault>
     requires some { 0 < most }
-    requires few { length places.now + length legs.now < 2 ^ 32 }
-    ensures turns { IfOk result (λ turns. turns.items
-        ≡ turns_from most (opened_from most 0 places.now) (length places.now) 0 legs.now) }
-    ensures skips_none { OnOk result (SkipNone (length places.now) legs.now) }
-    ensures only { IfErr result (λ fault. SkipNone (length places.now) legs.now
-        → fault ≡ Memory) }
-    ensures kinds { IfErr result IsTurnFault }
+    ensures few { OnOk result (length places.now + length legs.now < 2 ^ 32) }
+    ensures permutation { IfOk result (λ turns. IsPermutation
+        (turns_from most (opened_from most 0 places.now) (length places.now) 0 legs.now)
+        turns.items) }
+    ensures rises { IfOk result (λ turns. IsNonDecreasingBy turn_number turns.items) }
+    ensures refused { IfErr result (IsTurnFault (SkipNone (length places.now) legs.now → ⊥)) }
 {
+    if places.len() > u32::MAX as usize || legs.len() > u32::MAX as usize - places.len() {
+        return Err(IndexFault::Memory);
+    }
     let mut ends = opened(alloc, places, most)?;
     let mut turns = Vec::with_capacity(alloc, legs.len())?;
     for place in 0..legs.len() {
@@ -107,31 +95,8 @@ fn turns_as_they_stand(
             place: place as u32,
         })?;
     }
-    Ok(turns)
-}
-
-/// The turns of legs, in order: leaf by leaf, and those of one leaf as they stand.
-pub(crate) fn turns_of(
-    alloc: Global,
-    places: &[Place],
-    most: u64,
-    legs: &[Leg],
-) -> Result<Vec<Turn>, IndexFault>
-    requires some { 0 < most }
-    ensures few { IfOk result (λ turns. length places.now + length legs.now < 2 ^ 32) }
-    ensures permutation { IfOk result (λ turns. IsPermutation
-        (turns_from most (opened_from most 0 places.now) (length places.now) 0 legs.now)
-        turns.items) }
-    ensures rises { IfOk result (λ turns. IsNonDecreasingBy turn_number turns.items) }
-    ensures skips_none { OnOk result (SkipNone (length places.now) legs.now) }
-    ensures only { IfErr result (λ fault. SkipNone (length places.now) legs.now
-        → fault ≡ Memory) }
-    ensures kinds { IfErr result IsTurnFault }
-{
-    if places.len() > u32::MAX as usize || legs.len() > u32::MAX as usize - places.len() {
-        return Err(IndexFault::Memory);
-    }
-    let mut turns = turns_as_they_stand(alloc, places, most, legs)?;
-    sort_turns(&mut turns);
+    turns.sort_unstable_by_key(|turn: &Turn| {
+        u64::from(turn.leaf) * 4_294_967_296 + u64::from(turn.place)
+    });
     Ok(turns)
 }

@@ -1,5 +1,5 @@
 -- Page 0 of a new store.
-use Rattle.std.proofs.Common.{ℕ, ◌≡◌, ◌+◌, ◌<◌, ◌∷◌, [], length, drop, refl, sym, ap, ◌∙◌, arith, List, IsTrue, inl, inr, ⊎_elim, Some, None, option_map, option_and_then, slice_get}
+use Rattle.std.proofs.Common.{ℕ, ◌≡◌, ◌+◌, ◌<◌, ◌∷◌, [], true, false, cond, length, drop, refl, sym, ap, ◌∙◌, arith, List, IsTrue, inl, inr, ⊎_elim, Some, None, option_map, option_and_then, slice_get}
 use Rattle.legs.specs.Costs.{ShapeView}
 use Rattle.legs.specs.Limits.{LimitsView}
 use Rattle.pages.proofs.UnsealedLemmas.{unsealed-sealed}
@@ -9,7 +9,9 @@ use Rattle.pages.specs.Unsealed.{unsealed}
 use Rattle.pages.specs.declared.payload.Payload.{Payload}
 use Rattle.pagecache.specs.Cache.{Cache, IsWritten, fresh, payload_of, stored_payload}
 use Rattle.tbnode.specs.Form.{node_of}
+use Rattle.tbtree.specs.Descent.{content_of, found_legs}
 use Rattle.tbtree.specs.Nodes.{pages_of_cache}
+use Rattle.tbtree.specs.Stands.{empty_tree}
 use Rattle.chains.specs.Chains.{AreHeld}
 use Rattle.boxsearch.specs.Index.{content, new_index, IsMarked, IsSoundIndex}
 use Rattle.header.specs.Fields.{header_payload}
@@ -30,6 +32,11 @@ left_written shape limits a b l e w = record {
   few = (let x = w.count in omega (arith, x, e));
   first = λ f. inr (inl (one_page a b (sealed 0 (header_payload shape limits)) l e w f));
 }
+
+-- an index without pages has no legs
+no_legs : (cache : Cache) (shape : ShapeView) → content (new_index cache shape) ≡ []
+unfolding found_legs
+no_legs cache shape = elim cache.store.is_faithful as (λ b. cond b (content_of (pages_of_cache cache) (empty_tree shape)) [] ≡ []) [ true ↦ refl | false ↦ refl ]
 
 -- page 0 of such a store says the payload
 first_stored : (s : Store) (p : Payload) → s.pages ≡ sealed 0 p ∷ [] → stored_payload s 0 ≡ Some p
@@ -78,10 +85,10 @@ module _ (shape : ShapeView) (limits : LimitsView) (a s : Store) (capacity : ℕ
       let none : Some (node_of header) ≡ None = sym (ap (option_map node_of) (payload f)) ∙ ap (pages_of_cache cache).at z ∙ e in
       absurd cc
 
-  pub begun : IsSynced s → content (new_index cache shape) ≡ [] → (IsTrue s.is_faithful → 0 < cache.count → AreHeld (pages_of_cache cache) → cache.count ≡ s.count → IsSoundIndex (new_index cache shape))
+  pub begun : IsSynced s → (IsTrue s.is_faithful → 0 < cache.count → AreHeld (pages_of_cache cache) → cache.count ≡ s.count → IsSoundIndex (new_index cache shape))
       → IsBegun shape limits capacity a (new_index cache shape)
-  begun synced none sound = record {
-    empty = none;
+  begun synced sound = record {
+    empty = no_legs cache shape;
     shape = refl;
     capacity = refl;
     stored = w;

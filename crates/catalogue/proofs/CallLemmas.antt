@@ -6,9 +6,10 @@ use Rattle.pages.specs.Store.{IsLawful, NoneUnsynced}
 use Rattle.pagecache.specs.Cache.{is_changed, page_of, payload_of, Cache, IsRefused, IsSettled}
 use Rattle.pagecache.specs.declared.fault.CacheFault.{CacheFault}
 use Rattle.pagecache.specs.declared.fault.CacheFault.TheVariants as cache
-use Rattle.boxsearch.specs.Beside.{with_cache, IsBeside}
+use Rattle.boxsearch.specs.Beside.{with_cache}
 use Rattle.boxsearch.specs.Index.{IndexView, IsMarked}
 use Rattle.boxsearch.proofs.BoundLemmas.{first_held, first_there}
+use Rattle.boxsearch.proofs.StartLemmas.{IsBeside}
 use Rattle.register.specs.ChainReader.{fault_of}
 use Rattle.register.specs.Lasting.{Says}
 use Rattle.register.specs.Saved.{CatalogueView, Continues, IsWrittenButFirst, KeepsFront}

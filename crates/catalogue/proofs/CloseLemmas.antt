@@ -21,8 +21,7 @@ use Rattle.tbnode.specs.Form.{node_of}
 use Rattle.tbtree.specs.Descent.{node_in}
 use Rattle.tbtree.specs.Stands.{no_place}
 use Rattle.tbtree.specs.declared.tree.Place.{Place}
-use Rattle.boxsearch.specs.Beside.{with_cache, IsBeside}
-use Rattle.boxsearch.specs.Bounds.{IsBounded}
+use Rattle.boxsearch.specs.Beside.{with_cache}
 use Rattle.boxsearch.specs.Index.{content, IndexView, IsMarked, IsSoundIndex}
 use Rattle.header.specs.Front.{finished, IsUnfinished, SaysState}
 use Rattle.header.proofs.FrontLemmas.{begins_unfinished}
@@ -37,8 +36,8 @@ use Rattle.catalogue.proofs.OpenLemmas.{fresh_payload}
 use Rattle.catalogue.proofs.ResultLemmas.{map_range, none_some, some_none, some_same}
 use Rattle.catalogue.proofs.RestLemmas.{book_held, StateLaw}
 use Rattle.catalogue.proofs.StateLemmas.{finished_header}
-use Rattle.boxsearch.proofs.BoundLemmas.{all_counted, bounded, place_counts}
-use Rattle.boxsearch.proofs.StartLemmas.{beside_content, beside_sound}
+use Rattle.boxsearch.proofs.BoundLemmas.{all_counted, bounded, place_counts, IsBounded}
+use Rattle.boxsearch.proofs.StartLemmas.{beside_content, beside_sound, IsBeside}
 
 map_both : {X Y Z : Type 0} (g : Y → Z) (f : X → Y) (xs : List X) → map g (map f xs) ≡ map (λ x. g (f x)) xs
 map_both g f [] = refl

@@ -10,10 +10,10 @@ use Rattle.pages.specs.declared.payload.Payload.{Payload}
 use Rattle.pagecache.specs.Cache.{fresh, pages_as_written, page_of, payload_of, sealed_payload, stored_payload, Cache, IsWritten}
 use Rattle.pages.specs.Unsealed.{unsealed}
 use Rattle.chains.specs.Reads.{OnlyReads}
-use Rattle.boxsearch.specs.Beside.{with_cache, IsBeside}
+use Rattle.boxsearch.specs.Beside.{with_cache}
 use Rattle.boxsearch.specs.Index.{content, written, IndexView, IsSoundIndex}
 use Rattle.boxsearch.proofs.BoundLemmas.{alike}
-use Rattle.boxsearch.proofs.StartLemmas.{beside_content, beside_sound}
+use Rattle.boxsearch.proofs.StartLemmas.{beside_content, beside_sound, IsBeside}
 use Rattle.tbtree.specs.declared.tree.Place.{Place}
 use Rattle.tbtree.specs.declared.tree.TbTree.{TbTree}
 use Rattle.catalogue.specs.Holding.{index_over, payload_in, AnswersBook, HoldsBook, IsAtRest, IsOfBook, IsOpened, IsRestored, NotOpened, NotRestored}

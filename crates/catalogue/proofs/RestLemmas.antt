@@ -9,9 +9,8 @@ use Rattle.pages.specs.declared.payload.Kind.TheVariants.{Header}
 use Rattle.pages.specs.declared.payload.Payload.{Payload}
 use Rattle.tbtree.specs.declared.tree.Place.{Place}
 use Rattle.tbtree.specs.declared.tree.TbTree.{TbTree}
-use Rattle.boxsearch.specs.Beside.{IsBeside}
 use Rattle.boxsearch.proofs.BoundLemmas.{alike}
-use Rattle.boxsearch.proofs.StartLemmas.{beside_content, beside_sound}
+use Rattle.boxsearch.proofs.StartLemmas.{beside_content, beside_sound, IsBeside}
 use Rattle.catalogue.proofs.OpenLemmas.{all_pages, fresh_payload, payload_stored}
 use Rattle.boxsearch.specs.Index.{content, found_by, place_of, words, written, IndexView, IsSoundIndex}
 use Rattle.catalogue.specs.Holding.{index_over, payload_in, HoldsBook, IsAtRest, IsOfBook}

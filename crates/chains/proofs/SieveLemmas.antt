@@ -9,13 +9,14 @@ use Rattle.std.proofs.lemmas.List.Folds.{find-append}
 use Rattle.timebase.specs.Period.{PeriodView}
 use Rattle.legs.specs.Boxes.{is_near}
 use Rattle.legs.specs.Legs.{LegView, is_live}
-use Rattle.legs.specs.Sieves.{IsSieved, leaves_none, LeavesOut, MayGo, sieved_same, sieved_self}
+use Rattle.legs.specs.Sieves.{IsSieved, LeavesOut, MayGo}
 use Rattle.legs.specs.declared.sieve.Sieve.{Sieve}
 use Rattle.legs.specs.declared.sieve.Sieve.TheVariants as sieve
 use Rattle.chains.specs.Taking.{HasTaken, IsFirstLive, IsLastLive, IsTaken, PutsSome, is_wanted}
 use Rattle.chains.specs.Links.{is_kept}
 use Rattle.chains.proofs.KeepLemmas.{drop_at}
 use Rattle.chains.proofs.LiveLemmas.{get_taken, kept_ends, kept_single, past_taken}
+use Rattle.legs.proofs.SieveLaws.{leaves_none, sieved_same, sieved_self}
 
 module _ (May : LegView → Type 0) where
   leaves_then : (a b x y : List LegView) → LeavesOut May a x → LeavesOut May b y → LeavesOut May (a ++ b) (x ++ y)

@@ -185,7 +185,7 @@ fn retrieve<S: PageStore>(
 ///
 /// A leaf of another feature, with another count of legs than its place in the chain has, whose `next` is not the
 /// chain's, or that lacks a `previous` or goes on past the first leaf, is `Malformed`, and so is a page that is named
-/// and is not there: the first one that is met from the last leaf back. `Malformed` is page 0 where a place without
+/// and is not there. What is `Malformed` is met on the way from the last leaf back. It is page 0 where a place without
 /// legs names a page. What else the cache refuses is `Cache`, and so is want of memory for the legs.
 pub fn trajectory<S: PageStore>(
     alloc: Global,

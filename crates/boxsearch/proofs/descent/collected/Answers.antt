@@ -1,17 +1,17 @@
-use Rattle.std.proofs.Common.{ℕ, ◌≡◌, ◌+◌, ◌-◌, ◌<◌, [], ◌∷◌, List, length, suc, arith, ap, subst, ◌∙◌, All, IsTrue}
-use Rattle.std.specs.Prelude.{IfErr, IfOk, OnOk}
+use Rattle.std.proofs.Common.{ℕ, ◌≡◌, ◌+◌, ◌-◌, ◌<◌, [], ◌∷◌, List, length, rules, suc, arith, ap, subst, ◌∙◌, All, IsTrue}
 use Rattle.std.specs.List.{flat_map}
+use Rattle.std.proofs.lemmas.List.Sorted.{IsNonDecreasingBy-from_sort_by_key}
 use Rattle.std.proofs.lemmas.Result.{err_from_is_err_and}
 use Rattle.legs.specs.Hull.{leg_boxes}
-use Rattle.tbtree.specs.Descent.{children_met, hits, pages_met, met_count, HasInner}
+use Rattle.tbtree.specs.Descent.{children_met, hits, legs_met, pages_met, met_count, HasInner}
 use Rattle.tbtree.specs.Faults.{IfNamed}
 use Rattle.tbtree.specs.Nodes.{pages_of_cache, HasLeaf}
 use Rattle.boxsearch.specs.Way.{meets, IsOneNot, IsOffWay}
-use Rattle.boxsearch.proofs.FoundLemmas.{if_ok, if_err, on_ok}
-use Rattle.chains.proofs.ReadLemmas.{reads_refused, reads_then, reads_trans}
+use Rattle.boxsearch.proofs.FoundLemmas.{in_order, none_met}
+use Rattle.chains.proofs.ReadLemmas.{caused_after, reads_refl, reads_trans}
 use Rattle.tbtree.proofs.FaultLemmas.{named_then}
 use Rattle.boxsearch.proofs.SameLemmas.{as_before}
-use Rattle.boxsearch.proofs.WayLemmas.{FitsTo, malformed_caused, root_alone, level_down, level_legs, counted, inner_level, level_inner, all_fit, one_off_way, many_off_way, fits_more, way_whole, malformed_is}
+use Rattle.boxsearch.proofs.WayLemmas.{FitsTo, malformed_caused, root_alone, level_down, level_legs, counted, inner_level, level_inner, all_fit, one_off_way, many_off_way, fits_more, way_none, way_whole, malformed_is}
 use Rattle.boxsearch.proofs.descent.collected.Given as given
 use Rattle.boxsearch.proofs.descent.collected.Goals.{After-deref, After-deref-in-loop-level-2}
 use Rattle.boxsearch.proofs.descent.collected.Goals as goal
@@ -75,24 +75,61 @@ loop-level-preserved g c =
       most = let spent = c.in_ok-spend-2.ensures.ok in omega (arith, c.next_level.ensures.most, inv.most, spent, one, other);
     }
 
-pub returns-in_err-spend-clause-named : goal.returns-in_err-spend-clause-named
-returns-in_err-spend-clause-named g c = λ fa.
+pub returns-then-tree-eq0 : goal.returns-then-tree-eq0
+returns-then-tree-eq0 g c =
+    let query = c.args.query.now in
+    let nodes = pages_of_cache c.args.cache.now in
+    let root = c.args.tree.now.root in
+    let levels = c.args.tree.now.levels in
+    record {
+      met = λ fa. none_met query nodes root levels c.new.result.items c.if-tree-eq0.true c.new.ensures.items;
+      way = λ fa. way_none query nodes root levels c.if-tree-eq0.true;
+      named = λ fa. tt;
+      asked = λ fa less. let none = ap (met_count (meets query) nodes root) c.if-tree-eq0.true in omega (arith, none);
+      most = omega arith;
+      reads = reads_refl c.args.cache.now;
+      caused = λ works. tt;
+    }
+
+pub returns-in_err-push : goal.returns-in_err-push
+returns-in_err-push g c = record {
+  met = λ fa. search rules;
+  way = λ fa. search rules;
+  named = λ fa. search rules;
+  asked = λ fa. search rules;
+  most = omega arith;
+  reads = reads_refl c.args.cache.now;
+  caused = λ works. search rules;
+}
+
+pub returns-in_err-spend : goal.returns-in_err-spend
+returns-in_err-spend g c =
     let p = err_from_is_err_and c.from_residual-in_err-spend.result c.from_residual-in_err-spend.ensures.1 in
+    let query = c.args.query.now in
     let nodes = pages_of_cache c.args.cache.now in
     let root = c.args.tree.now.root in
     let levels = c.args.tree.now.levels in
     let e = c.in_err-spend.ensures.err in
-    let last : 0 + suc (levels - 1) ≡ levels = omega (arith, c.requires.levels) in
-    let many : nodes.count < met_count (meets c.args.query.now) nodes root 0 + length c.deref.result.now = omega (arith, e.0, c.count.ensures.value) in
-    rw (p.1, p.2) (malformed_is (IsOffWay c.args.query.now nodes root levels) _ e.1 e.3
-    (many_off_way c.args.query.now nodes root levels 0 (levels - 1) c.count.result e.1 c.deref.result.now last (rooted g (goal.at.returns-in_err-spend-clause-named g c).After-deref) e.2 many))
+    let last : 0 + suc (levels - 1) ≡ levels = omega (arith, c.if-tree-eq0.false) in
+    let many : nodes.count < met_count (meets query) nodes root 0 + length c.deref.result.now = omega (arith, e.0, c.count.ensures.value) in
+    let off : IsOffWay query nodes root levels e.1 = many_off_way query nodes root levels 0 (levels - 1) c.count.result e.1 c.deref.result.now last (rooted g (goal.at.returns-in_err-spend g c).After-deref) e.2 many in
+    rw (p.1, p.2) (record {
+      met = λ fa. tt;
+      way = λ fa. tt;
+      named = λ fa. malformed_is (IsOffWay query nodes root levels) _ e.1 e.3 off;
+      asked = λ fa. tt;
+      most = omega arith;
+      reads = reads_refl c.args.cache.now;
+      caused = λ works. malformed_caused c.args.cache.now c.args.cache.now _ e.1 e.3;
+    })
 
-pub returns-in_err-pages-clause-named : goal.returns-in_err-pages-clause-named
-returns-in_err-pages-clause-named g c = λ fa.
+pub returns-in_err-pages : goal.returns-in_err-pages
+returns-in_err-pages g c =
     let p = err_from_is_err_and c.from_residual-in_err-pages.result c.from_residual-in_err-pages.ensures.1 in
+    let old = c.args.cache.now in
     let inv = c.loop-level.invariant in
     let query = c.args.query.now in
-    let nodes = pages_of_cache c.args.cache.now in
+    let nodes = pages_of_cache old in
     let root = c.args.tree.now.root in
     let levels = c.args.tree.now.levels in
     let n = c.loop-level.level - 1 in
@@ -100,96 +137,121 @@ returns-in_err-pages-clause-named g c = λ fa.
     let some : 0 < k = omega (arith, c.loop-level-test.true) in
     let last : n + suc k ≡ levels = omega (arith, c.loop-level-test.true) in
     let now = c.deref-in-loop-level.result.now in
-    rw (p.1, p.2) (named_then (IsOneNot (λ q. HasInner nodes q k) now) (IsOffWay query nodes root levels)
-    (λ q h. one_off_way query nodes root levels (λ q. HasInner nodes q k) n k q now last (c.deref-in-loop-level.ensures.value ∙ inv.found fa) (λ q. level_inner query nodes root levels k q some) h) _
-    (as_before c.args.cache.now c.loop-level.cache inv.reads (λ nodes. IfNamed (IsOneNot (λ q. HasInner nodes q k) now) c.in_err-pages.field-0.0) c.in_err-pages.ensures.named fa))
+    let many : length now ≡ length c.loop-level.pages.items = ap (λ (l : List ℕ). length l) c.deref-in-loop-level.ensures.value in
+    rw (p.1, p.2) (record {
+      met = λ fa. tt;
+      way = λ fa. tt;
+      named = λ fa.
+          named_then (IsOneNot (λ q. HasInner nodes q k) now) (IsOffWay query nodes root levels)
+          (λ q h. one_off_way query nodes root levels (λ q. HasInner nodes q k) n k q now last (c.deref-in-loop-level.ensures.value ∙ inv.found fa) (λ q. level_inner query nodes root levels k q some) h) _
+          (as_before old c.loop-level.cache inv.reads (λ nodes. IfNamed (IsOneNot (λ q. HasInner nodes q k) now) c.in_err-pages.field-0.0) c.in_err-pages.ensures.named fa);
+      asked = λ fa. tt;
+      most = omega (arith, c.next_level.ensures.most, inv.most, many);
+      reads = reads_trans old c.loop-level.cache c.next_level.new.cache inv.reads c.in_err-pages.ensures.reads.only;
+      caused = λ works. caused_after old c.loop-level.cache c.next_level.new.cache c.in_err-pages.field-0.0 inv.reads c.in_err-pages.ensures.reads.caused;
+    })
 
-pub returns-in_err-spend-2-clause-named : goal.returns-in_err-spend-2-clause-named
-returns-in_err-spend-2-clause-named g c = λ fa.
+pub returns-in_err-spend-2 : goal.returns-in_err-spend-2
+returns-in_err-spend-2 g c =
     let p = err_from_is_err_and c.from_residual-in_err-spend-2.result c.from_residual-in_err-spend-2.ensures.1 in
-    let before = (goal.at.returns-in_err-spend-2-clause-named g c).After-deref-in-loop-level-2 in
-    let nodes = pages_of_cache c.args.cache.now in
+    let before = (goal.at.returns-in_err-spend-2 g c).After-deref-in-loop-level-2 in
+    let old = c.args.cache.now in
+    let inv = c.loop-level.invariant in
     let query = c.args.query.now in
+    let nodes = pages_of_cache old in
+    let root = c.args.tree.now.root in
+    let levels = c.args.tree.now.levels in
     let level = c.loop-level.level in
     let e = c.in_err-spend-2.ensures.err in
-    let so_far = c.loop-level.invariant.left fa in
-    let k = c.args.tree.now.levels - level - 1 in
-    let last : level + suc k ≡ c.args.tree.now.levels = omega (arith, c.loop-level-test.true) in
-    let many : nodes.count < met_count (meets query) nodes c.args.tree.now.root level + length c.deref-in-loop-level-2.result.now = omega (arith, so_far, e.0) in
-    rw (p.1, p.2) (malformed_is (IsOffWay query nodes c.args.tree.now.root c.args.tree.now.levels) _ e.1 e.3
-    (many_off_way query nodes c.args.tree.now.root c.args.tree.now.levels level k c.loop-level.left e.1 c.deref-in-loop-level-2.result.now last (c.deref-in-loop-level-2.ensures.value ∙ next_met g before fa) e.2 many))
+    let k = levels - level - 1 in
+    let last : level + suc k ≡ levels = omega (arith, c.loop-level-test.true) in
+    let below = c.deref-in-loop-level-2.result.now in
+    let many : length c.deref-in-loop-level.result.now ≡ length c.loop-level.pages.items = ap (λ (l : List ℕ). length l) c.deref-in-loop-level.ensures.value in
+    rw (p.1, p.2) (record {
+      met = λ fa. tt;
+      way = λ fa. tt;
+      named = λ fa.
+          let so_far = inv.left fa in
+          malformed_is (IsOffWay query nodes root levels) _ e.1 e.3
+          (many_off_way query nodes root levels level k c.loop-level.left e.1 below last (c.deref-in-loop-level-2.ensures.value ∙ next_met g before fa) e.2 (omega (arith, so_far, e.0)));
+      asked = λ fa. tt;
+      most = omega (arith, c.next_level.ensures.most, inv.most, many);
+      reads = reads_trans old c.loop-level.cache c.next_level.new.cache inv.reads c.next_level.ensures.reads.only;
+      caused = λ works. malformed_caused old c.next_level.new.cache _ e.1 e.3;
+    })
 
-pub returns-clause-found : goal.returns-clause-found
-returns-clause-found g c = λ fa.
-    let old = c.args.cache.now in
-    let inv = c.loop-level.invariant in
-    let query = c.args.query.now in
-    let levels = c.args.tree.now.levels in
-    let now = c.deref-2.result.now in
-    let last : levels ≡ suc (c.loop-level.level - 1) = omega (arith, c.loop-level-test.false, c.requires.levels) in
-    if_ok c.legs_in.result _ _
-    (λ found h. level_legs query (pages_of_cache old) c.args.tree.now.root levels (c.loop-level.level - 1) now found.items last (c.deref-2.ensures.value ∙ inv.found fa) h)
-    (as_before old c.loop-level.cache inv.reads (λ nodes. IfOk c.legs_in.result (λ found. found.items ≡ flat_map (hits leg_boxes (meets query) nodes) now)) c.legs_in.ensures.found fa)
-
-pub returns-clause-way : goal.returns-clause-way
-returns-clause-way g c = λ fa.
-    let old = c.args.cache.now in
-    let inv = c.loop-level.invariant in
-    let query = c.args.query.now in
-    let nodes = pages_of_cache old in
-    let root = c.args.tree.now.root in
-    let levels = c.args.tree.now.levels in
-    let now = c.deref-2.result.now in
-    let n = c.loop-level.level - 1 in
-    let last : levels ≡ suc n = omega (arith, c.loop-level-test.false, c.requires.levels) in
-    let deep : n + 1 ≡ levels = omega (arith, last) in
-    let here : c.loop-level.level ≡ levels = omega (arith, c.loop-level-test.false, c.requires.levels) in
-    on_ok c.legs_in.result
-    (λ all.
-    let leaves = all_fit query nodes root levels (λ p. HasLeaf nodes p) n 0 now (λ p h. h) (c.deref-2.ensures.value ∙ inv.found fa) all in
-    way_whole query nodes root levels c.loop-level.left c.loop-level.level here (fits_more query nodes root levels n 0 levels deep last leaves (inv.way fa)) (inv.left fa))
-    (as_before old c.loop-level.cache inv.reads (λ nodes. OnOk c.legs_in.result (All (λ p. HasLeaf nodes p) now)) c.legs_in.ensures.way fa)
-
-pub returns-clause-named : goal.returns-clause-named
-returns-clause-named g c = λ fa.
+pub returns-in_err-found : goal.returns-in_err-found
+returns-in_err-found g c =
+    let p = err_from_is_err_and c.from_residual-in_err-found.result c.from_residual-in_err-found.ensures.1 in
     let old = c.args.cache.now in
     let inv = c.loop-level.invariant in
     let query = c.args.query.now in
     let nodes = pages_of_cache old in
     let root = c.args.tree.now.root in
     let levels = c.args.tree.now.levels in
+    let n = c.loop-level.level - 1 in
     let now = c.deref-2.result.now in
-    let n = c.loop-level.level - 1 in
-    let last : n + 1 ≡ levels = omega (arith, c.loop-level-test.false, c.requires.levels) in
-    if_err c.legs_in.result _ _
-    (λ fault h. named_then (IsOneNot (λ q. HasLeaf nodes q) now) (IsOffWay query nodes root levels)
-    (λ q k. one_off_way query nodes root levels (λ q. HasLeaf nodes q) n 0 q now last (c.deref-2.ensures.value ∙ inv.found fa) (λ q h. h) k) fault h)
-    (as_before old c.loop-level.cache inv.reads (λ nodes. IfErr c.legs_in.result (IfNamed (IsOneNot (λ q. HasLeaf nodes q) now))) c.legs_in.ensures.named fa)
+    let last : n + 1 ≡ levels = omega (arith, c.loop-level-test.false, c.if-tree-eq0.false) in
+    let many : length now ≡ length c.loop-level.pages.items = ap (λ (l : List ℕ). length l) c.deref-2.ensures.value in
+    rw (p.1, p.2) (record {
+      met = λ fa. tt;
+      way = λ fa. tt;
+      named = λ fa.
+          named_then (IsOneNot (λ q. HasLeaf nodes q) now) (IsOffWay query nodes root levels)
+          (λ q h. one_off_way query nodes root levels (λ q. HasLeaf nodes q) n 0 q now last (c.deref-2.ensures.value ∙ inv.found fa) (λ q h. h) h) _
+          (as_before old c.loop-level.cache inv.reads (λ nodes. IfNamed (IsOneNot (λ q. HasLeaf nodes q) now) c.in_err-found.field-0.0) c.in_err-found.ensures.named fa);
+      asked = λ fa. tt;
+      most = omega (arith, c.legs_in.ensures.most, inv.most, many);
+      reads = reads_trans old c.loop-level.cache c.legs_in.new.cache inv.reads c.in_err-found.ensures.reads.only;
+      caused = λ works. caused_after old c.loop-level.cache c.legs_in.new.cache c.in_err-found.field-0.0 inv.reads c.in_err-found.ensures.reads.caused;
+    })
 
-pub returns-clause-asked : goal.returns-clause-asked
-returns-clause-asked g c = λ fa.
+pub returns-in_err-sort_by_key : goal.returns-in_err-sort_by_key
+returns-in_err-sort_by_key g c =
     let inv = c.loop-level.invariant in
-    let n = c.loop-level.level - 1 in
-    let last : c.args.tree.now.levels ≡ suc n = omega (arith, c.loop-level-test.false, c.requires.levels) in
-    let all = counted c.args.query.now (pages_of_cache c.args.cache.now) c.args.tree.now.root c.args.tree.now.levels n c.args.tree.now.levels c.deref-2.result.now last (c.deref-2.ensures.value ∙ inv.found fa) in
-    on_ok c.legs_in.result
-    (λ more less. let rise = more less in let so_far = inv.asked fa (omega (arith, rise, less)) in omega (arith, rise, so_far, all))
-    c.legs_in.ensures.asked
-
-pub returns-in_err-pages-clause-reads : goal.returns-in_err-pages-clause-reads
-returns-in_err-pages-clause-reads g c =
-    let p = err_from_is_err_and c.from_residual-in_err-pages.result c.from_residual-in_err-pages.ensures.1 in
-    rw (p.1, p.2) (reads_refused c.args.cache.now c.loop-level.cache c.next_level.new.cache c.in_err-pages.field-0.0 c.loop-level.invariant.reads c.in_err-pages.ensures.reads)
-
-pub returns-in_err-spend-2-clause-reads : goal.returns-in_err-spend-2-clause-reads
-returns-in_err-spend-2-clause-reads g c =
-    let p = err_from_is_err_and c.from_residual-in_err-spend-2.result c.from_residual-in_err-spend-2.ensures.1 in
-    let e = c.in_err-spend-2.ensures.err in
+    let many : length c.deref-2.result.now ≡ length c.loop-level.pages.items = ap (λ (l : List ℕ). length l) c.deref-2.ensures.value in
     record {
-      only = reads_trans c.args.cache.now c.loop-level.cache c.next_level.new.cache c.loop-level.invariant.reads c.next_level.ensures.reads.only;
-      caused = rw (p.1, p.2) (malformed_caused c.args.cache.now c.next_level.new.cache c.in_err-spend-2.field-0.0 e.1 e.3);
+      met = λ fa. search rules;
+      way = λ fa. search rules;
+      named = λ fa. search rules;
+      asked = λ fa. search rules;
+      most = omega (arith, c.legs_in.ensures.most, inv.most, many);
+      reads = reads_trans c.args.cache.now c.loop-level.cache c.legs_in.new.cache inv.reads c.in_ok-found.ensures.reads.only;
+      caused = λ works. search rules;
     }
 
-pub returns-clause-reads : goal.returns-clause-reads
-returns-clause-reads g c =
-    reads_then c.args.cache.now c.loop-level.cache c.legs_in.new.cache c.legs_in.result c.loop-level.invariant.reads c.legs_in.ensures.reads
+pub returns : goal.returns
+returns g c =
+    let old = c.args.cache.now in
+    let inv = c.loop-level.invariant in
+    let query = c.args.query.now in
+    let nodes = pages_of_cache old in
+    let root = c.args.tree.now.root in
+    let levels = c.args.tree.now.levels in
+    let now = c.deref-2.result.now in
+    let n = c.loop-level.level - 1 in
+    let last : levels ≡ suc n = omega (arith, c.loop-level-test.false, c.if-tree-eq0.false) in
+    let deep : n + 1 ≡ levels = omega (arith, last) in
+    let here : c.loop-level.level ≡ levels = omega (arith, c.loop-level-test.false, c.if-tree-eq0.false) in
+    let many : length now ≡ length c.loop-level.pages.items = ap (λ (l : List ℕ). length l) c.deref-2.ensures.value in
+    let found = c.in_ok-found.found.items in
+    record {
+      met = λ fa.
+          in_order (legs_met leg_boxes (meets query) nodes root levels) found c.sort_by_key.new.self.items
+          (level_legs query nodes root levels n now found last (c.deref-2.ensures.value ∙ inv.found fa)
+          (as_before old c.loop-level.cache inv.reads (λ nodes. found ≡ flat_map (hits leg_boxes (meets query) nodes) now) c.in_ok-found.ensures.found fa))
+          c.in_ok-sort_by_key.ensures.permutation (IsNonDecreasingBy-from_sort_by_key (λ l. l.ordinal) _ c.in_ok-sort_by_key.ensures.sorted (λ a r q k. search rules));
+      way = λ fa.
+          let all = as_before old c.loop-level.cache inv.reads (λ nodes. All (λ p. HasLeaf nodes p) now) c.in_ok-found.ensures.way fa in
+          let leaves = all_fit query nodes root levels (λ p. HasLeaf nodes p) n 0 now (λ p h. h) (c.deref-2.ensures.value ∙ inv.found fa) all in
+          way_whole query nodes root levels c.loop-level.left c.loop-level.level here (fits_more query nodes root levels n 0 levels deep last leaves (inv.way fa)) (inv.left fa);
+      named = λ fa. tt;
+      asked = λ fa less.
+          let rise = c.in_ok-found.ensures.asked less in
+          let so_far = inv.asked fa (omega (arith, rise, less)) in
+          let all = counted query nodes root levels n levels now last (c.deref-2.ensures.value ∙ inv.found fa) in
+          omega (arith, rise, so_far, all);
+      most = omega (arith, c.legs_in.ensures.most, inv.most, many);
+      reads = reads_trans old c.loop-level.cache c.legs_in.new.cache inv.reads c.in_ok-found.ensures.reads.only;
+      caused = λ works. tt;
+    }

@@ -1,17 +1,13 @@
-use Rattle.std.proofs.Common.{ℕ, List, rules, arith, ◌∙◌}
-use Rattle.std.proofs.lemmas.List.Sorted.{IsNonDecreasingBy-from_sort_by_key}
-use Rattle.std.proofs.lemmas.Result.{err_from_is_err_and}
-use Rattle.legs.specs.Hull.{leg_boxes}
+use Rattle.std.proofs.Common.{ℕ, ◌∙◌, sym, arith, List}
+use Rattle.std.proofs.lemmas.Bool.{true≢false}
 use Rattle.legs.specs.Legs.{LegView}
-use Rattle.tbtree.specs.Descent.{legs_met, Descends}
 use Rattle.tbtree.specs.Insert.{Stands}
 use Rattle.tbtree.specs.Nodes.{pages_of_cache}
-use Rattle.tbtree.proofs.LawLemmas.{descends}
-use Rattle.chains.proofs.ReadLemmas.{allowed_by}
-use Rattle.boxsearch.specs.Way.{meets, IsOffWay}
-use Rattle.boxsearch.proofs.FoundLemmas.{way_of, none_found, none_asked, in_order, cost_is}
+use Rattle.tbtree.proofs.LawLemmas.{Descends, descends}
+use Rattle.chains.proofs.ReadLemmas.{reads_refl}
+use Rattle.boxsearch.specs.Way.{meets}
+use Rattle.boxsearch.proofs.FoundLemmas.{search_asks, search_gives}
 use Rattle.boxsearch.proofs.PruningLemmas.{pruning}
-use Rattle.boxsearch.proofs.WayLemmas.{way_none, way_off}
 use Rattle.boxsearch.proofs.descent.search.Given as given
 use Rattle.boxsearch.proofs.descent.search.Goals.{After-leaf}
 use Rattle.boxsearch.proofs.descent.search.Goals as goal
@@ -20,46 +16,24 @@ use Rattle.boxsearch.proofs.descent.search.Goals as goal
 descends_to : (g : given.Over) (c : After-leaf g) (legs : List LegView) (pages : ℕ → List ℕ) → Stands (pages_of_cache c.args.cache.now) c.args.tree.now legs pages → Descends (meets c.args.query.now) (pages_of_cache c.args.cache.now) c.args.tree.now legs
 descends_to g c legs pages s = descends (meets c.args.query.now) (pruning c.args.query.now) (pages_of_cache c.args.cache.now) c.args.tree.now legs pages c.leaf.ensures.range s
 
-pub returns-then-tree-eq0-clause-found : goal.returns-then-tree-eq0-clause-found
-returns-then-tree-eq0-clause-found g c = λ ns fa legs pages s.
-    c.new.ensures.items ∙ none_found c.args.query.now (pages_of_cache c.args.cache.now) c.args.tree.now legs (descends_to g (goal.at.returns-then-tree-eq0-clause-found g c).After-leaf legs pages s) c.if-tree-eq0.true
-
-pub returns-then-tree-eq0-clause-asked : goal.returns-then-tree-eq0-clause-asked
-returns-then-tree-eq0-clause-asked g c = λ fa legs pages s less.
-    let none = none_asked c.args.query.now (pages_of_cache c.args.cache.now) c.args.tree.now legs (descends_to g (goal.at.returns-then-tree-eq0-clause-asked g c).After-leaf legs pages s) c.if-tree-eq0.true in
-    omega (arith, none)
-
-pub returns-then-tree-eq0-clause-way : goal.returns-then-tree-eq0-clause-way
-returns-then-tree-eq0-clause-way g c = λ fa.
-    way_none c.args.query.now (pages_of_cache c.args.cache.now) c.args.tree.now.root c.args.tree.now.levels c.if-tree-eq0.true
-
-pub returns-in_err-found-clause-found : goal.returns-in_err-found-clause-found
-returns-in_err-found-clause-found g c = λ ns fa legs pages s.
-    let p = err_from_is_err_and c.from_residual.result c.from_residual.ensures.1 in
-    let query = c.args.query.now in
-    let nodes = pages_of_cache c.args.cache.now in
-    let tree = c.args.tree.now in
-    rw (p.1, p.2) (allowed_by c.args.cache.now c.collected.new.cache (IsOffWay query nodes tree.root tree.levels) _
-    (way_off query nodes tree.root tree.levels (way_of query nodes tree legs (descends_to g (goal.at.returns-in_err-found-clause-found g c).After-leaf legs pages s)))
-    c.in_err-found.ensures.reads.caused (c.in_err-found.ensures.named fa))
-
-pub returns-clause-met : goal.returns-clause-met
-returns-clause-met g c = λ fa.
-    in_order (legs_met leg_boxes (meets c.args.query.now) (pages_of_cache c.args.cache.now) c.args.tree.now.root c.args.tree.now.levels)
-    c.in_ok-found.found.items c.sort_by_key.new.self.items
-    (c.in_ok-found.ensures.found fa) c.in_ok-sort_by_key.ensures.permutation
-    (IsNonDecreasingBy-from_sort_by_key (λ l. l.ordinal) _ c.in_ok-sort_by_key.ensures.sorted (λ a r q k. search rules))
-
 pub returns-clause-found : goal.returns-clause-found
 returns-clause-found g c = λ ns fa legs pages s.
-    (descends_to g (goal.at.returns-clause-found g c).After-leaf legs pages s).found c.sort_by_key.new.self.items
-    (in_order (legs_met leg_boxes (meets c.args.query.now) (pages_of_cache c.args.cache.now) c.args.tree.now.root c.args.tree.now.levels) c.in_ok-found.found.items c.sort_by_key.new.self.items
-    (c.in_ok-found.ensures.found fa) c.in_ok-sort_by_key.ensures.permutation
-    (IsNonDecreasingBy-from_sort_by_key (λ l. l.ordinal) _ c.in_ok-sort_by_key.ensures.sorted (λ a r q k. search rules)))
+    search_gives c.args.query.now c.args.tree.now c.args.cache.now c.collected.new.cache (λ found. found.items) legs (descends_to g (goal.at.returns-clause-found g c).After-leaf legs pages s) c.collected.result c.collected.ensures ns fa
 
 pub returns-clause-asked : goal.returns-clause-asked
-returns-clause-asked g c = λ fa legs pages s less.
-    let down = descends_to g (goal.at.returns-clause-asked g c).After-leaf legs pages s in
-    let all = cost_is c.args.query.now c.args.tree.now.shape legs in
-    let rise = c.in_ok-found.ensures.asked fa less in
-    omega (arith, rise, all, down.asked)
+returns-clause-asked g c = λ fa legs pages s.
+    search_asks c.args.query.now c.args.tree.now c.args.cache.now c.collected.new.cache (λ found. found.items) legs (descends_to g (goal.at.returns-clause-asked g c).After-leaf legs pages s) c.collected.result c.collected.ensures fa
+
+pub returns-clause-spent : goal.returns-clause-spent
+returns-clause-spent g c = λ spent. absurd (true≢false (sym spent ∙ c.if-tree.false))
+
+pub returns-then-tree-clause-searches : goal.returns-then-tree-clause-searches
+returns-then-tree-clause-searches g c = record {
+  met = λ fa. tt;
+  way = λ fa. tt;
+  named = λ fa. tt;
+  asked = λ fa. tt;
+  most = omega arith;
+  reads = reads_refl c.args.cache.now;
+  caused = λ works. absurd (true≢false (sym c.if-tree.true ∙ works));
+}

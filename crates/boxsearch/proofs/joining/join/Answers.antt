@@ -1,4 +1,4 @@
-use Rattle.std.proofs.Common.{◌≡◌, ap, subst, sym, ◌∙◌}
+use Rattle.std.proofs.Common.{◌≡◌, ap, refl, subst, sym, ◌∙◌}
 use Rattle.boxsearch.specs.Index.{IndexView}
 use Rattle.boxsearch.specs.Putting.{PutsAll}
 use Rattle.boxsearch.specs.Taking.{Taking}
@@ -12,13 +12,13 @@ use Rattle.boxsearch.proofs.joining.join.Goals as goal
 has_put : (g : given.Over) (c : goal.After-answer g) → PutsAll (made c.args.index.now c.args.feature) c.put_all.new.self c.args.feature c.args.legs.now c.put_all.result
 has_put g c = subst (λ m. PutsAll m c.put_all.new.self c.args.feature c.args.legs.now c.put_all.result) (from_ok c.make_place.result (sym c.is_err.ensures.value ∙ c.if-is_err.false) c.make_place.ensures.ok) c.put_all.ensures
 
-pub returns-clause-taking : goal.returns-clause-taking
-returns-clause-taking g c =
+pub returns : goal.returns
+returns g c =
     subst (λ r. Taking c.args.index.now c.put_all.new.self c.args.legs.now r) (sym c.answer.ensures)
     (joined c.args.index.now c.put_all.new.self c.args.feature c.args.legs.now c.requires.some c.requires.one c.put_all.result (has_put g c) c.requires.works)
 
-pub returns-then-not-has_place-clause-taking : goal.returns-then-not-has_place-clause-taking
-returns-then-not-has_place-clause-taking g c =
-    let old = c.args.index.now in
-    let mid : c.make_place.new.self ≡ made old c.args.feature = from_ok c.make_place.result (sym c.is_err.ensures.value ∙ c.if-is_err.false) c.make_place.ensures.ok in
-    taking_none old c.make_place.new.self c.spend-then-not-has_place.new.self c.args.legs.now c.spend-then-not-has_place.ensures (ap (λ (i : IndexView). i.cache) mid)
+pub returns-then-feature-len : goal.returns-then-feature-len
+returns-then-feature-len g c =
+    let made_is : c.make_place.new.self ≡ made c.args.index.now c.args.feature = from_ok c.make_place.result (sym c.is_err.ensures.value ∙ c.if-is_err.false) c.make_place.ensures.ok in
+    let is = c.index.view_is ∙ made_is in
+    taking_none c.args.index.now _ c.args.legs.now refl (ap (λ (i : IndexView). i.cache) is) (ap (λ (i : IndexView). i.tree.shape) is)

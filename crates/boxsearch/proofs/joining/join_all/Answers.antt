@@ -1,13 +1,13 @@
 use Rattle.std.proofs.lemmas.List.{length-drop}
-use Rattle.std.proofs.Common.{sym, ap, ◌≡◌, ◌+◌, drop, length, arith, refl, subst, ◌∙◌}
+use Rattle.std.proofs.Common.{sym, ap, ◌≡◌, ◌+◌, drop, length, arith, subst, ◌∙◌}
 use Rattle.std.specs.Prelude.{Ok, Err}
 use Rattle.std.proofs.lemmas.Result.{err_from_is_err_and}
 use Rattle.boxsearch.specs.Taking.{Taking, taken}
-use Rattle.boxsearch.proofs.TakingTurns.{IsTaking, taking_more, taking_refused, taking_start, taken_run}
+use Rattle.boxsearch.proofs.TakingTurns.{IsTaking, run_fits, taking_more, taking_refused, taking_start, taken_run}
 use Rattle.boxsearch.proofs.joining.join_all.Goals as goal
 
-pub returns-in_err-join-clause-taking : goal.returns-in_err-join-clause-taking
-returns-in_err-join-clause-taking g c =
+pub returns-in_err-join : goal.returns-in_err-join
+returns-in_err-join g c =
     let old = c.args.index.now in
     let legs = c.args.legs.now in
     let turns = c.args.turns.now in
@@ -15,7 +15,7 @@ returns-in_err-join-clause-taking g c =
     let run = c.next_run.new.run.items in
     let left = taken_run legs run turns k c.in-Ok.ensures.run in
     let so_far = subst (λ ls. IsTaking old c.runs.index (taken legs turns) ls) left c.runs.invariant.taking in
-    let more = subst (λ ls. Taking c.runs.index c.join.new.index ls (Err c.in_err-join.field-0.0)) c.as_slice.ensures.value c.in_err-join.ensures.taking in
+    let more = subst (λ ls. Taking c.runs.index c.join.new.index ls (Err c.in_err-join.field-0.0)) c.as_slice.ensures.value c.in_err-join.ensures in
     let p = err_from_is_err_and c.from_residual.result c.from_residual.ensures.1 in
     rw (p.1, p.2) (taking_refused old c.runs.index c.join.new.index (taken legs turns) (taken legs (drop (k + length run) turns)) run _ so_far more)
 
@@ -23,7 +23,6 @@ pub runs-init : goal.runs-init
 runs-init g c = record {
   within = omega arith;
   taking = taking_start c.args.index.now (taken c.args.legs.now c.args.turns.now) c.requires.works;
-  later = record { plan = refl; faults = omega arith; asked = omega arith; faithful = λ fa. fa };
 }
 
 pub runs-preserved : goal.runs-preserved
@@ -36,11 +35,9 @@ runs-preserved g c =
     let many : c.len-from.result ≡ length run = c.len-from.ensures ∙ sym c.as_slice.ensures.len ∙ ap length c.as_slice.ensures.value in
     let left = taken_run legs run turns k c.in-Ok.ensures.run in
     let so_far = subst (λ ls. IsTaking old c.runs.index (taken legs turns) ls) left c.runs.invariant.taking in
-    let later = c.runs.invariant.later in
-    let more = c.in_ok-join.ensures.later in
-    let all = taking_more old c.runs.index c.join.new.index (taken legs turns) (taken legs (drop (k + length run) turns)) run so_far (subst (λ ls. Taking c.runs.index c.join.new.index ls (Ok tt)) c.as_slice.ensures.value c.in_ok-join.ensures.taking) more in
+    let most = run_fits legs run _ c.in-Ok.ensures.run in
+    let all = taking_more old c.runs.index c.join.new.index (taken legs turns) (taken legs (drop (k + length run) turns)) run so_far (subst (λ ls. Taking c.runs.index c.join.new.index ls (Ok tt)) c.as_slice.ensures.value c.in_ok-join.ensures) in
     record {
-      within = (let most = c.in-Ok.ensures.most in let d = length-drop k turns in omega (arith, many, most, d, c.runs.invariant.within));
+      within = (let d = length-drop k turns in omega (arith, many, most, d, c.runs.invariant.within));
       taking = subst (λ n. IsTaking old c.join.new.index (taken legs turns) (taken legs (drop (k + n) turns))) (sym many) all;
-      later = record { plan = more.plan ∙ later.plan; faults = let x = later.faults in let y = more.faults in omega (arith, x, y); asked = let x = later.asked in let y = more.asked in omega (arith, x, y); faithful = λ fa. more.faithful (later.faithful fa) };
     }

@@ -1,6 +1,4 @@
 use Rattle.std.proofs.Common.{◌≤◌, ◌-◌, drop, length}
-use Rattle.legs.specs.Asking.{IsLater}
-use Rattle.boxsearch.specs.Index.{words}
 use Rattle.boxsearch.specs.Taking.{taken}
 use Rattle.boxsearch.proofs.TakingTurns.{IsTaking}
 use Rattle.boxsearch.proofs.joining.join_all.Given as goal
@@ -13,5 +11,4 @@ abbrev pub invariant-runs : goal.invariant-runs
 invariant-runs g l = record {
   within : l.from ≤ length l.turns;
   taking : IsTaking l.fn.index l.index (taken l.legs l.turns) (taken l.legs (drop l.from l.turns));
-  later : IsLater words l.fn.index l.index;
 }

@@ -2,7 +2,6 @@ use Rattle.std.proofs.Common.{ap, map, ◌∙◌, ◌≡◌, ◌++◌, ◌∷◌
 use Rattle.std.proofs.lemmas.List.{map-append}
 use Rattle.chains.specs.declared.spans.LeafSpan.{LeafSpan}
 use Rattle.boxsearch.proofs.KnownLemmas.{widens_more}
-use Rattle.boxsearch.proofs.KnowsLemmas.{holds_more}
 use Rattle.boxsearch.proofs.known.make_room.Goals as goal
 
 pub room-preserved : goal.room-preserved
@@ -11,7 +10,4 @@ room-preserved c =
     let mid = map (λ spans. spans.items) c.room.known.items in
     let new = map (λ spans. spans.items) c.push.new.self.items in
     let more : new ≡ mid ++ [] ∷ [] = ap (map (λ spans. spans.items)) c.in_ok-push.ensures.items ∙ map-append (λ spans. spans.items) c.room.known.items (c.new.result ∷ []) ∙ ap (λ (l : List LeafSpan). mid ++ (l ∷ [])) c.new.ensures.items in
-    record {
-      widens = widens_more old mid new c.room.invariant.widens more;
-      holds = holds_more old mid new c.room.invariant.holds more;
-    }
+    widens_more old mid new c.room.invariant more

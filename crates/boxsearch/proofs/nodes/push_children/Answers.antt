@@ -30,7 +30,7 @@ returns g c = record {
   pushed = λ fa.
       pushed_there c.push_inner.result c.args.found.now.items c.push_inner.new.found.items (children_there c.args.cache.now c.args.page c.in-Ok.payload.now (meets c.args.query.now) c.if-page-eq0.false (c.in-Ok.ensures.value fa)) c.push_inner.ensures.pushed;
   way = search rules;
-  named = λ fa. IfErr-weaker c.push_inner.result _ _ (λ fault h. node_named _ _ c.args.page fault (λ unfit. (refl, λ h. unfit h.page (node_is c.args.cache.now c.args.page c.in-Ok.payload.now _ (c.in-Ok.ensures.value fa) h.is) h.level_is)) h) c.push_inner.ensures.refused;
+  named = λ fa. IfErr-weaker c.push_inner.result _ _ (λ fault h. node_named _ _ c.args.page fault (λ unfit. (refl, λ h. unfit (h.page, node_is c.args.cache.now c.args.page c.in-Ok.payload.now _ (c.in-Ok.ensures.value fa) h.is, h.level_is))) h) c.push_inner.ensures.refused;
   reads = record {
     only = search rules;
     caused = IfErr-weaker c.push_inner.result _ _ (λ fault h. node_caused c.args.cache.now c.page_ahead.follows.lender-at-none _ c.args.page fault h) c.push_inner.ensures.refused;

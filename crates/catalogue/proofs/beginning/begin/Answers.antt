@@ -1,10 +1,10 @@
-use Rattle.std.proofs.Common.{◌≡◌, ◌<◌, [], ap, sym, subst, ◌∙◌, IsTrue}
+use Rattle.std.proofs.Common.{◌≡◌, ◌<◌, ap, sym, subst, ◌∙◌, IsTrue}
 use Rattle.pages.specs.Sealed.{sealed}
 use Rattle.pages.specs.Store.{Writes}
 use Rattle.pagecache.specs.Cache.{Cache, IsWritten, fresh}
 use Rattle.tbtree.specs.Nodes.{pages_of_cache}
 use Rattle.chains.specs.Chains.{AreHeld}
-use Rattle.boxsearch.specs.Index.{content, new_index, IsSoundIndex}
+use Rattle.boxsearch.specs.Index.{new_index, IsSoundIndex}
 use Rattle.pagecache.specs.declared.fault.CacheFault.{CacheFault}
 use Rattle.header.specs.Fields.{header_payload}
 use Rattle.catalogue.specs.Beginning.{IsBegun, NotBegun}
@@ -23,7 +23,6 @@ returns-in-Ok-new-clause-begun g c =
     let written : IsWritten (fresh s c.args.cache_pages) = subst (λ v. IsWritten v) is c.in-Ok-new.ensures.written in
     subst (λ i. IsBegun shape limits c.args.cache_pages a i) (sym (of.value ∙ ap (λ k. new_index k shape) is))
     (begun shape limits a s c.args.cache_pages (g.met.S.PageStore.lawful c.args.store) c.requires.empty w written c.in-Ok.ensures.synced
-    (subst (λ i. content i ≡ []) (of.value ∙ ap (λ k. new_index k shape) is) of.empty)
     (subst (λ (k : Cache). IsTrue k.store.is_faithful → 0 < k.count → AreHeld (pages_of_cache k) → k.count ≡ k.store.count → IsSoundIndex (new_index k shape)) is
     (subst (λ i. IsTrue c.in-Ok-new.cache.store.is_faithful → 0 < c.in-Ok-new.cache.count → AreHeld (pages_of_cache c.in-Ok-new.cache) → c.in-Ok-new.cache.count ≡ c.in-Ok-new.cache.store.count → IsSoundIndex i) of.value of.sound)))
 

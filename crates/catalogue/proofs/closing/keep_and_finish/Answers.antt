@@ -1,6 +1,6 @@
 use Rattle.std.proofs.Common.{◌≡◌, ◌∙◌, ap, sym, subst, Err, Some}
 use Rattle.legs.specs.declared.head.BookHead.{BookHead}
-use Rattle.boxsearch.specs.Beside.{IsBeside}
+use Rattle.boxsearch.proofs.StartLemmas.{IsBeside}
 use Rattle.boxsearch.specs.Index.{IndexView}
 use Rattle.register.specs.Saved.{CatalogueView}
 use Rattle.register.specs.declared.fault.CatalogueFault.{CatalogueFault}

@@ -1,8 +1,8 @@
 use Rattle.std.proofs.Common.{◌≡◌, ◌<◌, ◌∙◌, [], ap, sym, subst, IsTrue}
 use Rattle.pagecache.specs.Cache.{Cache}
-use Rattle.boxsearch.specs.Beside.{with_cache, IsBeside}
+use Rattle.boxsearch.specs.Beside.{with_cache}
 use Rattle.boxsearch.specs.Index.{content, IndexView, IsSoundIndex}
-use Rattle.boxsearch.proofs.StartLemmas.{beside_content, beside_sound}
+use Rattle.boxsearch.proofs.StartLemmas.{beside_content, beside_sound, IsBeside}
 use Rattle.register.specs.Saved.{KeepsFront}
 use Rattle.catalogue.proofs.LentLemmas.{lent}
 use Rattle.catalogue.proofs.ResultLemmas.{on_ok}

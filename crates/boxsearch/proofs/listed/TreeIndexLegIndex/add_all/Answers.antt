@@ -6,6 +6,7 @@ use Rattle.legs.specs.Legs.{LegView}
 use Rattle.legs.specs.declared.index.IndexFault.{IndexFault}
 use Rattle.legs.specs.declared.index.IndexFault.TheVariants as index
 use Rattle.boxsearch.specs.Index.{IndexView, content, words}
+use Rattle.boxsearch.specs.Taking.{taken}
 use Rattle.boxsearch.specs.Turns.{IsTurnFault}
 use Rattle.boxsearch.specs.declared.turns.Turn.{Turn}
 use Rattle.boxsearch.proofs.AllLemmas.{all_added, all_refusals}
@@ -14,25 +15,30 @@ use Rattle.boxsearch.proofs.TurnOrder.{AreTurns, AreNumbered, are_numbered, are_
 use Rattle.boxsearch.proofs.listed.TreeIndexLegIndex.add_all.Given as given
 use Rattle.boxsearch.proofs.listed.TreeIndexLegIndex.add_all.Goals as goal
 
+-- legs that skip no feature are not told their turns for want of memory alone
+turn_allowed : (skips : Type 0) (fault : IndexFault) → IsTurnFault skips fault → (skips → ⊥) → MayRefuseLeg fault
+turn_allowed skips index.Memory h none = tt
+turn_allowed skips index.Store h none = absurd h
+turn_allowed skips (index.Damaged n) h none = absurd h
+turn_allowed skips index.StoreFull h none = absurd h
+turn_allowed skips index.Spent h none = absurd (none h)
+
 -- turns that are not told spend the index
-no_turns : (old new : IndexView) (legs : List LegView) (fault : IndexFault) → old.tree.spent ≡ false → new.tree.spent ≡ true → IsTurnFault fault → (SkipNone (length old.places) legs → fault ≡ index.Memory) → LegRefusals {A = Unit {0}} words old new legs (Err fault)
-no_turns old new legs fault works spent kind only = record {
+no_turns : (old new : IndexView) (legs : List LegView) (fault : IndexFault) → old.tree.spent ≡ false → new.tree.spent ≡ true → IsTurnFault (SkipNone (length old.places) legs → ⊥) fault → LegRefusals {A = Unit {0}} words old new legs (Err fault)
+no_turns old new legs fault works spent refused = record {
   spent = spent;
   was_spent = λ e. absurd (true≢false (sym e ∙ works));
-  sound = λ s w. subst (λ f. MayRefuseLeg f) (sym (only (none_skipped (content old) legs (length old.places) s.features w))) tt;
-  store = λ e. absurd (subst (λ f. IsTurnFault f) (let same : fault ≡ index.Store = cc in same) kind);
-  full = λ e. absurd (subst (λ f. IsTurnFault f) (let same : fault ≡ index.StoreFull = cc in same) kind);
+  sound = λ s w. turn_allowed (SkipNone (length old.places) legs → ⊥) fault refused (λ skips. skips (none_skipped (content old) legs (length old.places) s.features w));
+  store = λ e. absurd (subst (λ f. IsTurnFault (SkipNone (length old.places) legs → ⊥) f) (let same : fault ≡ index.Store = cc in same) refused);
+  full = λ e. absurd (subst (λ f. IsTurnFault (SkipNone (length old.places) legs → ⊥) f) (let same : fault ≡ index.StoreFull = cc in same) refused);
 }
-  where
-    memory_not_spent : index.Memory ≡ index.Spent → ⊥
-    memory_not_spent e = absurd cc
 
 pub returns-in-Err-clause-refusals : goal.returns-in-Err-clause-refusals
 returns-in-Err-clause-refusals g c =
     let old = c.args.self.now in
     let works : old.tree.spent ≡ false = sym (ap (λ (i : IndexView). i.tree.spent) c.self.view_is) ∙ c.if-self.false in
     let places : c.as_slice.result.now ≡ old.places = c.as_slice.ensures.value ∙ ap (λ (v : IndexView). v.places) c.self.view_is in
-    no_turns old _ c.args.legs.now c.in-Err.fault works refl c.in-Err.ensures.kinds (subst (λ ps. SkipNone (length ps) c.args.legs.now → c.in-Err.fault ≡ index.Memory) places c.in-Err.ensures.only)
+    no_turns old _ c.args.legs.now c.in-Err.fault works refl (subst (λ ps. IsTurnFault (SkipNone (length ps) c.args.legs.now → ⊥) c.in-Err.fault) places c.in-Err.ensures.refused)
 
 pub join_all-requires-clause-within : goal.join_all-requires-clause-within
 join_all-requires-clause-within g c =
@@ -57,9 +63,9 @@ the_turns g c = are_turns c.args.self.now.places c.args.self.now.tree.shape.leaf
 
 pub returns-clause-added : goal.returns-clause-added
 returns-clause-added g c =
-    all_added c.args.self.now c.join_all.new.index c.args.legs.now c.as_slice-2.result.now (the_turns g c) c.join_all.result c.join_all.ensures.taking
+    all_added c.args.self.now c.join_all.new.index c.args.legs.now (taken c.args.legs.now c.as_slice-2.result.now) (the_turns g c) c.join_all.result c.join_all.ensures
 
 pub returns-clause-refusals : goal.returns-clause-refusals
 returns-clause-refusals g c =
     let works = sym (ap (λ (i : IndexView). i.tree.spent) c.self.view_is) ∙ c.if-self.false in
-    all_refusals c.args.self.now c.join_all.new.index c.args.legs.now c.as_slice-2.result.now (the_turns g c) c.join_all.result works c.join_all.ensures.taking
+    all_refusals c.args.self.now c.join_all.new.index c.args.legs.now (taken c.args.legs.now c.as_slice-2.result.now) (the_turns g c) c.join_all.result works c.join_all.ensures

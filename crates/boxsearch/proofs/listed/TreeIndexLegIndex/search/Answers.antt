@@ -32,22 +32,22 @@ returns-clause-asks g c =
 
 pub returns-clause-leaves : goal.returns-clause-leaves
 returns-clause-leaves g c =
-    asked_leaves c.self.view_is c.search.new.cache (seen_of c.self.view_is).known c.search.ensures.reads
+    asked_leaves c.self.view_is c.search.new.cache (seen_of c.self.view_is).known c.search.ensures.searches.reads
 
 pub returns-clause-refusals : goal.returns-clause-refusals
 returns-clause-refusals g c =
     let seen = seen_of c.self.view_is in
     of_same (λ i r. Refusals words i (with_cache seen c.search.new.cache seen.known) r) c.self.view_is c.answer.ensures
-    (search_refusals seen c.search.new.cache c.search.result (λ legs v. v.items ≡ legs_in_box c.args.query.now legs) c.search.ensures.found c.search.ensures.spent c.search.ensures.caused)
+    (search_refusals seen c.search.new.cache c.search.result (λ legs v. v.items ≡ legs_in_box c.args.query.now legs) c.search.ensures.found c.search.ensures.spent c.search.ensures.searches.caused)
 
 pub returns-clause-told : goal.returns-clause-told
 returns-clause-told g c =
     let q = c.args.query.now in
     of_same (λ i r. MatchResult r (λ legs. tells i (InBox q) legs.items) (λ fault. Denies words i (InBox q) fault)) c.self.view_is c.answer.ensures
-    (search_told (seen_of c.self.view_is) c.search.new.cache q (λ legs. legs.items) c.search.result c.search.ensures.way c.search.ensures.met c.search.ensures.named c.search.ensures.spent c.search.ensures.caused)
+    (search_told (seen_of c.self.view_is) c.search.new.cache q (λ legs. legs.items) c.search.result c.search.ensures.searches c.search.ensures.spent)
 
 pub invariant_of-self : goal.invariant_of-self
 invariant_of-self g c = λ fa f place spans at known.
-    let reads = c.search.ensures.reads in
+    let reads = c.search.ensures.searches.reads in
     let was = sym reads.store.faithful ∙ fa in
     known_lasts c.self.inside.cache c.search.new.cache c.self.inside.tree.shape f place spans reads was (c.self.invariant was f place spans at known)

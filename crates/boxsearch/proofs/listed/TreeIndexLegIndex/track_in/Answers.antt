@@ -1,7 +1,7 @@
 use Rattle.std.proofs.Common.{set, sym, ap, ◌∙◌, Some, map}
 use Rattle.std.specs.Prelude.{MatchResult, filter}
 use Rattle.legs.specs.Asking.{Denies, TellsSieved}
-use Rattle.legs.specs.Sieves.{IsSieved, sieved_same}
+use Rattle.legs.specs.Sieves.{IsSieved}
 use Rattle.legs.specs.Questions.{OfFeature}
 use Rattle.legs.specs.Costs.{RisesAtMost, track_in_bound}
 use Rattle.legs.specs.Index.{live_legs_of}
@@ -13,6 +13,7 @@ use Rattle.boxsearch.proofs.ResultLemmas.{from_ok, of_same, seen_of}
 use Rattle.boxsearch.proofs.TellLemmas.{none_sieved, track_sieved}
 use Rattle.boxsearch.proofs.TrackLemmas.{absent, rises_capped_most}
 use Rattle.boxsearch.proofs.listed.TreeIndexLegIndex.track_in.Goals as goal
+use Rattle.legs.proofs.SieveLaws.{sieved_same}
 
 pub returns-in_default-clause-found : goal.returns-in_default-clause-found
 returns-in_default-clause-found g c = λ s.

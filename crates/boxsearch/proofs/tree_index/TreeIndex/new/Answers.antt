@@ -1,15 +1,12 @@
-use Rattle.std.proofs.Common.{map, ◌≡◌, ap, sym, ◌∙◌, subst, []}
+use Rattle.std.proofs.Common.{map, ◌≡◌, sym, subst, []}
 use Rattle.tbtree.specs.Insert.{Stands}
 use Rattle.tbtree.specs.Nodes.{pages_of_cache}
-use Rattle.boxsearch.specs.Index.{IndexView, content, new_index, IsSoundIndex}
-use Rattle.boxsearch.proofs.NewLemmas.{no_content, new_sound}
+use Rattle.boxsearch.specs.Index.{IndexView, new_index, IsSoundIndex}
+use Rattle.boxsearch.proofs.NewLemmas.{new_sound}
 use Rattle.boxsearch.proofs.tree_index.TreeIndex.new.Goals as goal
 
 pub returns-clause-value : goal.returns-clause-value
 returns-clause-value g c = λ i. record { cache = c.args.cache; tree = c.new.ensures.value i; places = c.new-2.ensures.items i; legs = 0; known = map (λ spans. spans.items) (c.new-3.ensures.items i) }
-
-pub returns-clause-empty : goal.returns-clause-empty
-returns-clause-empty g c = ap content (λ i. record { cache = c.args.cache; tree = c.new.ensures.value i; places = c.new-2.ensures.items i; legs = 0; known = map (λ spans. spans.items) (c.new-3.ensures.items i) }) ∙ no_content c.args.cache c.args.shape
 
 pub returns-clause-sound : goal.returns-clause-sound
 returns-clause-sound g c = λ faithful some held count.

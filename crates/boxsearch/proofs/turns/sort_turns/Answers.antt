@@ -1,7 +1,0 @@
-use Rattle.std.proofs.Common.{rules}
-use Rattle.std.proofs.lemmas.List.Sorted.{IsNonDecreasingBy-from_sort_by_key}
-use Rattle.boxsearch.specs.Turns.{turn_number}
-use Rattle.boxsearch.proofs.turns.sort_turns.Goals as goal
-
-pub returns-clause-rises : goal.returns-clause-rises
-returns-clause-rises c = IsNonDecreasingBy-from_sort_by_key turn_number _ c.sort_unstable_by_key.ensures.sorted (λ a r q k. search rules)
