@@ -1,6 +1,7 @@
 pub mod ChainLemmas
 pub mod CheckLemmas
 pub mod CheckTree
+pub mod FindLemmas
 pub mod HeldChains
 pub mod HeldTree
 pub mod LeafChains

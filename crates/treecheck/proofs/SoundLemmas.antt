@@ -86,9 +86,6 @@ module _ (i : IndexView) (tracks : TracksView) (rows : ℕ) where
     pub agrees : Agree tracks rows i.legs
     agrees = record { paired = a.paired; legs_are = a.legs_are ∙ sym s.counted; rows_are = a.rows_are; few_rows = (let r = a.few_rows in let n = s.counted in omega (arith, r, n)); few_names = a.few_names }
 
-    pub few : length i.places < 4294967296
-    few = let f = s.features in let n = a.numbered in let m = a.few_names in omega (arith, f, n, m)
-
     pub held : HoldLegs (pages_of_cache i.cache) i.tree rows i.legs i.places tracks.tracks
     held = record {
       legs = content i;
@@ -104,12 +101,8 @@ module _ (i : IndexView) (tracks : TracksView) (rows : ℕ) where
     }
 
 -- what passed says more, over a faithful store
-pub passed : (r : Result (Unit {0}) TreeFault) (F K A C S : Type 0) → (F → OnOk r K) → OnOk r A → OnOk r C → (F → K → A → C → S) → OnOk r (F → S)
-passed r F K A C S k a c s =
-    (elim r as (λ r. (F → OnOk r K) → OnOk r A → OnOk r C → OnOk r (F → S)) [
-      | Ok x ↦ λ k a c fa. s fa (k fa) a c
-      | Err e ↦ λ k a c. a
-    ]) k a c
+pub passed : (r : Result (Unit {0}) TreeFault) (F K S : Type 0) → (F → OnOk r K) → (F → K → S) → OnOk r (F → S)
+passed r F K S k s = (elim r as (λ r. (F → OnOk r K) → OnOk r (F → S)) [ Ok x ↦ λ k fa. s fa (k fa) | Err e ↦ λ k. tt ]) k
 
 -- an index whose places are given away, and brought back once its cache was lent, is the index over another cache
 pub ended : (index lent left : IndexView) (items : List Place) → lent ≡ record index { places = []; known = [] } → left ≡ with_cache lent left.cache left.known → items ≡ index.places

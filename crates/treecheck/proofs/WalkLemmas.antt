@@ -1,9 +1,18 @@
 -- The way along the chain of a feature.
-use Rattle.std.proofs.Common.{◌≡◌, ℕ, zero, suc, ◌+◌, List, [], ◌∷◌, length, drop, Option, Some, None, slice_get, refl, sym, ap, ◌∙◌, arith}
+use Rattle.std.proofs.Common.{◌≡◌, ℕ, zero, suc, ◌+◌, ◌<◌, List, [], ◌∷◌, length, drop, Option, Some, None, Bool, false, Result, Ok, slice_get, refl, sym, ap, ◌∙◌, arith, subst}
+use Rattle.std.proofs.lemmas.Bool.{true≢false}
+use Rattle.std.specs.declared.alloc.AllocError.{AllocError}
 use Rattle.legs.specs.Boxes.{BoxView}
 use Rattle.legs.specs.Hull.{both, hull, leg_boxes}
 use Rattle.legs.specs.Legs.{LegView}
+use Rattle.tbtree.specs.Descent.{legs_in}
+use Rattle.tbtree.specs.Nodes.{Pages, Node, LeafView, InnerView, ALeaf, AnInner}
 use Rattle.tbtree.specs.Turn.{ComeInTurn}
+use Rattle.tbnode.specs.Nodes.{as_leaf, as_inner}
+use Rattle.treecheck.specs.Check.{IsLeafOf}
+use Rattle.treecheck.specs.Walking.{after, IsNextNode, Notes, TakesLeaf, TakesNext}
+use Rattle.treecheck.specs.declared.walking.Survey.{Survey}
+use Rattle.treecheck.specs.declared.walking.Walk.{Walk}
 
 pub drop_at : {X : Type 0} (xs : List X) (i : ℕ) (x : X) → slice_get xs i ≡ Some x → drop i xs ≡ x ∷ drop (i + 1) xs
 drop_at [] i x e = let none : None ≡ Some x = e in absurd (cc)
@@ -37,3 +46,46 @@ hull_before legs i leg b at held = ap (hull leg_boxes) (drop_next legs i leg at)
 
 pub same_some : {X : Type 0} (x y : X) → Some x ≡ Some y → x ≡ y
 same_some {X} x y e = ap (λ (o : Option X). elim o as (λ _. X) [ Some z ↦ z | None ↦ x ]) e
+
+-- what is read as a leaf is one, and what is not so read is none
+leaf_is : (node : Option (Node LegView BoxView)) (leaf : LeafView LegView) → as_leaf node ≡ Some leaf → Some (ALeaf leaf) ≡ node
+leaf_is None leaf e = let none : None ≡ Some leaf = e in absurd (cc)
+leaf_is (Some (ALeaf l)) leaf e = ap (λ l. Some (ALeaf l)) (sym (same_some l leaf e))
+leaf_is (Some (AnInner p)) leaf e = let none : None ≡ Some leaf = e in absurd (cc)
+
+pub inner_is : (node : Option (Node LegView BoxView)) (inner : InnerView BoxView) → as_inner node ≡ Some inner → Some (AnInner inner) ≡ node
+inner_is None inner e = let none : None ≡ Some inner = e in absurd (cc)
+inner_is (Some (ALeaf l)) inner e = let none : None ≡ Some inner = e in absurd (cc)
+inner_is (Some (AnInner p)) inner e = ap (λ p. Some (AnInner p)) (sym (same_some p inner e))
+
+module _ (most rows : ℕ) (node : Option (Node LegView BoxView)) (walk next : Walk) (old new : Survey) where
+  pub takes_leaf : (leaf : LeafView LegView) (result : Result Bool AllocError) → as_leaf node ≡ Some leaf → TakesNext most rows (Some (ALeaf leaf)) walk next old new result → TakesNext most rows node walk next old new result
+  takes_leaf leaf result e h = subst (λ node. TakesNext most rows node walk next old new result) (leaf_is node leaf e) h
+
+  pub takes_none : None ≡ as_leaf node → TakesNext most rows node walk next old new (Ok false)
+  takes_none none = record {
+    taken = λ t. absurd (true≢false (sym t));
+    whole = λ h. let e : None ≡ Some h.0.leaf = none ∙ ap as_leaf h.0.is in absurd (cc);
+  }
+
+  -- a page that has the node is the next leaf of its chain just where the node is the next leaf of the way
+  module _ (nodes : Pages LegView BoxView) (at : nodes.at walk.page ≡ Some node) where
+    pub page_taken : 0 < walk.left → 0 < walk.page → walk.page < nodes.count
+        → (IsNextNode most walk node × ComeInTurn walk.feature rows walk.last (legs_in (Some node))) × ((next ≡ after most walk (Some node)) × Notes (Some node) walk.page old new)
+        → TakesLeaf nodes most rows walk next old new
+    page_taken some above within h =
+        let n = h.0.0 in
+        record {
+          leaf = record { leaf = n.leaf; some = some; above = above; within = within; is = at ∙ ap (λ node. Some node) n.is; feature_is = n.feature_is; previous_is = n.previous_is; count_is = n.count_is };
+          turn = subst (λ at. ComeInTurn walk.feature rows walk.last (legs_in at)) (sym at) h.0.1;
+          next_is = h.1.0 ∙ ap (after most walk) (sym at);
+          notes = subst (λ at. Notes at walk.page old new) (sym at) h.1.1;
+        }
+
+    pub page_next : IsLeafOf nodes most walk.feature walk.previous walk.left walk.page × ComeInTurn walk.feature rows walk.last (legs_in (nodes.at walk.page))
+        → IsNextNode most walk node × ComeInTurn walk.feature rows walk.last (legs_in (Some node))
+    page_next h =
+        let l = h.0 in (
+          record { leaf = l.leaf; is = same_some node (Some (ALeaf l.leaf)) (sym at ∙ l.is); feature_is = l.feature_is; previous_is = l.previous_is; count_is = l.count_is },
+          subst (λ at. ComeInTurn walk.feature rows walk.last (legs_in at)) at h.1,
+        )

@@ -4,11 +4,12 @@ use Rattle.legs.specs.Blocks.{block, groups}
 use Rattle.legs.specs.Boxes.{BoxView}
 use Rattle.legs.specs.Hull.{leg_boxes}
 use Rattle.legs.specs.Legs.{LegView}
-use Rattle.std.specs.List.{flat_map}
+use Rattle.std.specs.List.{All, flat_map}
 use Rattle.tbtree.specs.Descent.{entries_in}
 use Rattle.treecheck.specs.Check.{IsTreeOver}
 use Rattle.tbtree.specs.Nodes.{Pages, AnInner, InnerView, boxes, children, cover_all}
 use Rattle.tbtree.specs.declared.tree.TbTree.{TbTree}
+use Rattle.treecheck.specs.Walking.{IsMet}
 use Rattle.treecheck.specs.declared.walking.Met.{Met}
 
 -- so many levels of pages with so many entries each are needed over so many leaves
@@ -33,6 +34,14 @@ pages_of_leaves leaves = map (λ m. m.page) leaves
 -- the least box that holds leaves
 abbrev pub cover_of_leaves : List Met → Option BoxView
 cover_of_leaves leaves = cover_all leg_boxes (map (λ m. m.bounds) leaves)
+
+-- leaves are as they were met
+abbrev pub AreMet : Pages LegView BoxView → List Met → Type 0
+AreMet nodes leaves = All (λ (m : Met). IsMet (nodes.at m.page) m) leaves
+
+-- leaves are on pages of the tree
+abbrev pub AreInside : Pages LegView BoxView → List Met → Type 0
+AreInside nodes leaves = All (λ p. (0 < p) × (p < nodes.count)) (pages_of_leaves leaves)
 
 -- above a level of blocks of so many leaves: entry i of the page is for group i of the leaves, and holds no more; the entries
 -- of level 1 are for the leaves themselves

@@ -1,6 +1,7 @@
 -- Helpers of private functions: the way along the chain of a feature.
-use Rattle.std.specs.Prelude.{ℕ, ◌≡◌, ◌-◌, ◌++◌, ◌∷◌, min, [], List, map, length, Option, Some, option_map}
+use Rattle.std.specs.Prelude.{ℕ, ◌≡◌, ◌-◌, ◌++◌, ◌∷◌, min, [], Bool, List, map, length, Option, Result, Some, option_map}
 use Rattle.std.specs.List.{All}
+use Rattle.std.specs.declared.alloc.AllocError.{AllocError}
 use Rattle.legs.specs.Boxes.{BoxView}
 use Rattle.legs.specs.Hull.{hull, leg_boxes}
 use Rattle.legs.specs.Legs.{LegView}
@@ -13,6 +14,7 @@ use Rattle.tbtree.specs.Turn.{last_leg, first_ordinal, ComeInTurn}
 use Rattle.tbtree.specs.Descent.{legs_in}
 use Rattle.tbtree.specs.Nodes.{Pages, Node, LeafView, ALeaf}
 use Rattle.tbtree.specs.declared.tree.Place.{Place}
+use Rattle.treecheck.specs.Finding.{TakesIf}
 use Rattle.treecheck.specs.declared.walking.Met.{Met}
 use Rattle.treecheck.specs.declared.walking.Survey.{Survey}
 use Rattle.treecheck.specs.declared.walking.Walk.{Walk}
@@ -52,6 +54,15 @@ pub record Notes (at : Option (Option (Node LegView BoxView))) (page : ℕ)
   pub ordinals : new.ordinals.items ≡ old.ordinals.items ++ map (λ leg. leg.ordinal) (legs_in at)
   pub leaves : new.leaves.items ≡ old.leaves.items ++ met ∷ []
   pub firsts : new.firsts ≡ old.firsts
+
+-- the node is taken where it is the next leaf of the way, and its legs come in order after those before them: the way
+-- goes on to the page that the leaf names as next, and the leaf and its ordinals are put to what was found
+abbrev pub TakesNext : (most rows : ℕ) → Option (Node LegView BoxView) → (walk next : Walk)
+    → (old new : Survey) → Result Bool AllocError → Type 0
+TakesNext most rows node walk next old new result =
+    TakesIf
+    (IsNextNode most walk node × ComeInTurn walk.feature rows walk.last (legs_in (Some node)))
+    ((next ≡ after most walk (Some node)) × Notes (Some node) walk.page old new) result
 
 -- the page of the way is its next leaf, and is taken
 pub record TakesLeaf (nodes : Pages LegView BoxView) (most rows : ℕ) (walk next : Walk)

@@ -1,15 +1,11 @@
 //! A check of an index: its pages hold one list of legs.
-ghost use Rattle.std.specs.Prelude.{◌≡◌, ◌≢◌, ◌<◌, ◌^◌, ◌↔◌, Err, None, length, IfErr, IsErrOf, OnOk, IsTrue, true};
-ghost use Rattle.std.specs.List.Sorted.{IsPermutation, IsNonDecreasingBy};
+ghost use Rattle.std.specs.Prelude.{◌≡◌, ◌≢◌, ◌<◌, ◌↔◌, Err, None, IfErr, IsErrOf, OnOk, IsTrue, true};
 ghost use Rattle.pagecache.specs.Cache.{payload_of};
 ghost use Rattle.chains.specs.Chains.{AreHeld};
-ghost use Rattle.chains.specs.Reads.{OnlyReads, Reads};
-ghost use Rattle.treecheck.specs.Check.{IsChecked};
-ghost use Rattle.tbtree.specs.Faults.{MayRefuseRead};
-ghost use Rattle.tbtree.specs.Turn.{IsRising};
+ghost use Rattle.chains.specs.Reads.{OnlyReads};
 ghost use Rattle.tbtree.specs.Nodes.{pages_of_cache};
-ghost use Rattle.tbtree.specs.Shape.{IsShape};
-ghost use Rattle.treecheck.specs.Checking.{Agree, AreTracksOf};
+ghost use Rattle.treecheck.specs.Checking.{Agree, AreTracksOf, IsWholeCache};
+ghost use Rattle.treecheck.specs.Finding.{TestsPages};
 ghost use Rattle.boxsearch.specs.Beside.{with_cache};
 ghost use Rattle.boxsearch.specs.Index.{content, words, IsSoundIndex};
 ghost use Rattle.header.specs.Front.{SaysState};
@@ -17,7 +13,6 @@ ghost use Rattle.legs.specs.Asking.{Leaves};
 ghost use Rattle.legs.specs.Index.{MayRefuse, HasRisen};
 ghost use Rattle.legs.specs.declared.index.IndexFault.{IndexFault};
 ghost use Rattle.treecheck.specs.Ordering.{IsSurveyWhole};
-ghost use Rattle.treecheck.specs.declared.walking.Met.{Met};
 ghost use Rattle.treecheck.specs.declared.walking.Survey.{Survey};
 
 use crate::levels::check_tree;
@@ -46,11 +41,7 @@ fn next_of(payload: &Payload) -> u32 {
 /// memory with it.
 fn read_page<S: PageStore>(cache: &mut PageCache<S>, page: u32) -> Result<(), TreeFault>
     requires { page < cache.old.count }
-    ensures held { IsTrue cache.old.store.is_faithful
-        → OnOk result ((pages_of_cache cache.old).at page ≢ None) }
-    ensures only { IsTrue cache.old.store.is_faithful → (pages_of_cache cache.old).at page ≢ None
-        → IfErr result MayRefuseRead }
-    ensures reads { Reads cache.old cache.new result }
+    ensures { TestsPages ((pages_of_cache cache.old).at page ≢ None) cache.old cache.new result }
 {
     match cache.page_ahead(page, &behind(page)) {
         Ok(payload) => {
@@ -74,18 +65,12 @@ fn note_places<S: PageStore>(cache: &mut PageCache<S>, places: &[Place])
 }
 
 /// Reads each page once, for its seal, and notes the order in which the leaves of the places are to
-/// come. A page that the store has beyond those of the cache is
-/// malformed, and so is page 0 where there is none.
+/// come. A page that the store has beyond those of the cache is malformed, and so is page 0 where
+/// there is none.
 #[tactic(auto, using(chains::proofs::ReadLemmas::reading))]
 fn read_pages<S: PageStore>(cache: &mut PageCache<S>, places: &[Place]) -> Result<(), TreeFault>
-    ensures held { IsTrue cache.old.store.is_faithful
-        → OnOk result (AreHeld (pages_of_cache cache.old)) }
-    ensures some { OnOk result (0 < cache.old.count) }
-    ensures count { OnOk result (cache.old.count ≡ cache.old.store.count) }
-    ensures only { IsTrue cache.old.store.is_faithful → AreHeld (pages_of_cache cache.old)
-        → 0 < cache.old.count
-        → cache.old.count ≡ cache.old.store.count → IfErr result MayRefuseRead }
-    ensures reads { Reads cache.old cache.new result }
+    ensures { TestsPages ((0 < cache.old.count) × (cache.old.count ≡ cache.old.store.count)
+        × AreHeld (pages_of_cache cache.old)) cache.old cache.new result }
 {
     let count = cache.count();
     for page in 0..count {
@@ -101,11 +86,8 @@ fn read_pages<S: PageStore>(cache: &mut PageCache<S>, places: &[Place]) -> Resul
 /// Reads page 0, and tests that it is the header of a store that is not finished where its database
 /// has begun, and of a finished one where it has not.
 fn check_state<S: PageStore>(cache: &mut PageCache<S>, begun: bool) -> Result<(), TreeFault>
-    ensures says { IsTrue cache.old.store.is_faithful
-        → OnOk result (SaysState begun (payload_of cache.old 0)) }
-    ensures only { IsTrue cache.old.store.is_faithful → SaysState begun (payload_of cache.old 0)
-        → 0 < cache.old.count → IfErr result MayRefuseRead }
-    ensures reads { Reads cache.old cache.new result }
+    ensures { TestsPages ((0 < cache.old.count) × SaysState begun (payload_of cache.old 0))
+        cache.old cache.new result }
 {
     let payload = match cache.page(0) {
         Ok(payload) => payload,
@@ -121,10 +103,8 @@ fn check_state<S: PageStore>(cache: &mut PageCache<S>, begun: bool) -> Result<()
 /// features are in the order of their first legs. The ordinals may be put in another order; nothing
 /// else of the survey changes.
 pub fn is_whole(places: &[Place], total: u64, survey: &mut Survey) -> bool
-    // A survey that passes is whole.
-    ensures whole { IsTrue result → IsSurveyWhole places.now total survey.old }
-    // A whole survey passes.
-    ensures only { IsSurveyWhole places.now total survey.old → IsTrue result }
+    // A survey passes just where it is whole.
+    ensures whole { IsTrue result ↔ IsSurveyWhole places.now total survey.old }
     // The leaves stay as they are.
     ensures leaves { survey.new.leaves ≡ survey.old.leaves }
 {
@@ -138,16 +118,6 @@ pub fn is_whole(places: &[Place], total: u64, survey: &mut Survey) -> bool
         return false;
     }
     rise(survey.firsts.as_slice())
-}
-
-/// Puts the leaves of a survey in the order of their first legs; whether these are distinct.
-fn put_in_order(survey: &mut Survey) -> bool
-    ensures moved { IsPermutation survey.old.leaves.items survey.new.leaves.items }
-    ensures rises { IsNonDecreasingBy (λ (m : Met). m.first) survey.new.leaves.items }
-    ensures strict { IsTrue result ↔ IsRising (λ (m : Met). m.first) survey.new.leaves.items }
-{
-    sort_leaves(&mut survey.leaves);
-    leaves_rise(survey.leaves.as_slice())
 }
 
 /// Whether the tracks have so many legs and rows, and no more features than any limit allows.
@@ -174,20 +144,8 @@ pub fn check_pages<S: PageStore>(
     legs: u64,
     begun: bool,
 ) -> Result<(), TreeFault>
-    ensures says { IsTrue cache.old.store.is_faithful
-        → OnOk result (SaysState begun (payload_of cache.old 0)) }
-    ensures checked { IsTrue cache.old.store.is_faithful
-        → OnOk result (IsChecked (pages_of_cache cache.old) tree.now rows legs places.now
-        tracks.now.tracks) }
-    ensures agree { OnOk result (Agree tracks.now rows legs) }
-    ensures count { OnOk result (cache.old.count ≡ cache.old.store.count) }
-    ensures shape { IsShape tree.now.shape }
-    ensures only { IsTrue cache.old.store.is_faithful → cache.old.count ≡ cache.old.store.count
-        → SaysState begun (payload_of cache.old 0)
-        → length places.now < 2 ^ 32 → Agree tracks.now rows legs
-        → IsChecked (pages_of_cache cache.old) tree.now rows legs places.now tracks.now.tracks
-        → IfErr result MayRefuseRead }
-    ensures reads { Reads cache.old cache.new result }
+    ensures { TestsPages (IsWholeCache cache.old tree.now rows legs places.now tracks.now begun)
+        cache.old cache.new result }
 {
     let most = u64::from(tree.shape.leaf());
     read_pages(cache, places)?;
@@ -199,7 +157,8 @@ pub fn check_pages<S: PageStore>(
     if !agree(tracks, rows, legs) {
         return Err(TreeFault::Malformed(0));
     }
-    if !put_in_order(&mut survey) {
+    sort_leaves(&mut survey.leaves);
+    if !leaves_rise(survey.leaves.as_slice()) {
         return Err(TreeFault::Malformed(0));
     }
     check_tree(alloc, cache, tree, survey.leaves.as_slice())?;
@@ -218,23 +177,9 @@ fn check_index<S: PageStore>(
     rows: u64,
     begun: bool,
 ) -> Result<(), TreeFault>
-    ensures says { IsTrue index.old.cache.store.is_faithful
-        → OnOk result (SaysState begun (payload_of index.old.cache 0)) }
-    ensures checked { IsTrue index.old.cache.store.is_faithful
-        → OnOk result (IsChecked (pages_of_cache index.old.cache) index.old.tree rows
-        index.old.legs places.now tracks.now.tracks) }
-    ensures agree { OnOk result (Agree tracks.now rows index.old.legs) }
-    ensures count { OnOk result (index.old.cache.count ≡ index.old.cache.store.count) }
-    ensures shape { IsShape index.old.tree.shape }
-    ensures only { IsTrue index.old.cache.store.is_faithful
-        → index.old.cache.count ≡ index.old.cache.store.count
-        → SaysState begun (payload_of index.old.cache 0)
-        → length places.now < 2 ^ 32 → Agree tracks.now rows index.old.legs
-        → IsChecked (pages_of_cache index.old.cache) index.old.tree rows index.old.legs places.now
-        tracks.now.tracks
-        → IfErr result MayRefuseRead }
+    ensures tests { TestsPages (IsWholeCache index.old.cache index.old.tree rows index.old.legs
+        places.now tracks.now begun) index.old.cache index.new.cache result }
     ensures same { index.new ≡ with_cache index.old index.new.cache index.new.known }
-    ensures reads { Reads index.old.cache index.new.cache result }
 {
     let tree = index.tree();
     let legs = index.leg_count();

@@ -1,17 +1,13 @@
 //! The levels of a tree over its leaves, for a check.
-ghost use Rattle.std.specs.Prelude.{ℕ, ◌≡◌, ◌≢◌, ◌<◌, ◌≤◌, ◌^◌, ◌↔◌, ◌++◌, Some, List, length, map, All, IfOk, IfErr, IfSome, IsSome, IsTrue, OnOk};
+ghost use Rattle.std.specs.Prelude.{◌≡◌, ◌<◌, ◌≤◌, ◌^◌, ◌↔◌, ◌++◌, Some, map, IfSome, IsSome, IsTrue, OnOk};
 ghost use Rattle.std.specs.List.{flat_map};
 ghost use Rattle.legs.specs.Blocks.{block, groups};
 ghost use Rattle.legs.specs.Boxes.{BoxView};
 ghost use Rattle.tbnode.specs.Form.{node_of};
-ghost use Rattle.chains.specs.Reads.{Reads};
-ghost use Rattle.treecheck.specs.Check.{IsTreeOver};
 ghost use Rattle.tbtree.specs.Descent.{entries_in};
-ghost use Rattle.tbtree.specs.Faults.{MayRefuseRead, RefusesRead};
 ghost use Rattle.tbtree.specs.Nodes.{pages_of_cache, AnInner, InnerView, boxes, children};
-ghost use Rattle.pagecache.specs.Cache.{Cache};
-ghost use Rattle.treecheck.specs.Levels.{cover_of_leaves, pages_of_leaves, named_by, AllStandAbove, IsAbove, IsHeight, LevelsStandAbove, StandsAbove, StandsOver};
-ghost use Rattle.treecheck.specs.Walking.{IsMet};
+ghost use Rattle.treecheck.specs.Finding.{FindsPages, TakesIf, TestsPages};
+ghost use Rattle.treecheck.specs.Levels.{cover_of_leaves, pages_of_leaves, named_by, AllStandAbove, AreInside, AreMet, IsAbove, IsHeight, LevelsStandAbove, StandsAbove, StandsOver};
 
 use crate::walking::Met;
 use legs::Box3;
@@ -106,33 +102,29 @@ fn push_named(inner: &Inner<'_>, below: &mut Vec<u32>) -> Result<(), AllocError>
     Ok(())
 }
 
-/// Adds the pages that a payload names, where it is an inner page that stands above some leaves.
+/// Adds the pages that a payload names, where it is an inner page that stands above some leaves;
+/// whether it is.
 fn take_inner(
     payload: &Payload,
-    page: u32,
     level: u32,
     width: usize,
     leaves: &[Met],
     below: &mut Vec<u32>,
-) -> Result<(), TreeFault>
+) -> Result<bool, AllocError>
     requires { 0 < width }
-    ensures above { OnOk result ((inner : InnerView BoxView)
-        × (node_of payload.now ≡ Some (AnInner inner))
-        × IsAbove level width leaves.now inner) }
-    ensures pushed { OnOk result (below.new.items
-        ≡ below.old.items ++ map (λ e. e.child) (entries_in (Some (node_of payload.now)))) }
-    ensures only { (inner : InnerView BoxView) → node_of payload.now ≡ Some (AnInner inner)
-        → IsAbove level width leaves.now inner → IfErr result MayRefuseRead }
-    ensures caused { (old new : Cache) → IfErr result (RefusesRead old new) }
+    ensures { TakesIf ((inner : InnerView BoxView) × (node_of payload.now ≡ Some (AnInner inner))
+        × IsAbove level width leaves.now inner)
+        (below.new.items
+        ≡ below.old.items ++ map (λ e. e.child) (entries_in (Some (node_of payload.now)))) result }
 {
     let Some(inner) = tbnode::inner(payload) else {
-        return Err(TreeFault::Malformed(page));
+        return Ok(false);
     };
     if !is_above(&inner, level, width, leaves) {
-        return Err(TreeFault::Malformed(page));
+        return Ok(false);
     }
     push_named(&inner, below)?;
-    Ok(())
+    Ok(true)
 }
 
 /// Adds the pages that a page names, where it is an inner page that stands above some leaves. The
@@ -147,15 +139,10 @@ fn take_page<S: PageStore>(
     below: &mut Vec<u32>,
 ) -> Result<(), TreeFault>
     requires { 0 < width }
-    ensures above { IsTrue cache.old.store.is_faithful
-        → OnOk result (StandsAbove (pages_of_cache cache.old) level width leaves.now page) }
-    ensures pushed { IsTrue cache.old.store.is_faithful
-        → OnOk result (below.new.items
-        ≡ below.old.items ++ named_by (pages_of_cache cache.old) page) }
-    ensures only { IsTrue cache.old.store.is_faithful
-        → StandsAbove (pages_of_cache cache.old) level width leaves.now page
-        → IfErr result MayRefuseRead }
-    ensures reads { Reads cache.old cache.new result }
+    ensures { FindsPages (StandsAbove (pages_of_cache cache.old) level width leaves.now page)
+        (λ _. StandsAbove (pages_of_cache cache.old) level width leaves.now page
+        × (below.new.items ≡ below.old.items ++ named_by (pages_of_cache cache.old) page))
+        cache.old cache.new result }
 {
     if page == 0 {
         return Err(TreeFault::Malformed(page));
@@ -164,7 +151,11 @@ fn take_page<S: PageStore>(
         Ok(payload) => payload,
         Err(fault) => return Err(TreeFault::of(fault, page)),
     };
-    take_inner(payload, page, level, width, leaves, below)
+    if take_inner(payload, level, width, leaves, below)? {
+        Ok(())
+    } else {
+        Err(TreeFault::Malformed(page))
+    }
 }
 
 /// The pages that some pages name, where each is an inner page that stands above its `span` of the
@@ -180,16 +171,11 @@ fn level_below<S: PageStore>(
     leaves: &[Met],
 ) -> Result<Vec<u32>, TreeFault>
     requires { 0 < width }
-    ensures above { IsTrue cache.old.store.is_faithful
-        → OnOk result (AllStandAbove (pages_of_cache cache.old) level width span leaves.now
-        pages.now) }
-    ensures named { IsTrue cache.old.store.is_faithful
-        → IfOk result (λ below. below.items
-        ≡ flat_map (named_by (pages_of_cache cache.old)) pages.now) }
-    ensures only { IsTrue cache.old.store.is_faithful
-        → AllStandAbove (pages_of_cache cache.old) level width span leaves.now pages.now
-        → IfErr result MayRefuseRead }
-    ensures reads { Reads cache.old cache.new result }
+    ensures { FindsPages
+        (AllStandAbove (pages_of_cache cache.old) level width span leaves.now pages.now)
+        (λ below. AllStandAbove (pages_of_cache cache.old) level width span leaves.now pages.now
+        × (below.items ≡ flat_map (named_by (pages_of_cache cache.old)) pages.now))
+        cache.old cache.new result }
 {
     let mut below = Vec::new(alloc);
     for i in 0..pages.len() {
@@ -214,12 +200,9 @@ fn check_levels<S: PageStore>(
 ) -> Result<(), TreeFault>
     requires inner { 0 < inner }
     requires span { span ≡ inner ^ height }
-    ensures stand { IsTrue cache.old.store.is_faithful
-        → OnOk result (LevelsStandAbove (pages_of_cache cache.old) inner height root leaves.now) }
-    ensures only { IsTrue cache.old.store.is_faithful
-        → LevelsStandAbove (pages_of_cache cache.old) inner height root leaves.now
-        → IfErr result MayRefuseRead }
-    ensures reads { Reads cache.old cache.new result }
+    ensures { TestsPages
+        (LevelsStandAbove (pages_of_cache cache.old) inner height root leaves.now)
+        cache.old cache.new result }
 {
     let mut pages = Vec::new(alloc);
     pages.push(root)?;
@@ -269,17 +252,13 @@ pub fn check_tree<S: PageStore>(
     tree: &TbTree,
     leaves: &[Met],
 ) -> Result<(), TreeFault>
-    ensures over { IsTrue cache.old.store.is_faithful
-        → All (λ m. IsMet ((pages_of_cache cache.old).at m.page) m) leaves.now
-        → All (λ p. (0 < p) × (p < cache.old.count)) (pages_of_leaves leaves.now)
-        → OnOk result (StandsOver (pages_of_cache cache.old) tree.now
-        (pages_of_leaves leaves.now)) }
-    ensures only { IsTrue cache.old.store.is_faithful
-        → All (λ m. IsMet ((pages_of_cache cache.old).at m.page) m) leaves.now
-        → (pages : ℕ → List ℕ)
-        → IsTreeOver (pages_of_cache cache.old) tree.now (pages_of_leaves leaves.now) pages
-        → IfErr result MayRefuseRead }
-    ensures reads { Reads cache.old cache.new result }
+    ensures { FindsPages
+        (AreMet (pages_of_cache cache.old) leaves.now
+        × StandsOver (pages_of_cache cache.old) tree.now (pages_of_leaves leaves.now))
+        (λ _. AreMet (pages_of_cache cache.old) leaves.now
+        → AreInside (pages_of_cache cache.old) leaves.now
+        → StandsOver (pages_of_cache cache.old) tree.now (pages_of_leaves leaves.now))
+        cache.old cache.new result }
 {
     if leaves.len() as u64 != u64::from(tree.leaves) {
         return Err(TreeFault::Malformed(0));

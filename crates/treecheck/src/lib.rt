@@ -2,14 +2,12 @@
 #![tactic(auto)]
 
 mod checking;
-mod holding;
 mod leaves;
 mod levels;
 mod ordering;
 mod walking;
 
 pub use checking::{agree, check, is_whole};
-pub use holding::laws;
 pub use leaves::{AnyLeaf, bounds_of};
 pub use ordering::sort_leaves;
 pub use walking::{LeafReader, Met, Survey, Walk, take_next, walk_all};

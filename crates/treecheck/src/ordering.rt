@@ -1,5 +1,5 @@
 //! What a check asks of the legs and leaves of all features together.
-ghost use Rattle.std.specs.Prelude.{ℕ, ◌≡◌, ◌↔◌, Some, length, map, slice_get, IsTrue};
+ghost use Rattle.std.specs.Prelude.{◌≡◌, ◌↔◌, Some, length, map, slice_get, IsTrue};
 ghost use Rattle.std.specs.List.{range_with_len};
 ghost use Rattle.std.specs.List.Sorted.{IsPermutation, IsNonDecreasingBy};
 ghost use Rattle.tbtree.specs.Turn.{IsRising};
@@ -23,10 +23,8 @@ fn is_range(numbers: &[u64]) -> bool
 
 /// Whether ordinals are those from 0 on, each once. They are put in order.
 pub fn are_once(ordinals: &mut Vec<u64>) -> bool
-    ensures once { IsTrue result
-        → IsPermutation ordinals.old.items (range_with_len 0 (length ordinals.old.items)) }
-    ensures only { (total : ℕ) → IsPermutation ordinals.old.items (range_with_len 0 total)
-        → IsTrue result }
+    ensures { IsTrue result
+        ↔ IsPermutation ordinals.old.items (range_with_len 0 (length ordinals.old.items)) }
 {
     ordinals.sort_unstable();
     is_range(ordinals.as_slice())

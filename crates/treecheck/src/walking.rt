@@ -1,16 +1,12 @@
 //! The way along the chain of a feature, for a check.
-ghost use Rattle.std.specs.Prelude.{ℕ, ◌≡◌, ◌≢◌, ◌-◌, ◌<◌, ◌↔◌, ◌++◌, ◌∷◌, [], List, None, Some, map, length, slice_get, unwrap_or, ◌^◌, IfOk, IfErr, IsTrue, OnOk};
-ghost use Rattle.legs.specs.Boxes.{BoxView};
+ghost use Rattle.std.specs.Prelude.{ℕ, ◌≡◌, ◌<◌, ◌↔◌, ◌++◌, ◌∷◌, [], List, Some, map, length, slice_get, unwrap_or, ◌^◌, IsTrue};
 ghost use Rattle.legs.specs.Legs.{LegView};
-ghost use Rattle.pagecache.specs.Cache.{Cache};
 ghost use Rattle.tbnode.specs.Form.{node_of};
-ghost use Rattle.chains.specs.Reads.{Reads};
-ghost use Rattle.treecheck.specs.Check.{IsLeafOf, AreLeavesOf, AreChains};
+ghost use Rattle.treecheck.specs.Check.{AreLeavesOf, AreChains};
 ghost use Rattle.tbtree.specs.Turn.{last_leg, ComesAfter, ComeInTurn};
-ghost use Rattle.tbtree.specs.Descent.{legs_in};
-ghost use Rattle.tbtree.specs.Faults.{MayRefuseRead};
 ghost use Rattle.tbtree.specs.Nodes.{ALeaf};
-ghost use Rattle.treecheck.specs.Walking.{after, pages_by, IsAtEnd, IsNextNode, Notes, Surveys, TakesLeaf, Walks};
+ghost use Rattle.treecheck.specs.Finding.{FindsPages, TakesIf};
+ghost use Rattle.treecheck.specs.Walking.{pages_by, IsAtEnd, IsNextNode, Surveys, TakesNext, Walks};
 
 use crate::leaves::{AnyLeaf, bounds_of};
 use legs::{Box3, Leg, Track, Tracks};
@@ -75,15 +71,9 @@ fn take_legs<L: AnyLeaf>(
     last: &mut Option<Leg>,
     ordinals: &mut Vec<u64>,
 ) -> Result<bool, AllocError>
-    ensures turn { IfOk result (λ whole. IsTrue whole
-        → ComeInTurn feature rows last.old (L.says leaf.now).legs) }
-    ensures last { IfOk result (λ whole. IsTrue whole
-        → last.new ≡ last_leg last.old (L.says leaf.now).legs) }
-    ensures noted { IfOk result (λ whole. IsTrue whole
-        → ordinals.new.items
-        ≡ ordinals.old.items ++ map (λ leg. leg.ordinal) (L.says leaf.now).legs) }
-    ensures whole { IfOk result (λ whole. ComeInTurn feature rows last.old (L.says leaf.now).legs
-        → IsTrue whole) }
+    ensures { TakesIf (ComeInTurn feature rows last.old (L.says leaf.now).legs)
+        ((last.new ≡ last_leg last.old (L.says leaf.now).legs) × (ordinals.new.items
+        ≡ ordinals.old.items ++ map (λ leg. leg.ordinal) (L.says leaf.now).legs)) result }
 {
     for i in 0..leaf.len() {
         let leg = leaf.leg(i);
@@ -114,24 +104,10 @@ pub fn take_next<L: AnyLeaf>(
     rows: u64,
     survey: &mut Survey,
 ) -> Result<bool, AllocError>
-    // A leaf that is taken is the next one: its feature, the leaf before it and its number of legs
-    // are right.
-    ensures next { IfOk result (λ whole. IsTrue whole
-        → IsNextNode most walk.old (Some (ALeaf (L.says leaf.now)))) }
-    // Its legs come after those before them, in order, and their rows are there.
-    ensures turn { IfOk result (λ whole. IsTrue whole
-        → ComeInTurn walk.old.feature rows walk.old.last (L.says leaf.now).legs) }
-    // The walk goes on to the page that the leaf names as next.
-    ensures walk { IfOk result (λ whole. IsTrue whole
-        → walk.new ≡ after most walk.old (Some (Some (ALeaf (L.says leaf.now))))) }
-    // The survey has the leaf and its ordinals at its end.
-    ensures noted { IfOk result (λ whole. IsTrue whole
-        → Notes (Some (Some (ALeaf (L.says leaf.now)))) walk.old.page survey.old survey.new) }
-    // A leaf that is the next one, with legs that come in order, is taken.
-    ensures whole { IfOk result (λ whole.
-        IsNextNode most walk.old (Some (ALeaf (L.says leaf.now)))
-        → ComeInTurn walk.old.feature rows walk.old.last (L.says leaf.now).legs
-        → IsTrue whole) }
+    // A leaf is taken just where it is the next one, with legs that come in order and rows that are
+    // there. The walk then goes on, and the survey has the leaf and its ordinals at its end.
+    ensures { TakesNext most rows (Some (ALeaf (L.says leaf.now))) walk.old walk.new survey.old
+        survey.new result }
 {
     if !is_next(leaf, walk, most) {
         return Ok(false);
@@ -165,17 +141,8 @@ fn take_payload(
     rows: u64,
     survey: &mut Survey,
 ) -> Result<bool, AllocError>
-    ensures next { IfOk result (λ whole. IsTrue whole
-        → IsNextNode most walk.old (node_of payload.now)) }
-    ensures turn { IfOk result (λ whole. IsTrue whole
-        → ComeInTurn walk.old.feature rows walk.old.last (legs_in (Some (node_of payload.now)))) }
-    ensures walk { IfOk result (λ whole. IsTrue whole
-        → walk.new ≡ after most walk.old (Some (node_of payload.now))) }
-    ensures noted { IfOk result (λ whole. IsTrue whole
-        → Notes (Some (node_of payload.now)) walk.old.page survey.old survey.new) }
-    ensures whole { IfOk result (λ whole. IsNextNode most walk.old (node_of payload.now)
-        → ComeInTurn walk.old.feature rows walk.old.last (legs_in (Some (node_of payload.now)))
-        → IsTrue whole) }
+    ensures { TakesNext most rows (node_of payload.now) walk.old walk.new survey.old survey.new
+        result }
 {
     match tbnode::leaf(payload) {
         Some(leaf) => take_next(&leaf, walk, most, rows, survey),
@@ -185,15 +152,14 @@ fn take_payload(
 
 /// How the leaves of chains are read.
 pub trait LeafReader {
-    ghost use Rattle.std.specs.Prelude.{◌≡◌, ◌≢◌, ◌-◌, ◌<◌, Option, IfErr, IsTrue, OnOk};
+    ghost use Rattle.std.specs.Prelude.{◌<◌, Option};
     ghost use Rattle.legs.specs.Boxes.{BoxView};
     ghost use Rattle.legs.specs.Legs.{LegView};
     ghost use Rattle.pages.specs.declared.payload.Payload.{Payload};
     ghost use Rattle.pagecache.specs.Cache.{Cache};
     ghost use Rattle.tbnode.specs.Nodes.{Node};
-    ghost use Rattle.chains.specs.Reads.{Reads};
     ghost use Rattle.treecheck.specs.Check.{IsLeafOf};
-    ghost use Rattle.tbtree.specs.Faults.{MayRefuseRead};
+    ghost use Rattle.treecheck.specs.Finding.{FindsPages};
     ghost use Rattle.tbtree.specs.Turn.{ComeInTurn};
     ghost use Rattle.tbtree.specs.Descent.{legs_in};
     ghost use Rattle.treecheck.specs.Walking.{pages_by, TakesLeaf};
@@ -216,21 +182,16 @@ pub trait LeafReader {
         rows: u64,
         survey: &mut Survey,
     ) -> Result<(), TreeFault>
-        // Over a faithful store the page is the next leaf of the chain, and is taken.
-        ensures taken { IsTrue (seen source.old).store.is_faithful → 0 < walk.old.left
-            → OnOk result (TakesLeaf (pages_by node (seen source.old)) most rows walk.old walk.new
-            survey.old survey.new) }
-        // The legs of one full leaf fewer are left to walk.
-        ensures left { OnOk result (walk.new.left ≡ walk.old.left - most) }
-        // If the page is that leaf, it fails only if memory runs out or the store fails.
-        ensures only { IsTrue (seen source.old).store.is_faithful
-            → IsLeafOf (pages_by node (seen source.old)) most walk.old.feature walk.old.previous
+        // Over a faithful store the page is the next leaf of the chain, and is taken. If the page is
+        // that leaf, it fails only if memory runs out or the store fails.
+        ensures { FindsPages
+            (IsLeafOf (pages_by node (seen source.old)) most walk.old.feature walk.old.previous
             walk.old.left walk.old.page
-            → ComeInTurn walk.old.feature rows walk.old.last
-            (legs_in ((pages_by node (seen source.old)).at walk.old.page))
-            → IfErr result MayRefuseRead }
-        // No payload changes. `Store` is returned only if the store failed.
-        ensures reads { Reads (seen source.old) (seen source.new) result };
+            × ComeInTurn walk.old.feature rows walk.old.last
+            (legs_in ((pages_by node (seen source.old)).at walk.old.page)))
+            (λ _. 0 < walk.old.left → TakesLeaf (pages_by node (seen source.old)) most rows
+            walk.old walk.new survey.old survey.new)
+            (seen source.old) (seen source.new) result };
 }
 
 /// Leaves of the present version, which are read from a cache.
@@ -303,15 +264,12 @@ pub fn walk_chain<R: LeafReader>(
     survey: &mut Survey,
 ) -> Result<(), TreeFault>
     requires { 0 < most }
-    ensures walked { IsTrue (R.seen source.old).store.is_faithful
-        → OnOk result
-        (Walks (pages_by R.node (R.seen source.old)) most rows feature place.now track.now
-        survey.old survey.new) }
-    ensures only { IsTrue (R.seen source.old).store.is_faithful → (pages : List ℕ)
-        → AreLeavesOf (pages_by R.node (R.seen source.old)) most rows feature place.now
-        track.now pages
-        → IfErr result MayRefuseRead }
-    ensures reads { Reads (R.seen source.old) (R.seen source.new) result }
+    ensures { FindsPages
+        ((pages : List ℕ) × AreLeavesOf (pages_by R.node (R.seen source.old)) most rows feature
+        place.now track.now pages)
+        (λ _. Walks (pages_by R.node (R.seen source.old)) most rows feature place.now track.now
+        survey.old survey.new)
+        (R.seen source.old) (R.seen source.new) result }
 {
     let mut walk = Walk {
         feature,
@@ -359,18 +317,14 @@ pub fn walk_all<R: LeafReader>(
     // A leaf has room for a leg.
     requires { 0 < most }
     // Over a faithful store the survey has the leaves of each feature's chain, and the ordinals of
-    // their legs.
-    ensures surveyed { IfOk result (λ survey. IsTrue (R.seen source.old).store.is_faithful
-        → Surveys (pages_by R.node (R.seen source.old)) most rows places.now
-        tracks.now.tracks survey) }
-    // If all chains are whole, it fails only if memory runs out or the store fails.
-    ensures only { IsTrue (R.seen source.old).store.is_faithful → length places.now < 2 ^ 32
-        → (chains : List (List ℕ))
-        → AreChains (pages_by R.node (R.seen source.old)) most rows 0 places.now
-        tracks.now.tracks chains
-        → IfErr result MayRefuseRead }
-    // No payload changes. `Store` is returned only if the store failed.
-    ensures reads { Reads (R.seen source.old) (R.seen source.new) result }
+    // their legs. If all chains are whole, it fails only if memory runs out or the store fails.
+    ensures { FindsPages
+        ((length places.now < 2 ^ 32) × (chains : List (List ℕ))
+        × AreChains (pages_by R.node (R.seen source.old)) most rows 0 places.now tracks.now.tracks
+        chains)
+        (λ survey. Surveys (pages_by R.node (R.seen source.old)) most rows places.now
+        tracks.now.tracks survey)
+        (R.seen source.old) (R.seen source.new) result }
 {
     let mut survey = Survey {
         ordinals: Vec::new(alloc),

@@ -1,5 +1,5 @@
 //! The legs of a lent store of version 1.
-ghost use Rattle.std.specs.Prelude.{◌≡◌, ◌≢◌, ◌+◌, ◌-◌, ◌<◌, List, Some, None, IfOk, IfErr, IsTrue, OnOk};
+ghost use Rattle.std.specs.Prelude.{◌≡◌, ◌≢◌, ◌+◌, ◌<◌, List, Some, None, IfOk, IfErr, IsTrue, OnOk};
 ghost use Rattle.legs.specs.Index.{MayRefuseLeg};
 ghost use Rattle.legs.specs.Legs.{LegView};
 ghost use Rattle.legs.specs.declared.index.IndexFault.{IndexFault};
@@ -8,13 +8,13 @@ ghost use Rattle.pagecache.specs.Cache.{fresh, payload_of};
 ghost use Rattle.version1.specs.OldForm.{old_node_of};
 ghost use Rattle.treecheck.specs.Check.{HoldChains};
 ghost use Rattle.tbtree.specs.Faults.{MayRefuseRead, NamesEach, RefusesRead};
-ghost use Rattle.tbtree.specs.Turn.{ComeInTurn, IsRising};
+ghost use Rattle.tbtree.specs.Turn.{IsRising};
 ghost use Rattle.tbtree.specs.Descent.{legs_in};
 ghost use Rattle.treecheck.specs.Checking.{Agree};
-ghost use Rattle.chains.specs.Reads.{Reads};
 ghost use Rattle.version1.specs.Migrating.{IsReady, TakesFrom, TakesLegs};
 ghost use Rattle.version1.specs.OldLegs.{unsealing, AreAmong, AreOpened, AreReadable, AreSurveyed, HaveEachOf, HaveLegsOf, IsNumbered, IsReadable, Opens, StandByOrdinal};
-ghost use Rattle.treecheck.specs.Walking.{after, pages_by, IsNextNode, Notes};
+ghost use Rattle.treecheck.specs.Finding.{FindsPages};
+ghost use Rattle.treecheck.specs.Walking.{pages_by, TakesNext};
 ghost use Rattle.treecheck.specs.declared.walking.Met.{Met};
 
 use crate::old_form::{OldLeaf, old_leaf};
@@ -86,19 +86,8 @@ fn take_old_payload(
     rows: u64,
     survey: &mut Survey,
 ) -> Result<bool, AllocError>
-    ensures next { IfOk result (λ whole. IsTrue whole
-        → IsNextNode most walk.old (old_node_of payload.now)) }
-    ensures turn { IfOk result (λ whole. IsTrue whole
-        → ComeInTurn walk.old.feature rows walk.old.last
-        (legs_in (Some (old_node_of payload.now)))) }
-    ensures walk { IfOk result (λ whole. IsTrue whole
-        → walk.new ≡ after most walk.old (Some (old_node_of payload.now))) }
-    ensures noted { IfOk result (λ whole. IsTrue whole
-        → Notes (Some (old_node_of payload.now)) walk.old.page survey.old survey.new) }
-    ensures whole { IfOk result (λ whole. IsNextNode most walk.old (old_node_of payload.now)
-        → ComeInTurn walk.old.feature rows walk.old.last
-        (legs_in (Some (old_node_of payload.now)))
-        → IsTrue whole) }
+    ensures { TakesNext most rows (old_node_of payload.now) walk.old walk.new survey.old
+        survey.new result }
 {
     match old_leaf(payload) {
         Some(leaf) => take_next(&leaf, walk, most, rows, survey),
@@ -155,14 +144,13 @@ fn survey_leaves<S: PageStore>(
     rows: u64,
 ) -> Result<Survey, TreeFault>
     requires { 0 < most }
-    ensures surveyed { IfOk result (λ survey. IsTrue (S.seen store.old).is_faithful
-        → AreSurveyed (pages_by old_node_of (fresh (S.seen store.old) 1)) most rows
-        tracks.now.legs places.now tracks.now.tracks survey.leaves.items) }
-    ensures only { IfErr result (λ fault. IsTrue (S.seen store.old).is_faithful
-        → Agree tracks.now rows tracks.now.legs → (legs : List LegView)
-        → HoldChains (pages_by old_node_of (fresh (S.seen store.old) 1)) most rows tracks.now.legs
-        places.now tracks.now.tracks legs → MayRefuseRead fault) }
-    ensures reads { Reads (fresh (S.seen store.old) 1) (fresh (S.seen store.new) 1) result }
+    ensures { FindsPages
+        (Agree tracks.now rows tracks.now.legs × (legs : List LegView)
+        × HoldChains (pages_by old_node_of (fresh (S.seen store.old) 1)) most rows tracks.now.legs
+        places.now tracks.now.tracks legs)
+        (λ survey. AreSurveyed (pages_by old_node_of (fresh (S.seen store.old) 1)) most rows
+        tracks.now.legs places.now tracks.now.tracks survey.leaves.items)
+        (fresh (S.seen store.old) 1) (fresh (S.seen store.new) 1) result }
 {
     let legs = tracks.leg_count();
     let mut survey = walk_all::<Lent<S>>(alloc, store, most, rows, places, tracks)?;

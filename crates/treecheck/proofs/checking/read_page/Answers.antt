@@ -1,5 +1,8 @@
 use Rattle.std.proofs.Common.{rules}
 use Rattle.treecheck.proofs.checking.read_page.Goals as goal
 
-pub returns-in-Err-clause-reads : goal.returns-in-Err-clause-reads
-returns-in-Err-clause-reads g c = record { only = search rules; caused = search rules }
+pub returns-in-Ok : goal.returns-in-Ok
+returns-in-Ok g c = record { found = search rules; only = λ fa held. tt; reads = record { only = search rules; caused = tt } }
+
+pub returns-in-Err : goal.returns-in-Err
+returns-in-Err g c = record { found = λ fa. tt; only = search rules; reads = record { only = search rules; caused = search rules } }

@@ -3,7 +3,8 @@ use Rattle.std.proofs.lemmas.Bool.{cases_lt}
 use Rattle.std.proofs.lemmas.Result.{err_from_is_err_and}
 use Rattle.std.specs.List.{flat_map}
 use Rattle.tbtree.specs.Nodes.{pages_of_cache}
-use Rattle.chains.proofs.ReadLemmas.{reads_refused, reads_trans}
+use Rattle.chains.proofs.ReadLemmas.{reads_trans}
+use Rattle.treecheck.proofs.FindLemmas.{fails, gives}
 use Rattle.treecheck.proofs.WalkedLemmas.{same_pages}
 use Rattle.treecheck.proofs.SpanLemmas.{Level, level_at, span_down, width_above, level_is}
 use Rattle.treecheck.specs.Levels.{named_by, named_below, AllStandAbove}
@@ -35,17 +36,17 @@ below height level = height - (level + 1)
 abbrev AreAbove : Pages LegView BoxView → List Met → Level → Type 0
 AreAbove nodes leaves level = AllStandAbove nodes level.height level.width level.span leaves level.pages
 
-pub returns-in_err-pages-clause-only : goal.returns-in_err-pages-clause-only
-returns-in_err-pages-clause-only g c = λ fa all.
+pub returns-in_err-pages : goal.returns-in_err-pages
+returns-in_err-pages g c =
     let p = err_from_is_err_and c.from_residual-in_err-pages.result c.from_residual-in_err-pages.ensures.1 in
     let old = c.args.cache.now in
     let inv = c.loop-level.invariant in
     let level = c.loop-level.level in
     let n : level + suc (below c.args.height level) ≡ c.args.height = omega (arith, c.loop-level-test.true) in
-    let before = (goal.at.returns-in_err-pages-clause-only g c).After-deref in
+    let before = (goal.at.returns-in_err-pages g c).After-deref in
+    rw (p.1, p.2) (fails old c.loop-level.cache c.level_below.new.cache _ inv.reads (λ fa all.
     let here = subst (AreAbove (pages_of_cache old) c.args.leaves.now) (sym (level_read g before fa (below c.args.height level) level n refl)) (all (below c.args.height level) level n) in
-    rw (p.1, p.2) (c.in_err-pages.ensures.only (inv.reads.store.faithful ∙ fa)
-    (subst (λ nodes. AreAbove nodes c.args.leaves.now (read_level g before)) (sym (same_pages old c.loop-level.cache inv.reads fa)) here))
+    subst (λ nodes. AreAbove nodes c.args.leaves.now (read_level g before)) (sym (same_pages old c.loop-level.cache inv.reads fa)) here) c.in_err-pages.ensures)
 
 pub loop-level-preserved : goal.loop-level-preserved
 loop-level-preserved g c =
@@ -59,7 +60,7 @@ loop-level-preserved g c =
       pages = λ fa.
           let same = same_pages old c.loop-level.cache inv.reads fa in
           let next : suc level ≡ level + 1 = omega arith in
-          c.in_ok-pages.ensures.named (inv.reads.store.faithful ∙ fa)
+          (c.in_ok-pages.ensures.found (inv.reads.store.faithful ∙ fa)).1
           ∙ ap (λ nodes. flat_map (named_by nodes) c.deref.result.now) same
           ∙ ap (flat_map (named_by nodes)) (c.deref.ensures.value ∙ inv.pages fa)
           ∙ ap (named_below nodes c.args.root) next;
@@ -69,15 +70,10 @@ loop-level-preserved g c =
           (λ (b : level ≤ n).
           let before = (goal.at.loop-level-preserved g c).After-deref in
           subst (AreAbove nodes c.args.leaves.now) (level_read g before fa k n e (omega (arith, b, l)))
-          (subst (λ nodes. AreAbove nodes c.args.leaves.now (read_level g before)) (same_pages old c.loop-level.cache inv.reads fa) (c.in_ok-pages.ensures.above (inv.reads.store.faithful ∙ fa))))
+          (subst (λ nodes. AreAbove nodes c.args.leaves.now (read_level g before)) (same_pages old c.loop-level.cache inv.reads fa) ((c.in_ok-pages.ensures.found (inv.reads.store.faithful ∙ fa)).0)))
           (cases_lt n level);
     }
 
-pub returns-clause-stand : goal.returns-clause-stand
-returns-clause-stand g c = λ fa k n e.
-    c.loop-level.invariant.above fa k n e (omega (arith, e, c.loop-level-test.false))
-
-pub returns-in_err-pages-clause-reads : goal.returns-in_err-pages-clause-reads
-returns-in_err-pages-clause-reads g c =
-    let p = err_from_is_err_and c.from_residual-in_err-pages.result c.from_residual-in_err-pages.ensures.1 in
-    rw (p.1, p.2) (reads_refused c.args.cache.now c.loop-level.cache c.level_below.new.cache c.in_err-pages.field-0.0 c.loop-level.invariant.reads c.in_err-pages.ensures.reads)
+pub returns : goal.returns
+returns g c =
+    gives c.args.cache.now c.loop-level.cache _ c.loop-level.invariant.reads (λ fa k n e. c.loop-level.invariant.above fa k n e (omega (arith, e, c.loop-level-test.false)))

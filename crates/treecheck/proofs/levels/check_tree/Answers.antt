@@ -6,6 +6,8 @@ use Rattle.treecheck.specs.declared.walking.Met.{Met}
 use Rattle.tbtree.specs.declared.tree.TbTree.{TbTree}
 use Rattle.treecheck.proofs.LevelsLemmas.{first_leaf}
 use Rattle.boxsearch.proofs.ResultLemmas.{on_ok}
+use Rattle.chains.proofs.ReadLemmas.{reads_refl}
+use Rattle.treecheck.proofs.FindLemmas.{gives, malformed}
 use Rattle.treecheck.proofs.StandLemmas.{stands_over, stands_empty, height_of, levels_of}
 use Rattle.treecheck.proofs.levels.check_tree.Given as given
 use Rattle.treecheck.proofs.levels.check_tree.Goals as goal
@@ -43,33 +45,32 @@ is_high g c =
       ];
     }
 
-pub returns-clause-over : goal.returns-clause-over
-returns-clause-over g c = λ fa met within.
+pub returns : goal.returns
+returns g c =
+    let nodes = pages_of_cache c.args.cache.now in
     let tree = c.args.tree.now in
     let leaves = c.args.leaves.now in
+    let h = tree.levels - 1 in
     let k = is_high g c in
-    on_ok c.check_levels.result
-    (λ stand. stands_over (pages_of_cache c.args.cache.now) tree leaves (tree.levels - 1) k.has.levels_are k.has.some k.has.leaves_are met k.high k.top
-    (subst (λ n. LevelsStandAbove (pages_of_cache c.args.cache.now) n (tree.levels - 1) tree.root leaves) k.has.inner_is stand) within)
-    (c.check_levels.ensures.stand fa)
+    record {
+      found = λ fa. on_ok c.check_levels.result
+          (λ stand met within. stands_over nodes tree leaves h k.has.levels_are k.has.some k.has.leaves_are met k.high k.top (subst (λ n. LevelsStandAbove nodes n h tree.root leaves) k.has.inner_is stand) within)
+          (c.check_levels.ensures.found fa);
+      only = λ fa so. c.check_levels.ensures.only fa (subst (λ n. LevelsStandAbove nodes n h tree.root leaves) (sym k.has.inner_is) (levels_of nodes tree leaves h k.has.levels_are k.has.some k.has.leaves_are so.0 so.1.pages so.1.is_over));
+      reads = c.check_levels.ensures.reads;
+    }
 
-pub returns-then-tree-eq0-clause-over : goal.returns-then-tree-eq0-clause-over
-returns-then-tree-eq0-clause-over g c = λ fa met within.
-    stands_empty (pages_of_cache c.args.cache.now) c.args.tree.now c.args.leaves.now (sym (c.if-leaves-from.false ∙ c.from.ensures)) c.if-tree-eq0.true c.if-tree-ne0.false c.if-tree-ne0-2.false
+pub returns-then-tree-eq0 : goal.returns-then-tree-eq0
+returns-then-tree-eq0 g c =
+    gives c.args.cache.now c.args.cache.now _ (reads_refl c.args.cache.now) (λ fa met within.
+    stands_empty (pages_of_cache c.args.cache.now) c.args.tree.now c.args.leaves.now (sym (c.if-leaves-from.false ∙ c.from.ensures)) c.if-tree-eq0.true c.if-tree-ne0.false c.if-tree-ne0-2.false)
 
-pub returns-in_default-clause-only : goal.returns-in_default-clause-only
-returns-in_default-clause-only g c = λ fa met pages over.
+pub returns-in_default : goal.returns-in_default
+returns-in_default g c =
+    malformed c.args.cache.now c.args.cache.now 0 (reads_refl c.args.cache.now) (λ fa so.
     let tree = c.args.tree.now in
     let leaves = c.args.leaves.now in
     let h = tree.levels - 1 in
     let k = has_levels tree leaves c.from-inner.result c.if-tree-eq0.false (c.from-inner.ensures ∙ c.inner.ensures.value) c.inner.ensures.range.least_inner (sym (c.if-leaves-from.false ∙ c.from.ensures)) in
-    let high = height_of (pages_of_cache c.args.cache.now) tree leaves h k.levels_are k.some k.leaves_are met pages over in
-    true≢false (sym (c.in_default.ensures.none (subst (λ n. IsHeight n (length leaves) h) (sym k.inner_is) high)))
-
-pub returns-clause-only : goal.returns-clause-only
-returns-clause-only g c = λ fa met pages over.
-    let nodes = pages_of_cache c.args.cache.now in
-    let tree = c.args.tree.now in
-    let h = tree.levels - 1 in
-    let k = (is_high g c).has in
-    c.check_levels.ensures.only fa (subst (λ n. LevelsStandAbove nodes n h tree.root c.args.leaves.now) (sym k.inner_is) (levels_of nodes tree c.args.leaves.now h k.levels_are k.some k.leaves_are met pages over))
+    let high = height_of (pages_of_cache c.args.cache.now) tree leaves h k.levels_are k.some k.leaves_are so.0 so.1.pages so.1.is_over in
+    true≢false (sym (c.in_default.ensures.none (subst (λ n. IsHeight n (length leaves) h) (sym k.inner_is) high))))

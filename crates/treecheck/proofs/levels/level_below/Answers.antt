@@ -6,9 +6,10 @@ use Rattle.std.proofs.lemmas.List.{take_all}
 use Rattle.std.specs.List.{flat_map}
 use Rattle.legs.specs.Blocks.{block}
 use Rattle.tbtree.specs.Nodes.{pages_of_cache}
-use Rattle.chains.proofs.ReadLemmas.{reads_refused, reads_trans}
+use Rattle.chains.proofs.ReadLemmas.{reads_trans}
 use Rattle.boxsearch.proofs.PushLemmas.{some_same}
 use Rattle.boxsearch.proofs.SameLemmas.{flat_more}
+use Rattle.treecheck.proofs.FindLemmas.{fails, gives}
 use Rattle.treecheck.proofs.WalkedLemmas.{as_after, as_before, same_pages}
 use Rattle.std.proofs.Common.{ℕ, List}
 use Rattle.legs.specs.Boxes.{BoxView}
@@ -44,9 +45,9 @@ loop-i-preserved g c =
       named = λ fa.
           let next : i + 1 ≡ suc i = omega arith in
           flat_more (named_by (pages_of_cache old)) pages i (i + 1) page c.loop-i.below.items c.take_page.new.below.items (named_by (pages_of_cache c.loop-i.cache) page) (is_asked g before) next
-          (ap (λ nodes. named_by nodes page) (same_pages old c.loop-i.cache inv.reads fa)) (c.in_ok-take_page.ensures.pushed (inv.reads.store.faithful ∙ fa)) (inv.named fa);
+          (ap (λ nodes. named_by nodes page) (same_pages old c.loop-i.cache inv.reads fa)) ((c.in_ok-take_page.ensures.found (inv.reads.store.faithful ∙ fa)).1) (inv.named fa);
       above = λ fa j p l e.
-          let here = as_before _ _ inv.reads fa _ _ c.block-under.ensures (IsOver g before) (c.in_ok-take_page.ensures.above (inv.reads.store.faithful ∙ fa)) in
+          let here = as_before _ _ inv.reads fa _ _ c.block-under.ensures (IsOver g before) ((c.in_ok-take_page.ensures.found (inv.reads.store.faithful ∙ fa)).0) in
           ⊎_elim
           (λ (k : j < i). inv.above fa j p k e)
           (λ (k : i ≤ j).
@@ -57,23 +58,18 @@ loop-i-preserved g c =
           (cases_lt j i);
     }
 
-pub returns-in_err-take_page-clause-only : goal.returns-in_err-take_page-clause-only
-returns-in_err-take_page-clause-only g c = λ fa all.
+pub returns-in_err-take_page : goal.returns-in_err-take_page
+returns-in_err-take_page g c =
     let p = err_from_is_err_and c.from_residual.result c.from_residual.ensures.1 in
-    let before = (goal.at.returns-in_err-take_page-clause-only g c).After-block-under in
+    let before = (goal.at.returns-in_err-take_page g c).After-block-under in
     let inv = c.loop-i.invariant in
-    rw (p.1, p.2) (c.in_err-take_page.ensures.only (inv.reads.store.faithful ∙ fa) (as_after _ _ inv.reads fa _ _ c.block-under.ensures (IsOver g before) (all c.loop-i.i (asked g before) (is_asked g before))))
+    rw (p.1, p.2) (fails c.args.cache.now c.loop-i.cache c.take_page.new.cache _ inv.reads
+    (λ fa all. as_after _ _ inv.reads fa _ _ c.block-under.ensures (IsOver g before) (all c.loop-i.i (asked g before) (is_asked g before))) c.in_err-take_page.ensures)
 
-pub returns-clause-above : goal.returns-clause-above
-returns-clause-above g c = λ fa j p e.
-    let w = slice_get_within c.args.pages.now j p e in
-    c.loop-i.invariant.above fa j p (omega (arith, w, c.loop-i-test.false)) e
-
-pub returns-clause-named : goal.returns-clause-named
-returns-clause-named g c = λ fa.
-    c.loop-i.invariant.named fa ∙ ap (flat_map (named_by (pages_of_cache c.args.cache.now))) (take_all c.loop-i.i c.args.pages.now c.loop-i-test.false)
-
-pub returns-in_err-take_page-clause-reads : goal.returns-in_err-take_page-clause-reads
-returns-in_err-take_page-clause-reads g c =
-    let p = err_from_is_err_and c.from_residual.result c.from_residual.ensures.1 in
-    rw (p.1, p.2) (reads_refused c.args.cache.now c.loop-i.cache c.take_page.new.cache c.in_err-take_page.field-0.0 c.loop-i.invariant.reads c.in_err-take_page.ensures.reads)
+pub returns : goal.returns
+returns g c =
+    let inv = c.loop-i.invariant in
+    gives c.args.cache.now c.loop-i.cache c.loop-i.below inv.reads (λ fa. (
+      λ j p e. (let w = slice_get_within c.args.pages.now j p e in inv.above fa j p (omega (arith, w, c.loop-i-test.false)) e),
+      inv.named fa ∙ ap (flat_map (named_by (pages_of_cache c.args.cache.now))) (take_all c.loop-i.i c.args.pages.now c.loop-i-test.false),
+    ))

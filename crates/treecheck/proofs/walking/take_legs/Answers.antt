@@ -1,16 +1,36 @@
-use Rattle.std.proofs.Common.{◌≡◌, ◌+◌, ◌∷◌, [], ◌++◌, drop, map, sym, ap, ◌∙◌, subst, append_assoc}
+use Rattle.std.proofs.Common.{refl, arith, ◌≡◌, ◌+◌, ◌∷◌, [], ◌++◌, drop, map, sym, ap, ◌∙◌, subst, append_assoc}
+use Rattle.std.proofs.lemmas.Bool.{true≢false}
+use Rattle.std.proofs.lemmas.List.{append-nil, drop_all}
 use Rattle.tbtree.specs.Turn.{last_leg, ComeInTurn}
 use Rattle.treecheck.proofs.WalkLemmas.{drop_at, turn_next, turn_first, turn_rest}
 use Rattle.treecheck.proofs.walking.take_legs.Goals as goal
 
-pub returns-then-not-is_next_leg-clause-whole : goal.returns-then-not-is_next_leg-clause-whole
-returns-then-not-is_next_leg-clause-whole g c = λ h.
+pub returns-then-not-is_next_leg : goal.returns-then-not-is_next_leg
+returns-then-not-is_next_leg g c = record {
+  taken = λ t. absurd (true≢false (sym t));
+  whole = λ h.
+      let legs = (g.L.AnyLeaf.says c.args.leaf.now).legs in
+      let leg = c.leg-leg.result in
+      let d = drop_at legs c.loop-i.i leg c.leg-leg.ensures in
+      let rest = subst (ComeInTurn c.args.feature c.args.rows c.loop-i.last) d (c.loop-i.invariant.back h) in
+      let fits = turn_first c.args.feature c.args.rows c.loop-i.last leg (drop (c.loop-i.i + 1) legs) rest in
+      sym c.if-not-is_next_leg.true ∙ c.is_next_leg.ensures.1 fits;
+}
+
+pub returns : goal.returns
+returns g c =
     let legs = (g.L.AnyLeaf.says c.args.leaf.now).legs in
-    let leg = c.leg-leg.result in
-    let d = drop_at legs c.loop-i.i leg c.leg-leg.ensures in
-    let rest = subst (ComeInTurn c.args.feature c.args.rows c.loop-i.last) d (c.loop-i.invariant.back h) in
-    let fits = turn_first c.args.feature c.args.rows c.loop-i.last leg (drop (c.loop-i.i + 1) legs) rest in
-    sym c.if-not-is_next_leg.true ∙ c.is_next_leg.ensures.1 fits
+    let last = c.loop-i.last in
+    let items = c.loop-i.ordinals.items in
+    let inv = c.loop-i.invariant in
+    let end : drop c.loop-i.i legs ≡ [] = drop_all c.loop-i.i legs (omega (arith, c.loop-i-test.false, c.len-i-end.ensures.value)) in
+    record {
+      taken = λ t. (
+        inv.on (subst (ComeInTurn c.args.feature c.args.rows last) (sym end) tt),
+        (ap (last_leg last) (sym end) ∙ inv.last, sym (append-nil items) ∙ ap (λ l. items ++ map (λ leg. leg.ordinal) l) (sym end) ∙ inv.ordinals),
+      );
+      whole = λ h. refl;
+    }
 
 pub loop-i-preserved : goal.loop-i-preserved
 loop-i-preserved g c =

@@ -50,7 +50,7 @@ listed g c fa =
     let tracks = c.args.tracks.now.tracks in
     let nodes = pages_by old_node_of (fresh first 1) in
     let leaves = c.in-Ok.survey.leaves.items in
-    let s = c.in-Ok.ensures.surveyed fa in
+    let s = c.in-Ok.ensures.found fa in
     let list = sort_by_ordinal (legs_on nodes (joined s.chains)) in
     let n : IsPermutation (legs_on nodes (joined s.chains)) list × (map (λ leg. leg.ordinal) list ≡ range_with_len 0 total) = (sort_moves (legs_on nodes (joined s.chains)), numbered (legs_on nodes (joined s.chains)) total s.once) in
     let held : HoldChains nodes c.args.most c.args.rows total places tracks list = held_list nodes c.args.most c.args.rows total places tracks leaves s n in
@@ -98,7 +98,7 @@ returns-in-Err g c =
       brought = tt;
       only = λ r agrees legs held.
           let there = subst (λ nodes. HoldChains nodes c.args.most c.args.rows c.args.tracks.now.legs c.args.places.now c.args.tracks.now.tracks legs) (sym (same_old first (g.met.S.PageStore.lawful c.args.old.now) r.faithful)) held in
-          subst MayRefuseLeg (sym c.of_tree.ensures) (allowed_leg c.in-Err.fault (c.in-Err.ensures.only r.faithful agrees legs there));
+          subst MayRefuseLeg (sym c.of_tree.ensures) (allowed_leg c.in-Err.fault (c.in-Err.ensures.only r.faithful (agrees, legs, there)));
       marked = λ r marked. marked;
       takes = record {
         stays = stays_read first mid (g.met.S.PageStore.lawful c.args.old.now) (g.met.S.PageStore.lawful c.survey_leaves.new.store) c.survey_leaves.ensures.reads.only;
