@@ -15,8 +15,7 @@ use Rattle.predicates.specs.declared.Predicate.{Predicate}
 use Rattle.predicates.specs.Predicates.{Holds}
 use Rattle.writer.specs.Entries.{NamedLegView}
 use Rattle.trajdb.specs.Picks.{Picks}
-use Rattle.trajdb.specs.Answers.{HoldsOfFeature, feature_name, track_of}
-use Rattle.together.specs.Laws.{PicksFeatures}
+use Rattle.trajdb.specs.Answers.{HoldsOfFeature, PicksFeatures, feature_name, track_of}
 use Rattle.together.specs.Parts.{IsPartOf, IsTold, is_in, own_legs, own_names}
 use Rattle.together.specs.Told.{all_told, bare, told}
 use Rattle.together.proofs.ListLemmas.{picks-agree, picks-filter, picks-map, picks-same}

@@ -13,10 +13,10 @@ use Rattle.querylang.specs.Line.{line_command}
 use Rattle.querylang.specs.declared.LineCode.{LineCode}
 use Rattle.querylang.specs.declared.Command.{Command}
 use Rattle.querylang.specs.declared.Command.TheVariants.{Count, Box, Legs, Features, Trajectory}
-use Rattle.trajdb.specs.Answers.{IsAnswer, IsFeaturesAnswer, IsLegsAnswer, IsLineText, IsSaid, legs_text, feature_name, track_of}
+use Rattle.trajdb.specs.Answers.{IsAnswer, IsFeaturesAnswer, IsLegsAnswer, IsLineText, IsSaid, count_text, legs_text, feature_name, track_of}
 use Rattle.together.specs.Laws.{AnswerTogether, CountsTogether, LegsTogether, NamesTogether, SayTogether}
 use Rattle.together.specs.Parts.{ArePartsOf, own_legs}
-use Rattle.together.specs.Told.{told, told_count_text, told_names_text, told_text}
+use Rattle.together.specs.Told.{told, told_names_text, told_text}
 use Rattle.together.proofs.CountLemmas.{count_law}
 use Rattle.together.proofs.FeatureLemmas.{features_law}
 use Rattle.together.proofs.NamedLemmas.{trajectory_law}
@@ -66,14 +66,14 @@ features_together f n whole parts predicate rect period text own are says own_sa
 }
 
 counts_together : (f : List ℕ → ℕ) (n : ℕ) (whole : Book) (parts : ℕ → Book) (text : List ℕ) (own : ℕ → List ℕ) → ArePartsOf f n whole parts
-    → text ≡ told_count_text (length whole.legs) (length whole.names) → ((k : ℕ) → k < n → own k ≡ told_count_text (length (parts k).legs) (length (parts k).names))
+    → text ≡ count_text (length whole.legs) (length whole.names) → ((k : ℕ) → k < n → own k ≡ count_text (length (parts k).legs) (length (parts k).names))
     → CountsTogether f n text own
 counts_together f n whole parts text own are says own_says =
     let sums = count_law f n whole parts are in
     record {
       legs = λ k. length (parts k).legs;
       features = λ k. length (parts k).names;
-      whole = says ∙ ap (λ legs. told_count_text legs (length whole.names)) sums.0 ∙ ap (told_count_text (sum_by (λ k. length (parts k).legs) (range_with_len 0 n))) sums.1;
+      whole = says ∙ ap (λ legs. count_text legs (length whole.names)) sums.0 ∙ ap (count_text (sum_by (λ k. length (parts k).legs) (range_with_len 0 n))) sums.1;
       each = own_says;
     }
 

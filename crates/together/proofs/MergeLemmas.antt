@@ -9,14 +9,14 @@ use Rattle.std.proofs.lemmas.List.Elements.{All-head, All-tail}
 use Rattle.std.proofs.lemmas.List.Sorted.{IsPermutation-append_right, IsPermutation-cons, IsPermutation-middle, IsPermutation-refl, IsPermutation-sym, IsPermutation-trans}
 use Rattle.legs.specs.Index.{legs_in_box}
 use Rattle.writer.specs.Entries.{NamedLegView}
-use Rattle.trajdb.specs.Answers.{feature_name, HoldsOfLeg}
+use Rattle.trajdb.specs.Answers.{feature_name, HoldsOfLeg, PicksFeatures}
 use Rattle.timebase.specs.Period.{PeriodView}
 use Rattle.legs.specs.Legs.{LegView}
 use Rattle.legs.specs.Boxes.{BoxView, RectView}
 use Rattle.legs.specs.Book.{Book}
 use Rattle.predicates.specs.declared.Predicate.{Predicate}
 use Rattle.trajdb.specs.Picks.{Picks}
-use Rattle.together.specs.Laws.{LegsMerge, NamesMerge, PicksFeatures}
+use Rattle.together.specs.Laws.{LegsMerge, NamesMerge}
 use Rattle.together.specs.Parts.{ArePartsOf, own_legs, own_names}
 use Rattle.together.specs.Told.{told}
 use Rattle.together.proofs.FeatureLemmas.{features_law, range_within}

@@ -16,8 +16,8 @@ use Rattle.querylang.specs.declared.LineCode.{LineCode}
 use Rattle.querylang.specs.declared.Command.{Command}
 use Rattle.querylang.specs.declared.Command.TheVariants.{Load}
 use Rattle.trajdb.specs.Answers.{AcceptsLine, AcceptsNamed, AcceptsSaid, IsLineText, book_by, book_with, counts_of, counts_or, joined_counts, line_book, load_of, named_book, said_book}
-use Rattle.trajdb.specs.Files.{file_named}
-use Rattle.trajdb.specs.Run.{IsRunText}
+use Rattle.trajdb.specs.Script.{file_named}
+use Rattle.trajdb.specs.Run.{AnswersLine, DoesAll}
 use Rattle.trajdb.specs.declared.Counts.{Counts}
 use Rattle.together.specs.Loading.{IsPartText, Takes}
 use Rattle.together.specs.Parts.{ArePartsOf}
@@ -119,20 +119,23 @@ module _ (n : ℕ) (limits : LimitsView) (own_limits : ℕ → LimitsView) (whol
     line_keeps line agree = said_keeps (line_command line) agree
 
 pub script_law : ScriptLaw
-script_law n limits own_limits files own_files whole parts [] text own are have agree says own_says = ((says, own_says), are)
-script_law n limits own_limits files own_files whole parts (line ∷ lines) text own are have agree says own_says =
-    let P : ℕ → List ℕ × List ℕ → Type 0 = λ k p. (own k ≡ p.0 ++ p.1) × IsLineText (own_limits k) (own_files k) (parts k) line p.0 × IsRunText (own_limits k) (own_files k) (line_book (own_limits k) (own_files k) (parts k) line) lines p.1 in
-    let g : (h : ℕ → List ℕ × List ℕ) × ((k : ℕ) → k < n → P k (h k)) = choose n ([], []) P (λ k less. let s = own_says k less in ((s.0, s.1), (s.2, s.3, s.4))) in
-    let more = script_law n limits own_limits files own_files (line_book limits files whole line) (λ k. line_book (own_limits k) (own_files k) (parts k) line) lines says.1 (λ k. (g.0 k).1)
-    (line_keeps n limits own_limits whole parts are files own_files have line agree.0) have agree.1 says.4 (λ k less. (g.1 k less).2) in (
+script_law n limits own_limits files own_files whole after parts own_after [] text own are have agree says own_says =
+    ((says.1, λ k less. (own_says k less).1), same_parts n whole after parts own_after says.0 (λ k less. (own_says k less).0) are)
+script_law n limits own_limits files own_files whole after parts own_after (line ∷ lines) text own are have agree (mid, first, others, is, said, rest) own_says =
+    let own_mid : ℕ → Book = λ k. line_book (own_limits k) (own_files k) (parts k) line in
+    let P : ℕ → List ℕ × List ℕ → Type 0 = λ k p. (own k ≡ p.0 ++ p.1) × IsLineText (own_limits k) (own_files k) (parts k) line p.0 × DoesAll (AnswersLine (own_limits k) (own_files k)) (own_mid k) (own_after k) lines p.1 in
+    let g : (h : ℕ → List ℕ × List ℕ) × ((k : ℕ) → k < n → P k (h k)) =
+    choose n ([], []) P (λ k less. let s = own_says k less in ((s.1, s.2), (s.3, s.4.0, subst (λ (b : Book). DoesAll (AnswersLine (own_limits k) (own_files k)) b (own_after k) lines s.2) s.4.1 s.5))) in
+    let more = script_law n limits own_limits files own_files (line_book limits files whole line) after own_mid own_after lines others (λ k. (g.0 k).1)
+    (line_keeps n limits own_limits whole parts are files own_files have line agree.0) have agree.1 (subst (λ (b : Book). DoesAll (AnswersLine limits files) b after lines others) said.1 rest) (λ k less. (g.1 k less).2) in (
       (
-        says.0,
-        says.1,
+        first,
+        others,
         λ k. (g.0 k).0,
         λ k. (g.0 k).1,
-        says.2,
+        is,
         λ k less. (g.1 k less).0,
-        line_law (part_of n) n whole parts limits own_limits files own_files line says.0 (λ k. (g.0 k).0) are says.3 (λ k less. (g.1 k less).1),
+        line_law (part_of n) n whole parts limits own_limits files own_files line first (λ k. (g.0 k).0) are said.0 (λ k less. (g.1 k less).1),
         more.0,
       ),
       more.1,

@@ -17,8 +17,8 @@ use Rattle.querylang.specs.declared.Command.{Command}
 use Rattle.querylang.specs.declared.Command.TheVariants.{Load, Count, Features, Write}
 use Rattle.writer.specs.Entries.{NamedLegView}
 use Rattle.trajdb.specs.Picks.{Picks}
-use Rattle.trajdb.specs.Answers.{HoldsOfLeg, HoldsOfFeature, IsLineText, legs_text, feature_name, names_text, track_of}
-use Rattle.together.specs.Told.{told, told_count_text, told_names_text, told_text}
+use Rattle.trajdb.specs.Answers.{HoldsOfLeg, IsLineText, PicksFeatures, count_text, legs_text, feature_name, names_text, track_of}
+use Rattle.together.specs.Told.{told, told_text, told_names_text}
 use Rattle.together.specs.Parts.{IsTold, own_legs, own_names}
 
 -- the text of an answer says what is told of its legs, and the names of its features
@@ -31,11 +31,6 @@ abbrev pub NamesText : Type 0
 NamesText =
     (book : Book) (features : List ℕ)
     → names_text book features ≡ told_names_text (map (feature_name book) features)
-
--- the picked are exactly the features of which the predicate holds, in the order of first acceptance
-abbrev pub PicksFeatures : Book → Predicate → RectView → PeriodView → List ℕ → Type 0
-PicksFeatures book predicate rect period picked =
-    Picks (HoldsOfFeature predicate rect period book.legs) (range_with_len 0 (length book.names)) picked
 
 -- what part k of a whole answers: what the whole does, of its own legs and names, in their order
 pub record PartAnswers (f : List ℕ → ℕ) (k : ℕ) (whole part : Book) : Type 0 where
@@ -92,8 +87,8 @@ module _ (f : List ℕ → ℕ) (n : ℕ) where
     pub legs : ℕ → ℕ
     pub features : ℕ → ℕ
     pub whole : text
-        ≡ told_count_text (sum_by legs (range_with_len 0 n)) (sum_by features (range_with_len 0 n))
-    pub each : (k : ℕ) → k < n → own k ≡ told_count_text (legs k) (features k)
+        ≡ count_text (sum_by legs (range_with_len 0 n)) (sum_by features (range_with_len 0 n))
+    pub each : (k : ℕ) → k < n → own k ≡ count_text (legs k) (features k)
 
   -- what a command answers; nothing is said here of `load`, whose counts and refusals have laws of their own, and of
   -- `write`

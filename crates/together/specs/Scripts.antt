@@ -5,8 +5,8 @@ use Rattle.legs.specs.Limits.{LimitsView}
 use Rattle.querylang.specs.Line.{line_command}
 use Rattle.parts.specs.Names.{part_of}
 use Rattle.trajdb.specs.Answers.{AcceptsLine, line_book}
-use Rattle.trajdb.specs.Files.{file_named}
-use Rattle.trajdb.specs.Run.{IsRunText, run_book}
+use Rattle.trajdb.specs.Script.{file_named}
+use Rattle.trajdb.specs.Run.{AnswersLine, DoesAll}
 use Rattle.together.specs.Laws.{SayTogether}
 use Rattle.together.specs.Loading.{IsPartText}
 use Rattle.together.specs.Parts.{ArePartsOf}
@@ -50,13 +50,13 @@ module _ (n : ℕ) (limits : LimitsView) (own_limits : ℕ → LimitsView)
 abbrev pub ScriptLaw : Type 0
 ScriptLaw =
     (n : ℕ) (limits : LimitsView) (own_limits : ℕ → LimitsView) (files : List (List ℕ × List ℕ))
-    (own_files : ℕ → List (List ℕ × List ℕ)) (whole : Book) (parts : ℕ → Book)
+    (own_files : ℕ → List (List ℕ × List ℕ)) (whole after : Book) (parts own_after : ℕ → Book)
     (lines : List (List ℕ)) (text : List ℕ) (own : ℕ → List ℕ)
     → ArePartsOf (part_of n) n whole parts
     → HaveParts n files own_files
     → LoadTogether n limits own_limits files own_files whole parts lines
-    → IsRunText limits files whole lines text
-    → ((k : ℕ) → k < n → IsRunText (own_limits k) (own_files k) (parts k) lines (own k))
+    → DoesAll (AnswersLine limits files) whole after lines text
+    → ((k : ℕ) → k < n
+    → DoesAll (AnswersLine (own_limits k) (own_files k)) (parts k) (own_after k) lines (own k))
     → RunTogether n limits own_limits files own_files whole parts lines text own
-    × ArePartsOf (part_of n) n (run_book limits files whole lines)
-    (λ k. run_book (own_limits k) (own_files k) (parts k) lines)
+    × ArePartsOf (part_of n) n after own_after

@@ -1,5 +1,5 @@
 -- What answers tell of a book's legs: all but the numbers that the book gives them.
-use Rattle.std.specs.Prelude.{ℕ, ◌∷◌, [], ◌++◌, List, length, map, slice_index_or, Option, decimal}
+use Rattle.std.specs.Prelude.{ℕ, [], ◌++◌, List, length, map, slice_index_or, Option}
 use Rattle.legs.specs.declared.head.BookHead.{BookHead}
 use Rattle.legs.specs.Legs.{LegView}
 use Rattle.legs.specs.Book.{Book}
@@ -35,7 +35,3 @@ told_text head entries = ok_text (length entries) ++ entries_text (book_frame he
 -- the answer of names
 abbrev pub told_names_text : List (List ℕ) → List ℕ
 told_names_text names = ok_text (length names) ++ features_text names
-
--- the answer of counts
-abbrev pub told_count_text : ℕ → ℕ → List ℕ
-told_count_text legs features = ok_text 1 ++ decimal legs ++ 44 ∷ [] ++ decimal features ++ 10 ∷ []

@@ -10,7 +10,7 @@ use Rattle.legs.specs.Book.{feature_named, feature_number}
 use Rattle.legs.specs.Index.{feature_count}
 use Rattle.legs.specs.Law.{IsName}
 use Rattle.legs.specs.Legs.{LegView}
-use Rattle.trajdb.specs.Checking.{AreNames, IsOwnName}
+use Rattle.trajdb.specs.Db.{AreNames, IsOwnName}
 
 -- names that are found at their numbers are distinct
 pub own_names : (names : List (List ℕ)) → ((f : ℕ) → f < length names → IsOwnName names f) → AreNames names

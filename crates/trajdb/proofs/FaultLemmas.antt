@@ -9,7 +9,7 @@ use Rattle.std.proofs.lemmas.List.Elements.{All-filter, All-nil, All-cons, All-h
 use Rattle.legs.proofs.GrowLemmas.{later-trans as index_later-trans, leaves-refl as index_leaves-refl, leaves-trans as index_leaves-trans}
 use Rattle.legs.specs.declared.listed.Listed.{Ghosts}
 use Rattle.trajdb.specs.declared.RunFault.{RunFault}
-use Rattle.trajdb.specs.declared.RunFault.TheVariants.{Memory, Store, Damaged, StoreFull, Failed, Output}
+use Rattle.trajdb.specs.declared.RunFault.TheVariants.{Memory, Damaged}
 use Rattle.std.specs.List.{range_with_len}
 use Rattle.timebase.specs.Period.{PeriodView}
 use Rattle.legs.specs.Costs.{ShapeView}
@@ -21,11 +21,8 @@ use Rattle.trajdb.specs.Calls.{IsLater, LeavesBook, feature_bound, features_boun
 -- a text that was not made, of what is there
 pub text_refused : {I : Type 0} (g : Ghosts I) (old new : CoreView I) (P : Type 0) (fault : RunFault) → IsText P fault → (IsSound g old → P) → IsRefused g old new fault
 text_refused g old new P Memory text there = record { sound = λ s. tt; store = tt }
-text_refused g old new P Store text there = absurd text
 text_refused g old new P (Damaged page) text there = record { sound = λ s. text.1 (there s); store = tt }
-text_refused g old new P StoreFull text there = absurd text
-text_refused g old new P Failed text there = absurd text
-text_refused g old new P Output text there = absurd text
+text_refused g old new P _ text there = absurd text
 
 pub later-trans : {I : Type 0} (g : Ghosts I) (a b c : CoreView I) → IsLater g a b → IsLater g b c → IsLater g a c
 later-trans g a b c p q = record {

@@ -6,7 +6,7 @@ use Rattle.std.specs.Map.{lookup}
 use Rattle.std.specs.String.{string_bytes, string_eq}
 use Rattle.std.proofs.lemmas.Bool.{cases_Bool}
 use Rattle.indexmap.specs.IndexMap.{insert_entry}
-use Rattle.trajdb.specs.Files.{file_named, files_with}
+use Rattle.trajdb.specs.Script.{file_named, files_with}
 
 -- a file as contracts see it
 abbrev pub seen : String Global × Vec ℕ Global → List ℕ × List ℕ

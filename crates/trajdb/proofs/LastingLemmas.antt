@@ -17,7 +17,7 @@ use Rattle.pages.specs.Store.{Store, IsLawful, IsSyncedButFirst}
 use Rattle.pagecache.specs.Cache.{IsSettled}
 use Rattle.catalogue.specs.Closing.{IsNoStoreFault}
 use Rattle.catalogue.specs.Closing as closing
-use Rattle.register.specs.declared.fault.CatalogueFault.TheVariants.{Memory, StoreFull, Damaged, Unfinished, Version, Malformed}
+use Rattle.register.specs.declared.fault.CatalogueFault.TheVariants.{Memory, StoreFull}
 use Rattle.legs.specs.Asking.{Leaves as IndexLeaves}
 use Rattle.trajdb.specs.Calls.{IsLoadFault, KeepsPages}
 use Rattle.trajdb.specs.Database.{catalogue_of, restored}
@@ -79,13 +79,9 @@ closed_then B P (Err e) h = tt
 -- a store that failed, or is full, in the closing
 pub closed_caused : (db : DbView) (s : Store) (answer : Result (Unit {0}) CatalogueFault) → IfErr answer (closing.IsClosingFault db.index.cache.store s) → IfErr (closed_answer answer) (IsClosingFault db s)
 closed_caused db s (Ok x) h = tt
-closed_caused db s (Err Memory) h = tt
 closed_caused db s (Err fault.Store) h = h
 closed_caused db s (Err StoreFull) h = h
-closed_caused db s (Err (Damaged page)) h = tt
-closed_caused db s (Err Unfinished) h = tt
-closed_caused db s (Err Version) h = tt
-closed_caused db s (Err Malformed) h = tt
+closed_caused db s (Err _) h = tt
 
 pub closed_ordered : (db : DbView) (s : Store) (answer : Result (Unit {0}) CatalogueFault) → OnErr answer (IsMarked db.index.cache → IsUnfinishedStore s ⊎ IsSyncedButFirst s)
     → OnErr (closed_answer answer) (db.failed ≡ false → IsMarked db.index.cache → IsUnfinishedStore s ⊎ IsSyncedButFirst s)
@@ -103,12 +99,8 @@ pub closed_unfinished_marked : (db : DbView) (s : Store) (answer : Result (Unit 
     → IfErr (closed_answer answer) (λ fault. IsFaultless fault → db.failed ≡ false → IsMarked db.index.cache → IsUnfinishedStore s)
 closed_unfinished_marked db s (Ok x) h = tt
 closed_unfinished_marked db s (Err Memory) h = λ f lives. h tt
-closed_unfinished_marked db s (Err fault.Store) h = λ f. absurd f
 closed_unfinished_marked db s (Err StoreFull) h = λ f lives. h tt
-closed_unfinished_marked db s (Err (Damaged n)) h = λ f. absurd f
-closed_unfinished_marked db s (Err Unfinished) h = λ f. absurd f
-closed_unfinished_marked db s (Err Version) h = λ f. absurd f
-closed_unfinished_marked db s (Err Malformed) h = λ f. absurd f
+closed_unfinished_marked db s (Err _) h = λ f. absurd f
 
 pub closed_unfinished : (db : DbView) (s : Store) (answer : Result (Unit {0}) CatalogueFault) → IfErr answer (λ fault. IsNoStoreFault fault → IsMarked db.index.cache → IsUnfinishedStore s)
     → db.begun ≡ true → IfErr (closed_answer answer) (λ fault. IsFaultless fault → IsSoundDb db → HasPages db → db.failed ≡ false → IsUnfinishedStore s)
@@ -125,7 +117,4 @@ closed_only db (Ok x) legs h = tt
 closed_only db (Err Memory) legs h = λ sound lives. tt
 closed_only db (Err fault.Store) legs h = λ sound lives. tt
 closed_only db (Err StoreFull) legs h = λ sound lives. tt
-closed_only db (Err (Damaged n)) legs h = λ sound lives. h sound.index db.book (own_book db sound) legs
-closed_only db (Err Unfinished) legs h = λ sound lives. h sound.index db.book (own_book db sound) legs
-closed_only db (Err Version) legs h = λ sound lives. h sound.index db.book (own_book db sound) legs
-closed_only db (Err Malformed) legs h = λ sound lives. h sound.index db.book (own_book db sound) legs
+closed_only db (Err _) legs h = λ sound lives. h sound.index db.book (own_book db sound) legs

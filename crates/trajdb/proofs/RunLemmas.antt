@@ -1,13 +1,14 @@
 -- Runs over lines, one after another.
-use Rattle.std.proofs.Common.{ℕ, zero, suc, ◌+◌, ◌≡◌, ◌∙◌, ◌++◌, ◌∷◌, [], ap, sym, refl, List, length, take, drop, map, arith, true, eqb, get_or, ◌<◌, inl, inr}
-use Rattle.std.specs.Prelude.{◌⊎◌}
+use Rattle.std.proofs.Common.{ℕ, zero, suc, ◌+◌, ◌≡◌, ◌∙◌, ◌++◌, ◌∷◌, [], ap, sym, subst, refl, List, length, take, drop, map, arith, true, eqb, get_or, ◌<◌, inl, inr, Result, Ok, Err}
+use Rattle.std.specs.Prelude.{◌⊎◌, IsTrue, OnErr, OnOk}
 use Rattle.std.proofs.lemmas.Bool.Decides.{nat_tests}
 use Rattle.std.proofs.lemmas.List.{append-nil, take-append-drop}
 use Rattle.legs.specs.Limits.{LimitsView}
+use Rattle.outputs.specs.Output.{HasRefused, IsFlushed, OutputView}
 use Rattle.legs.specs.Book.{Book}
 use Rattle.trajdb.specs.Script.{lines_of, pieces_of, without_return}
 use Rattle.trajdb.specs.Answers.{AcceptsLine, line_book}
-use Rattle.trajdb.specs.Run.{AcceptsSome, run_book}
+use Rattle.trajdb.specs.Run.{AcceptsSome, AnswersLine, DoesAll}
 
 -- named files
 abbrev pub Named : Type 0
@@ -47,14 +48,21 @@ pub nil_from_length : {X : Type 0} (xs : List X) → eqb (length xs) 0 ≡ true 
 nil_from_length [] e = refl
 nil_from_length (x ∷ xs) e = absurd (grind (arith, nat_tests))
 
+-- an output was flushed, or refused it
+pub flushed_or : {T E : Type 0} (r : Result T E) (a b : OutputView) → OnOk r (IsFlushed a b) → OnErr r (HasRefused a b) → IsTrue b.is_flushed ⊎ HasRefused a b
+flushed_or (Ok x) a b f h = inl f.flushed
+flushed_or (Err e) a b f h = inr h
+
 -- a line is accepted behind others
-pub accepts_last : (limits : LimitsView) (files : Named) (book : Book) (xs : List (List ℕ)) (y : List ℕ) → AcceptsSome limits files book xs ⊎ AcceptsLine limits files (run_book limits files book xs) y
+pub accepts_last : (limits : LimitsView) (files : Named) (book after : Book) (xs : List (List ℕ)) (y text : List ℕ) → DoesAll (AnswersLine limits files) book after xs text → AcceptsSome limits files book xs ⊎ AcceptsLine limits files after y
     → AcceptsSome limits files book (xs ++ y ∷ [])
-accepts_last limits files book [] y (inl h) = absurd h
-accepts_last limits files book [] y (inr a) = inl a
-accepts_last limits files book (x ∷ xs) y (inl (inl a)) = inl a
-accepts_last limits files book (x ∷ xs) y (inl (inr h)) = inr (accepts_last limits files (line_book limits files book x) xs y (inl h))
-accepts_last limits files book (x ∷ xs) y (inr a) = inr (accepts_last limits files (line_book limits files book x) xs y (inr a))
+accepts_last limits files book after [] y text (same, e) (inl h) = absurd h
+accepts_last limits files book after [] y text (same, e) (inr a) = inl (subst (λ (b : Book). AcceptsLine limits files b y) same a)
+accepts_last limits files book after (x ∷ xs) y text does (inl (inl a)) = inl a
+accepts_last limits files book after (x ∷ xs) y text (mid, first, others, e, said, rest) (inl (inr h)) =
+    inr (subst (λ (b : Book). AcceptsSome limits files b (xs ++ y ∷ [])) said.1 (accepts_last limits files mid after xs y others rest (inl (subst (λ (b : Book). AcceptsSome limits files b xs) (sym said.1) h))))
+accepts_last limits files book after (x ∷ xs) y text (mid, first, others, e, said, rest) (inr a) =
+    inr (subst (λ (b : Book). AcceptsSome limits files b (xs ++ y ∷ [])) said.1 (accepts_last limits files mid after xs y others rest (inr a)))
 
 -- what is accepted among the first lines is accepted among all
 pub accepts_of_take : (limits : LimitsView) (files : Named) (book : Book) (n : ℕ) (lines : List (List ℕ)) → AcceptsSome limits files book (take n lines) → AcceptsSome limits files book lines

@@ -45,9 +45,6 @@ module _ (old new : DbView) (keeps : KeepsPages words old new) (risen : old.inde
     by_state false idle true is = subst (IsSafe was) (sym (same is)) (inr u)
     by_state false idle false is = safe_after was old new risen u ((keeps.written sound.index.faithful pages).clean (pages.idle idle is))
 
-pub leaves_safe : (old new : DbView) → LeavesBook words old new → old.failed ≡ false → (was : Store) → IsSoundDb old → HasPages old → IsSafe was old → IsSafe was new
-leaves_safe old new leaves lives = keeps_safe old new (keeps_leaves words old new leaves) leaves.index.later.faults (λ failed. absurd (clash old.failed failed lives))
-
 -- what catalogues at rest stay over what a question leaves
 abbrev pub RestsStay : Type 0
 RestsStay = (c : CatalogueView) (a b : IndexView) → IsAtRest c a → IndexLeaves words a b → IsAtRest c b
@@ -58,7 +55,7 @@ keeps_store stay old new keeps later same = record { rests = keeps_idle stay old
 
 -- and so does a question
 pub leaves_store : RestsStay → (old new : DbView) → LeavesBook words old new → old.failed ≡ false → KeepsStore old new
-leaves_store stay old new leaves lives = record { rests = keeps_idle stay old new (keeps_leaves words old new leaves); safe = leaves_safe old new leaves lives }
+leaves_store stay old new leaves lives = keeps_store stay old new (keeps_leaves words old new leaves) leaves.index.later (λ failed. absurd (clash old.failed failed lives))
 
 -- the pages as written of a sound index are those of its store
 written_all : (i : IndexView) → IsSoundIndex i → IsLawful i.cache.store → written i ≡ i.cache.store.pages

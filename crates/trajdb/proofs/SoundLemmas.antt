@@ -1,11 +1,10 @@
 -- A database that passes a check is sound.
-use Rattle.std.proofs.Common.{ℕ, ◌≤◌, ◌≡◌, ◌∙◌, refl, sym, ap, arith, subst, true, false, List, [], ◌∷◌, length, Result, Ok, Err, All, IsTrue}
+use Rattle.std.proofs.Common.{ℕ, ◌≤◌, ◌≡◌, ◌∙◌, refl, sym, ap, arith, subst, true, false, List, [], ◌∷◌, length, All, IsTrue}
 use Rattle.legs.specs.Book.{Book}
 use Rattle.legs.specs.Index.{CanFollowInTurn}
 use Rattle.legs.specs.Law.{IsThere}
 use Rattle.legs.specs.Limits.{IsLimits}
 use Rattle.treecheck.specs.Checking.{AreTracksOf}
-use Rattle.std.specs.Prelude.{IfErr}
 use Rattle.legs.specs.Index.{MayRefuse}
 use Rattle.legs.specs.declared.index.IndexFault.{IndexFault}
 use Rattle.legs.specs.declared.index.IndexFault.TheVariants as index
@@ -19,8 +18,7 @@ use Rattle.trajdb.specs.Calls.{IsQuestionFault}
 use Rattle.trajdb.specs.Database.{catalogue_of}
 use Rattle.trajdb.specs.Faults.{run_fault_of}
 use Rattle.trajdb.specs.Lasting.{IsIdle}
-use Rattle.trajdb.specs.Checking.{KeepsLaw}
-use Rattle.trajdb.specs.Db.{DbView, HasPages, IsSoundDb}
+use Rattle.trajdb.specs.Db.{KeepsLaw, DbView, HasPages, IsSoundDb}
 use Rattle.trajdb.proofs.CheckLemmas.{counted, none_counted}
 
 no_names : (names : List (List ℕ)) → length names ≡ 0 → names ≡ []
@@ -118,17 +116,12 @@ module _ (db : DbView) (names : db.tracks.names ≡ db.book.names) (legs : conte
 pub question_fault : (fault : IndexFault) → MayRefuse fault → IsQuestionFault (run_fault_of fault)
 question_fault index.Memory h = tt
 question_fault index.Store h = tt
-question_fault (index.Damaged page) h = h
-question_fault index.StoreFull h = h
-question_fault index.Spent h = h
+question_fault _ h = h
 
 -- only an index that is spent fails a call
 pub failed_spent : (fault : IndexFault) → run_fault_of fault ≡ Failed → fault ≡ index.Spent
-failed_spent index.Memory h = cc
-failed_spent index.Store h = cc
-failed_spent (index.Damaged page) h = cc
-failed_spent index.StoreFull h = cc
 failed_spent index.Spent h = refl
+failed_spent _ h = cc
 
 -- what page 0 of a sound database says
 pub says_of : (db : DbView)
@@ -150,8 +143,3 @@ has_pages_of db marked clean says = record {
   begun = λ e. marked (subst (λ b. SaysState b (payload_of db.index.cache 0)) e says);
   idle = λ e lives. clean;
 }
-
--- what holds of a database that is not failed
-pub while_alive : {A E : Type 0} (S P I F : Type 0) (r : Result A E) (Q : E → Type 0) → IfErr r (λ fault. S → P → I → Q fault) → IfErr r (λ fault. S → P → I → F → Q fault)
-while_alive S P I F (Ok x) Q h = tt
-while_alive S P I F (Err e) Q h = λ s p i f. h s p i

@@ -4,7 +4,7 @@ use Rattle.std.proofs.lemmas.List.{append_assoc, append-nil, drop-take, take-app
 use Rattle.std.proofs.KnownBytes.{Appends-trans, Appends-nil, Appends-kept}
 use Rattle.std.specs.Io.KnownBytes.{Appends, Keeps}
 use Rattle.trajdb.specs.Script.{lines_of}
-use Rattle.trajdb.specs.Run.{CutsBy, DoesAll, HasCut, HasDone, RunsBy}
+use Rattle.trajdb.specs.Run.{CutsBy, DoesAll, RunsBy}
 use Rattle.trajdb.proofs.RunLemmas.{all_taken, lines_none, more_lines}
 
 module _ {S : Type 0} (step : S → S → List ℕ → List ℕ → Type 0) where
@@ -42,10 +42,15 @@ module _ {S : Type 0} (step : S → S → List ℕ → List ℕ → Type 0) wher
       }
 
   -- the first k lines are those before the last of them, and that one
-  pub last_of : (lines : List (List ℕ)) (k : ℕ) → take (k - 1) lines ++ drop (k - 1) (take k lines) ≡ take k lines
+  last_of : (lines : List (List ℕ)) (k : ℕ) → take (k - 1) lines ++ drop (k - 1) (take k lines) ≡ take k lines
   last_of lines k =
       let front : take (k - 1) (take k lines) ≡ take (k - 1) lines = take-take (k - 1) k lines (omega arith) in
       ap (λ (l : List (List ℕ)). l ++ drop (k - 1) (take k lines)) (sym front) ∙ take-append-drop (k - 1) (take k lines)
+
+  pub cut_all : (sent sent' : Option (List ℕ)) (old new : S) (lines : List (List ℕ)) → (cut : CutsBy step sent sent' old new lines) → DoesAll step old new (take cut.k lines) (cut.before ++ cut.text)
+  cut_all sent sent' old new lines cut =
+      subst (λ (l : List (List ℕ)). DoesAll step old new l (cut.before ++ cut.text)) (last_of lines cut.k)
+      (does-append old cut.mid new (take (cut.k - 1) lines) (drop (cut.k - 1) (take cut.k lines)) cut.before cut.text cut.earlier cut.last)
 
   split_last : (old new : S) (lines : List (List ℕ)) (k : ℕ) (text : List ℕ) → DoesAll step old new (take k lines) text → IsSplit old new (take (k - 1) lines) (drop (k - 1) (take k lines)) text
   split_last old new lines k text h =
@@ -70,16 +75,17 @@ module _ {S : Type 0} (step : S → S → List ℕ → List ℕ → Type 0) wher
         subst (λ (l : List (List ℕ)). DoesAll step old new l (at.text ++ text)) (sym (more_lines lines k line (lines_of others) next_at).0)
         (does-append old mid new (take k lines) (line ∷ []) at.text text at.does (does-one mid new line text said))
 
-    pub traced_more : HasDone step b c mid new line → IsTracedAt a c old new lines others (k + 1)
-    traced_more done = record {
-      text = at.text ++ done.text;
-      does = does_next done.text done.does;
-      sends = Appends-trans a b c at.text done.text at.sends done.sends;
+    pub traced_more : (text : List ℕ) → step mid new line text → Appends b c text → IsTracedAt a c old new lines others (k + 1)
+    traced_more answer said passed = record {
+      text = at.text ++ answer;
+      does = does_next answer said;
+      sends = Appends-trans a b c at.text answer at.sends passed;
       left = (more_lines lines k line (lines_of others) next_at).1;
     }
 
-    pub traced_cut : HasCut step b c mid new line → CutsBy step a c old new lines
-    traced_cut cut =
+    -- of its answer the first n bytes were sent
+    pub traced_cut : (text : List ℕ) → step mid new line text → (n : ℕ) → Appends b c (take n text) → CutsBy step a c old new lines
+    traced_cut answer said n passed =
         let back : k ≡ k + 1 - 1 = omega arith in
         let one : drop k (take (k + 1) lines) ≡ line ∷ [] = drop-take k 1 lines ∙ ap (λ (l : List (List ℕ)). take 1 l) next_at in
         record {
@@ -87,13 +93,13 @@ module _ {S : Type 0} (step : S → S → List ℕ → List ℕ → Type 0) wher
           mid = mid;
           before = at.text;
           earlier = subst (λ (j : ℕ). DoesAll step old mid (take j lines) at.text) back at.does;
-          text = cut.text;
-          last = subst (λ (j : ℕ). DoesAll step mid new (drop j (take (k + 1) lines)) cut.text) back
-              (subst (λ (l : List (List ℕ)). DoesAll step mid new l cut.text) (sym one) (does-one mid new line cut.text cut.does));
-          written = at.text ++ take cut.n cut.text;
-          sends = Appends-trans a b c at.text (take cut.n cut.text) at.sends cut.sends;
-          whole = (take cut.n cut.text, refl);
-          prefix = (drop cut.n cut.text, ap (λ t. at.text ++ t) (sym (take-append-drop cut.n cut.text)) ∙ sym (append_assoc at.text (take cut.n cut.text) (drop cut.n cut.text)));
+          text = answer;
+          last = subst (λ (j : ℕ). DoesAll step mid new (drop j (take (k + 1) lines)) answer) back
+              (subst (λ (l : List (List ℕ)). DoesAll step mid new l answer) (sym one) (does-one mid new line answer said));
+          written = at.text ++ take n answer;
+          sends = Appends-trans a b c at.text (take n answer) at.sends passed;
+          whole = (take n answer, refl);
+          prefix = (drop n answer, ap (λ t. at.text ++ t) (sym (take-append-drop n answer)) ∙ sym (append_assoc at.text (take n answer) (drop n answer)));
         }
 
   module _ (a b c : Option (List ℕ)) (old new : S) (lines : List (List ℕ)) (rest : List ℕ) (k : ℕ) (at : IsTracedAt a b old new lines rest k) where

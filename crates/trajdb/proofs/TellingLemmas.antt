@@ -25,29 +25,25 @@ use Rattle.trajdb.specs.Faults.{run_fault_of}
 use Rattle.trajdb.specs.Telling.{AreLive, AreToldOf, DeniesLegs, DeniesNamed, DeniesSome, MakingCall, Names, PicksLive, QuestionCall}
 use Rattle.trajdb.proofs.FaultLemmas.{text_refused}
 use Rattle.trajdb.specs.declared.RunFault.{RunFault}
-use Rattle.trajdb.specs.declared.RunFault.TheVariants.{Memory, Store, Damaged, StoreFull, Failed, Output}
+use Rattle.trajdb.specs.declared.RunFault.TheVariants.{Damaged, Failed}
+
+-- what names a page names more
+names_more : {I : Type 0} (g : Ghosts I) (old now : CoreView I) (P Q : ℕ → Type 0) (fault : RunFault) → ((page : ℕ) → P page → Q page) → ((now.failed ≡ true) ⊎ (g.is_spent now.index ≡ true) → (old.failed ≡ true) ⊎ (g.is_spent old.index ≡ true))
+    → Names g now P fault → Names g old Q fault
+names_more g old now P Q (Damaged page) more failed h = more page h
+names_more g old now P Q Failed more failed h = failed h
+names_more g old now P Q _ more failed h = tt
 
 module _ {I : Type 0} (g : Ghosts I) (core : CoreView I) where
-  pub names_weaker : (P Q : ℕ → Type 0) (fault : RunFault) → ((page : ℕ) → P page → Q page) → Names g core P fault → Names g core Q fault
-  names_weaker P Q Memory more h = tt
-  names_weaker P Q Store more h = tt
-  names_weaker P Q (Damaged page) more h = more page h
-  names_weaker P Q StoreFull more h = tt
-  names_weaker P Q Failed more h = h
-  names_weaker P Q Output more h = tt
-
   -- a page that the index denies is one that is named of the legs that are shown
   pub denied_names : (question : Question) (fault : RunFault) → Names g core (λ page. g.denies core.index question page) fault → Names g core (DeniesLegs g core question) fault
-  denied_names question fault h = names_weaker (λ page. g.denies core.index question page) (DeniesLegs g core question) fault (λ page denied. inl denied) h
+  denied_names question fault h = names_more g core core (λ page. g.denies core.index question page) (DeniesLegs g core question) fault (λ page denied. inl denied) (λ f. f) h
 
   -- a text was not made, of what is there where P holds
   text_names : (P : Type 0) (Q : ℕ → Type 0) (fault : RunFault) → IsText P fault → ((page : ℕ) → page ≡ 0 → Q page) → Names g core Q fault
-  text_names P Q Memory text zero = tt
-  text_names P Q Store text zero = tt
   text_names P Q (Damaged page) text zero = zero page text.0
-  text_names P Q StoreFull text zero = tt
   text_names P Q Failed text zero = absurd text
-  text_names P Q Output text zero = tt
+  text_names P Q _ text zero = tt
 
   -- of legs
   pub legs_names : (P : Type 0) (question : Question) (fault : RunFault) → IsText P fault → Names g core (DeniesLegs g core question) fault
@@ -92,19 +88,15 @@ module _ {I : Type 0} (g : Ghosts I) (old now : CoreView I) (leaves : LeavesBook
 
   pub names_before : (period : PeriodView) (feature : ℕ) → (length old.book.names ≤ greatest_limit → feature < length old.book.names) → (fault : RunFault)
       → Names g now (λ page. g.denies now.index (OfFeature feature (Some period)) page) fault → Names g old (DeniesSome g old period) fault
-  names_before period feature there Memory h = tt
-  names_before period feature there Store h = tt
-  names_before period feature there (Damaged page) h = inl (feature, there, leaves.index.denied (OfFeature feature (Some period)) page h)
-  names_before period feature there StoreFull h = tt
-  names_before period feature there Failed h = failed_before h
-  names_before period feature there Output h = tt
+  names_before period feature there fault h =
+      names_more g old now (λ page. g.denies now.index (OfFeature feature (Some period)) page) (DeniesSome g old period) fault (λ page denied. inl (feature, there, leaves.index.denied (OfFeature feature (Some period)) page denied)) failed_before h
 
 -- what is shown of a book that is the same, of legs that are the same
-pub shown_legs : (old new : Book) (a b : List LegView) → new ≡ old → a ≡ b → legs_text new a ≡ legs_text old b
+shown_legs : (old new : Book) (a b : List LegView) → new ≡ old → a ≡ b → legs_text new a ≡ legs_text old b
 shown_legs old new a b same e = (λ i. legs_text (same i) (e i))
 
 -- and are there
-pub there_legs : (old new : Book) (a b : List LegView) → new ≡ old → a ≡ b → All (IsThere new) a → All (IsThere old) b
+there_legs : (old new : Book) (a b : List LegView) → new ≡ old → a ≡ b → All (IsThere new) a → All (IsThere old) b
 there_legs old new a b same e h =
     subst (All (IsThere old)) e (subst (λ (k : Book). All (IsThere k) a) same h)
 
@@ -115,7 +107,7 @@ map_more f xs i x y ys zs less at so_far more is =
     ∙ sym (ap (map f) (take_more xs i x less) ∙ map-append f (take i xs) (get_or xs i x ∷ []))
 
 -- what holds where there is an answer holds beside what holds of it
-pub ok_both : {T E : Type 0} (r : Result T E) (P : T → Type 0) (Q : Type 0) → IfOk r P → OnOk r Q → IfOk r (λ t. P t × Q)
+ok_both : {T E : Type 0} (r : Result T E) (P : T → Type 0) (Q : Type 0) → IfOk r P → OnOk r Q → IfOk r (λ t. P t × Q)
 ok_both (Ok t) P Q p q = (p, q)
 ok_both (Err e) P Q p q = tt
 
@@ -133,14 +125,12 @@ told_none g core o legs e h = subst (λ o. AreToldOf g core o legs) (sym e) h
 -- a page that the index denies is one that is named
 pub denied_of : {I : Type 0} (g : Ghosts I) (core : CoreView I) (question : Question) (Q : ℕ → Type 0) (fault : IndexFault) → ((page : ℕ) → g.denies core.index question page → Q page) → Denies g core.index question fault
     → Names g core Q (run_fault_of fault)
-denied_of g core question Q index.Memory more h = tt
-denied_of g core question Q index.Store more h = tt
 denied_of g core question Q (index.Damaged page) more h = more page h
-denied_of g core question Q index.StoreFull more h = tt
 denied_of g core question Q index.Spent more h = inr h
+denied_of g core question Q _ more h = tt
 
 -- what is so is so where there is an answer
-pub where_ok : {T E : Type 0} (r : Result T E) (P : Type 0) → P → OnOk r P
+where_ok : {T E : Type 0} (r : Result T E) (P : Type 0) → P → OnOk r P
 where_ok (Ok t) P p = p
 where_ok (Err e) P p = tt
 
@@ -153,18 +143,18 @@ refused_call {I} {A} {B} g old now result fault right told denied cost right' to
     (record { found = tt; says = tt; named = more question.named; asks = tt; leaves = question.leaves; refused = question.refused })
 
 -- the text of what a question found is what its command promises
-pub shown_call : {I A : Type 0} (g : Ghosts I) (old now : CoreView I) (what : A) (result : Result (Vec ℕ) RunFault) (is_text : Vec ℕ → Type 0) (P Q : Type 0)
+pub shown_call : {I A : Type 0} (g : Ghosts I) (old now : CoreView I) (what : A) (result : Result (Vec ℕ) RunFault) (is_text : Vec ℕ → Type 0) (P : Type 0)
     (right told : A → Type 0) (denied : RunFault → Type 0) (cost : Type 0) (right' told' : Vec ℕ → Type 0) (denied' : RunFault → Type 0)
-    → QuestionCall g old now (Ok what) right told denied cost → IfOk result is_text → OnOk result Q → IfErr result (IsText P)
-    → ((text : Vec ℕ) → is_text text → right what → right' text) → ((text : Vec ℕ) → is_text text → Q → told what → told' text)
+    → QuestionCall g old now (Ok what) right told denied cost → MakingCall result is_text P
+    → ((text : Vec ℕ) → is_text text → right what → right' text) → ((text : Vec ℕ) → is_text text → P → told what → told' text)
     → ((fault : RunFault) → IsText P fault → denied' fault) → (IsSound g old → right what → P) → QuestionCall g old now result right' told' denied' cost
-shown_call g old now what result is_text P Q right told denied cost right' told' denied' question made all_there unmade to_right to_told to_denied is_there = record {
-  found = IfOk-weaker result _ _ (λ text m sound. to_right text m (question.found sound)) made;
-  says = IfOk-weaker result _ _ (λ text h. to_told text h.0 h.1 question.says) (ok_both result _ _ made all_there);
-  named = IfErr-weaker result _ _ to_denied unmade;
+shown_call g old now what result is_text P right told denied cost right' told' denied' question making to_right to_told to_denied is_there = record {
+  found = IfOk-weaker result _ _ (λ text m sound. to_right text m (question.found sound)) making.made;
+  says = IfOk-weaker result _ _ (λ text h. to_told text h.0 h.1 question.says) (ok_both result _ _ making.made making.there);
+  named = IfErr-weaker result _ _ to_denied making.fault;
   asks = where_ok result cost question.asks;
   leaves = question.leaves;
-  refused = IfErr-weaker result _ _ (λ fault text. text_refused g old now P fault text (λ sound. is_there sound (question.found sound))) unmade;
+  refused = IfErr-weaker result _ _ (λ fault text. text_refused g old now P fault text (λ sound. is_there sound (question.found sound))) making.fault;
 }
 
 -- so is the text of legs, each with its name and its row
@@ -177,6 +167,6 @@ pub shown_legs_call : {I : Type 0} (g : Ghosts I) (old now : CoreView I) (legs :
     → QuestionCall g old now result right' told' denied' cost
 shown_legs_call g old now legs shown result right told denied cost right' told' denied' question making same to_right to_told to_denied is_there =
     let text_is = shown_legs old.book now.book shown legs.items question.leaves.book same in
-    shown_call g old now legs result (λ text. text.items ≡ legs_text now.book shown) (All (IsThere now.book) shown) (All (IsThere now.book) shown) right told denied cost right' told' denied'
-    question making.made making.there making.fault (λ text made. to_right text (made ∙ text_is))
+    shown_call g old now legs result (λ text. text.items ≡ legs_text now.book shown) (All (IsThere now.book) shown) right told denied cost right' told' denied'
+    question making (λ text made. to_right text (made ∙ text_is))
     (λ text made there. to_told text (there_legs old.book now.book shown legs.items question.leaves.book same there, made ∙ text_is)) to_denied is_there

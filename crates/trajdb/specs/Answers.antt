@@ -25,8 +25,8 @@ use Rattle.writer.specs.Entries.{NamedLegView}
 use Rattle.writer.specs.File.{entries_text, features_text, file_text as written_text, frame_of as head_frame}
 use Rattle.writer.specs.declared.entry.Frame.{Frame}
 use Rattle.trajdb.specs.Picks.{Picks}
-use Rattle.trajdb.specs.Files.{file_named}
-use Rattle.trajdb.specs.Codes.{file_code}
+use Rattle.trajdb.specs.Script.{file_named}
+use Rattle.trajdb.specs.Faults.{file_code}
 use Rattle.trajdb.specs.declared.Counts.{Counts}
 use Rattle.trajdb.specs.declared.FileCode.{FileCode}
 use Rattle.trajdb.specs.declared.FileCode.TheVariants.{Text, Join}
@@ -91,10 +91,9 @@ IsCountsText text = (counts : Counts) × (text ≡ counts_text counts)
 abbrev pub IsFileRefusal : List ℕ → Type 0
 IsFileRefusal text = (fault : FileCode × ℕ) × (text ≡ load_text (Err fault))
 
--- the answer to `count`
-abbrev pub count_text : Book → List ℕ
-count_text book =
-    ok_text 1 ++ decimal (length book.legs) ++ 44 ∷ [] ++ decimal (length book.names) ++ 10 ∷ []
+-- the answer to `count`, by how many legs and features there are
+abbrev pub count_text : ℕ → ℕ → List ℕ
+count_text legs features = ok_text 1 ++ decimal legs ++ 44 ∷ [] ++ decimal features ++ 10 ∷ []
 
 -- how legs are written: with the dimension of the first accepted file, and with times as offsets from its start
 -- instant
@@ -157,14 +156,20 @@ IsLegsAnswer book predicate rect period text =
 
 -- the answer of features
 abbrev pub names_text : Book → List ℕ → List ℕ
-names_text book features = ok_text (length features) ++ features_text (map (feature_name book) features)
+names_text book features =
+    ok_text (length features) ++ features_text (map (feature_name book) features)
+
+-- the picked are exactly the features of which the predicate holds, in the order of first acceptance
+abbrev pub PicksFeatures : Book → Predicate → RectView → PeriodView → List ℕ → Type 0
+PicksFeatures book predicate rect period picked =
+    Picks (HoldsOfFeature predicate rect period book.legs)
+    (range_with_len 0 (length book.names)) picked
 
 -- the answer of the features of which the predicate holds
 abbrev pub IsFeaturesAnswer : Book → Predicate → RectView → PeriodView → List ℕ → Type 0
 IsFeaturesAnswer book predicate rect period text =
-    (picked : List ℕ)
-    × Picks (HoldsOfFeature predicate rect period book.legs)
-    (range_with_len 0 (length book.names)) picked × (text ≡ names_text book picked)
+    (picked : List ℕ) × PicksFeatures book predicate rect period picked
+    × (text ≡ names_text book picked)
 
 -- legs as a file: two header lines and a record for each leg
 abbrev pub file_answer : Book → BookHead → List LegView → List ℕ
@@ -179,7 +184,7 @@ write_text None book = refusal_text (codes "Q10")
 -- the text is what a command answers over a book, with the named files at hand
 abbrev pub IsAnswer : LimitsView → List (List ℕ × List ℕ) → Book → Command → List ℕ → Type 0
 IsAnswer limits files book (Load name) text = text ≡ named_text limits book (file_named files name)
-IsAnswer limits files book Count text = text ≡ count_text book
+IsAnswer limits files book Count text = text ≡ count_text (length book.legs) (length book.names)
 IsAnswer limits files book (Box rect period) text =
     text ≡ legs_text book (legs_in_box (box_over rect period) book.legs)
 IsAnswer limits files book (Legs predicate rect period) text =
@@ -193,22 +198,12 @@ IsAnswer limits files book Write text = text ≡ write_text book.head book
 -- the book after a command
 abbrev pub book_then : LimitsView → List (List ℕ × List ℕ) → Book → Command → Book
 book_then limits files book (Load name) = named_book limits book (file_named files name)
-book_then limits files book Count = book
-book_then limits files book (Box rect period) = book
-book_then limits files book (Legs predicate rect period) = book
-book_then limits files book (Features predicate rect period) = book
-book_then limits files book (Trajectory name) = book
-book_then limits files book Write = book
+book_then limits files book _ = book
 
 -- the command is a `load` of a file that is there and is accepted into the book, be it one without legs
 abbrev pub AcceptsBy : LimitsView → List (List ℕ × List ℕ) → Book → Command → Type 0
 AcceptsBy limits files book (Load name) = AcceptsNamed limits book (file_named files name)
-AcceptsBy limits files book Count = ⊥
-AcceptsBy limits files book (Box rect period) = ⊥
-AcceptsBy limits files book (Legs predicate rect period) = ⊥
-AcceptsBy limits files book (Features predicate rect period) = ⊥
-AcceptsBy limits files book (Trajectory name) = ⊥
-AcceptsBy limits files book Write = ⊥
+AcceptsBy limits files book _ = ⊥
 
 -- the text is what a line answers: nothing where it is no command
 abbrev pub IsSaid : LimitsView → List (List ℕ × List ℕ) → Book → Result (Option Command) LineCode
@@ -221,15 +216,13 @@ IsSaid limits files book (Err code) text = text ≡ refusal_text (line_code_text
 abbrev pub said_book : LimitsView → List (List ℕ × List ℕ) → Book → Result (Option Command) LineCode
     → Book
 said_book limits files book (Ok (Some command)) = book_then limits files book command
-said_book limits files book (Ok None) = book
-said_book limits files book (Err code) = book
+said_book limits files book _ = book
 
 -- a line that was read is the `load` of a file that is there and is accepted
 abbrev pub AcceptsSaid : LimitsView → List (List ℕ × List ℕ) → Book
     → Result (Option Command) LineCode → Type 0
 AcceptsSaid limits files book (Ok (Some command)) = AcceptsBy limits files book command
-AcceptsSaid limits files book (Ok None) = ⊥
-AcceptsSaid limits files book (Err code) = ⊥
+AcceptsSaid limits files book _ = ⊥
 
 -- the text is the answer to a line, over a book
 unfoldable pub IsLineText : LimitsView → List (List ℕ × List ℕ) → Book → List ℕ → List ℕ → Type 0

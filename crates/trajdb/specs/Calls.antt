@@ -1,5 +1,5 @@
 -- What a call of a database leaves, and why it stopped.
-use Rattle.std.specs.Prelude.{ℕ, ◌≡◌, ◌<◌, ◌≤◌, ◌+◌, ◌-◌, ◌^◌, [], ◌∷◌, slice_index_or, true, false, List, Option, Some, None, Result, Ok, Err, IsTrue, is_some, if◌then◌else◌, ◌⊎◌, ◌↔◌, drop, length, sum_by, map}
+use Rattle.std.specs.Prelude.{ℕ, ◌≡◌, ◌<◌, ◌≤◌, ◌+◌, ◌-◌, ◌^◌, [], ◌∷◌, slice_index_or, true, false, List, Option, Some, None, Result, Ok, IsTrue, is_some, if◌then◌else◌, ◌⊎◌, ◌↔◌, drop, length, sum_by, map}
 use Rattle.std.specs.List.{range_with_len}
 use Rattle.timebase.specs.Period.{PeriodView}
 use Rattle.legs.specs.declared.head.BookHead.{BookHead}
@@ -15,7 +15,7 @@ use Rattle.querylang.specs.Line.{line_command}
 use Rattle.querylang.specs.declared.LineCode.{LineCode}
 use Rattle.querylang.specs.declared.Command.{Command}
 use Rattle.querylang.specs.declared.Command.TheVariants.{Load, Count, Box, Legs, Features, Trajectory, Write}
-use Rattle.trajdb.specs.Files.{file_named}
+use Rattle.trajdb.specs.Script.{file_named}
 use Rattle.trajdb.specs.Database.{CoreView, IsSound}
 use Rattle.trajdb.specs.declared.LoadFault.{LoadFault}
 use Rattle.trajdb.specs.declared.LoadFault.TheVariants.{Refused, Run}
@@ -75,37 +75,28 @@ BeginsOnly g old new accepts = IsSound g old → new.begun ≡ true → (old.beg
 abbrev pub IsQuestionFault : RunFault → Type 0
 IsQuestionFault Memory = Unit {0}
 IsQuestionFault Store = Unit {0}
-IsQuestionFault (Damaged page) = ⊥
-IsQuestionFault StoreFull = ⊥
-IsQuestionFault Failed = ⊥
-IsQuestionFault Output = ⊥
+IsQuestionFault _ = ⊥
 
 -- a fault of a load over a sound database
 abbrev pub IsLoadFault : RunFault → Type 0
 IsLoadFault Memory = Unit {0}
 IsLoadFault Store = Unit {0}
-IsLoadFault (Damaged page) = ⊥
 IsLoadFault StoreFull = Unit {0}
-IsLoadFault Failed = ⊥
-IsLoadFault Output = ⊥
+IsLoadFault _ = ⊥
 
 -- a fault by which a store is called upon: its count of faults rose, or it is full
 abbrev pub IsOfStore : {I : Type 0} → Ghosts I → I → I → RunFault → Type 0
-IsOfStore g old new Memory = Unit {0}
 IsOfStore g old new Store = HasRisen (g.faults old) (g.faults new)
-IsOfStore g old new (Damaged page) = Unit {0}
 IsOfStore g old new StoreFull = g.is_store_full new
-IsOfStore g old new Failed = Unit {0}
 IsOfStore g old new Output = ⊥
+IsOfStore g old new _ = Unit {0}
 
 -- and no store is full at a question
 abbrev pub IsAsked : {I : Type 0} → Ghosts I → I → I → RunFault → Type 0
-IsAsked g old new Memory = Unit {0}
 IsAsked g old new Store = HasRisen (g.faults old) (g.faults new)
-IsAsked g old new (Damaged page) = Unit {0}
 IsAsked g old new StoreFull = ⊥
-IsAsked g old new Failed = Unit {0}
 IsAsked g old new Output = ⊥
+IsAsked g old new _ = Unit {0}
 
 -- why a question was not answered
 pub record IsRefused {I : Type 0} (g : Ghosts I) (old new : CoreView I)
@@ -131,37 +122,27 @@ IsJoinStop (Run fault) = fault ≡ Memory
 
 -- why a run stopped
 abbrev pub IsRunStop : {I : Type 0} → Ghosts I → CoreView I → CoreView I → RunFault → Type 0
-IsRunStop g old new Memory = Unit {0}
 IsRunStop g old new Store = HasRisen (g.faults old.index) (g.faults new.index)
 IsRunStop g old new (Damaged page) = IsSound g old → old.failed ≡ false → ⊥
 IsRunStop g old new StoreFull = g.is_store_full new.index
 IsRunStop g old new Failed = IsSound g old → old.failed ≡ false → ⊥
-IsRunStop g old new Output = Unit {0}
+IsRunStop g old new _ = Unit {0}
 
 -- why a text was not made, of what is there where P holds; where something is not, page 0 is named
 abbrev pub IsText : Type 0 → RunFault → Type 0
 IsText P Memory = Unit {0}
-IsText P Store = ⊥
 IsText P (Damaged page) = (page ≡ 0) × (P → ⊥)
-IsText P StoreFull = ⊥
-IsText P Failed = ⊥
-IsText P Output = ⊥
+IsText P _ = ⊥
 
 -- the command is a `load` of a file that is there
 abbrev pub Loads : List (List ℕ × List ℕ) → Command → Type 0
 Loads files (Load name) = IsTrue (is_some (file_named files name))
-Loads files Count = ⊥
-Loads files (Box rect period) = ⊥
-Loads files (Legs predicate rect period) = ⊥
-Loads files (Features predicate rect period) = ⊥
-Loads files (Trajectory name) = ⊥
-Loads files Write = ⊥
+Loads files _ = ⊥
 
 -- a line that was read is the `load` of a file that is there
 abbrev pub LoadsIn : List (List ℕ × List ℕ) → Result (Option Command) LineCode → Type 0
 LoadsIn files (Ok (Some command)) = Loads files command
-LoadsIn files (Ok None) = ⊥
-LoadsIn files (Err code) = ⊥
+LoadsIn files _ = ⊥
 
 -- so is the line
 unfoldable pub LoadsBy : List (List ℕ × List ℕ) → List ℕ → Type 0
@@ -199,25 +180,8 @@ abbrev pub write_asks : Option BookHead → Option ShapeView → List LegView �
 write_asks None plan legs = 0
 write_asks (Some head) plan legs = search_cost everything plan legs
 
--- what a command adds to the count of pages asked for, over a book; of a `load` nothing is said
-abbrev pub AsksFor : Book → Option ShapeView → Command → ℕ → ℕ → Type 0
-AsksFor book plan (Load name) old new = Unit {0}
-AsksFor book plan Count old new = new ≡ old
-AsksFor book plan (Box rect period) old new =
-    RisesBy old new (search_cost (box_over rect period) plan book.legs)
-AsksFor book plan (Legs predicate rect period) old new =
-    RisesBy old new (search_cost (box_near predicate rect period) plan book.legs)
-AsksFor book plan (Features predicate rect period) old new =
-    RisesAtMost old new
-    (features_bound (range_with_len 0 (length book.names)) period plan book.legs)
-AsksFor book plan (Trajectory name) old new =
-    RisesBy old new (track_asks (feature_named book.names name) plan book.legs)
-AsksFor book plan Write old new = RisesBy old new (write_asks book.head plan book.legs)
-
 -- at most how many pages a command asks for over a book, which is no `load`
 abbrev pub command_cost : Book → Option ShapeView → Command → ℕ
-command_cost book plan (Load name) = 0
-command_cost book plan Count = 0
 command_cost book plan (Box rect period) = search_cost (box_over rect period) plan book.legs
 command_cost book plan (Legs predicate rect period) =
     search_cost (box_near predicate rect period) plan book.legs
@@ -226,12 +190,20 @@ command_cost book plan (Features predicate rect period) =
 command_cost book plan (Trajectory name) =
     track_asks (feature_named book.names name) plan book.legs
 command_cost book plan Write = write_asks book.head plan book.legs
+command_cost book plan _ = 0
+
+-- what a command adds to the count of pages asked for, over a book; of a `load` nothing is said
+abbrev pub AsksFor : Book → Option ShapeView → Command → ℕ → ℕ → Type 0
+AsksFor book plan (Load name) old new = Unit {0}
+AsksFor book plan Count old new = new ≡ old
+AsksFor book plan (Features predicate rect period) old new =
+    RisesAtMost old new (command_cost book plan (Features predicate rect period))
+AsksFor book plan command old new = RisesBy old new (command_cost book plan command)
 
 -- so of a line that was read
 abbrev pub said_cost : Book → Option ShapeView → Result (Option Command) LineCode → ℕ
 said_cost book plan (Ok (Some command)) = command_cost book plan command
-said_cost book plan (Ok None) = 0
-said_cost book plan (Err code) = 0
+said_cost book plan _ = 0
 
 -- so of lines, none of which is a `load`: the sum
 abbrev pub lines_cost : Book → Option ShapeView → List (List ℕ) → ℕ

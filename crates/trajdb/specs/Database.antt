@@ -1,7 +1,7 @@
 -- What a database stands for.
-use Rattle.std.specs.Prelude.{◌≡◌, Bool, false, ℕ, Result, Ok, Err}
+use Rattle.std.specs.Prelude.{◌≡◌, [], Bool, false, ℕ, Result, Ok, Err}
 use Rattle.legs.specs.Limits.{LimitsView, IsLimits}
-use Rattle.legs.specs.Book.{Book}
+use Rattle.legs.specs.Book.{Book, empty_book}
 use Rattle.legs.specs.declared.listed.Listed.{Ghosts}
 use Rattle.legs.specs.Tracks.{TracksView, StandsFor}
 use Rattle.legs.specs.Law.{IsBook}
@@ -29,6 +29,17 @@ restored g c index begun = record {
   tracks = c.tracks;
   book = record { head = c.head; names = c.tracks.names; legs = g.content index; rows = c.rows };
   limits = c.limits;
+  begun = begun;
+  failed = false;
+}
+
+-- a database under these limits, into which no file was accepted, over an index without legs
+abbrev pub fresh : {I : Type 0} → LimitsView → I → Bool → CoreView I
+fresh limits index begun = record {
+  index = index;
+  tracks = record { names = []; tracks = []; legs = 0; rows = 0 };
+  book = empty_book;
+  limits = limits;
   begun = begun;
   failed = false;
 }

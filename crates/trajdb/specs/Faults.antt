@@ -1,11 +1,15 @@
--- The faults of a run, and of a new database.
-use Rattle.std.specs.Prelude.{Result, Ok, Err}
+-- The faults of a run, and of a new database, and the codes of a file's refusal.
+use Rattle.std.specs.Prelude.{ℕ, List, Result, Ok, Err}
+use Rattle.mfcsv.specs.CodeText.{code_text}
+use Rattle.legs.specs.CodeText.{join_code_text}
 use Rattle.legs.specs.declared.index.IndexFault.{IndexFault}
 use Rattle.legs.specs.declared.index.IndexFault.TheVariants as index
 use Rattle.pagecache.specs.declared.fault.CacheFault.{CacheFault}
 use Rattle.pagecache.specs.declared.fault.CacheFault.TheVariants as cache
 use Rattle.register.specs.declared.fault.CatalogueFault.{CatalogueFault}
 use Rattle.register.specs.declared.fault.CatalogueFault.TheVariants as catalogue
+use Rattle.trajdb.specs.declared.FileCode.{FileCode}
+use Rattle.trajdb.specs.declared.FileCode.TheVariants.{Text, Join}
 use Rattle.trajdb.specs.declared.RunFault.{RunFault}
 use Rattle.trajdb.specs.declared.RunFault.TheVariants.{Memory, Store, Damaged, StoreFull, Failed, Output}
 
@@ -19,12 +23,8 @@ run_fault_of index.Spent = Failed
 
 -- a fault that is not the output's
 abbrev pub IsNotOutput : RunFault → Type 0
-IsNotOutput Memory = Unit {0}
-IsNotOutput Store = Unit {0}
-IsNotOutput (Damaged page) = Unit {0}
-IsNotOutput StoreFull = Unit {0}
-IsNotOutput Failed = Unit {0}
 IsNotOutput Output = ⊥
+IsNotOutput _ = Unit {0}
 
 -- what a fault of the cache is to a new database
 abbrev pub open_fault_of : CacheFault → CatalogueFault
@@ -40,11 +40,14 @@ closed_fault_of catalogue.Memory = Memory
 closed_fault_of catalogue.Store = Store
 closed_fault_of catalogue.StoreFull = StoreFull
 closed_fault_of (catalogue.Damaged page) = Damaged page
-closed_fault_of catalogue.Unfinished = Damaged 0
-closed_fault_of catalogue.Version = Damaged 0
-closed_fault_of catalogue.Malformed = Damaged 0
+closed_fault_of _ = Damaged 0
 
 -- what closing a database returns, by what closing its catalogue returned
 abbrev pub closed_answer : Result (Unit {0}) CatalogueFault → Result (Unit {0}) RunFault
 closed_answer (Ok x) = Ok x
 closed_answer (Err fault) = Err (closed_fault_of fault)
+
+-- the printed code of a file's refusal, for its text or for joining it
+abbrev pub file_code : FileCode → List ℕ
+file_code (Text code) = code_text code
+file_code (Join code) = join_code_text code

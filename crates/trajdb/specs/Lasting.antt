@@ -33,21 +33,17 @@ IsUnfinishedAnswer (Err back) = (back.1 ≡ CatalogueFault.Unfinished) ⊎ IsSto
 -- no store failed
 abbrev pub IsFaultless : RunFault → Type 0
 IsFaultless run.Memory = Unit {0}
-IsFaultless run.Store = ⊥
-IsFaultless (run.Damaged page) = ⊥
 IsFaultless run.StoreFull = Unit {0}
-IsFaultless run.Failed = ⊥
-IsFaultless run.Output = ⊥
+IsFaultless _ = ⊥
 
 -- why a database was not closed: the store failed, or is full, where that is said; or the database
 -- is failed
 abbrev pub IsClosingFault : DbView → Store → RunFault → Type 0
-IsClosingFault db new run.Memory = Unit {0}
 IsClosingFault db new run.Store = Faulted db.index.cache.store new
-IsClosingFault db new (run.Damaged page) = Unit {0}
 IsClosingFault db new run.StoreFull = new.count ≡ new.most
 IsClosingFault db new run.Failed = db.failed ≡ true
 IsClosingFault db new run.Output = ⊥
+IsClosingFault db new _ = Unit {0}
 
 -- a store has the pages that it had, and holds a book that it held, but for page 0 where it failed since
 pub record IsUnchanged (was now : Store) : Type 0 where

@@ -1,7 +1,5 @@
 pub mod Faults
-pub mod Files
 pub mod Script
-pub mod Codes
 pub mod Picks
 pub mod Answers
 pub mod Database
@@ -11,6 +9,4 @@ pub mod Run
 pub mod Telling
 pub mod Db
 pub mod Lasting
-pub mod Checking
 pub mod Promises
-pub mod Apart

@@ -19,9 +19,8 @@ use Rattle.querylang.specs.declared.Command.{Command}
 use Rattle.querylang.specs.declared.LineCode.{LineCode}
 use Rattle.trajdb.specs.Answers.{AcceptsBy, IsAnswer, book_then, book_with, load_of, refusal_text}
 use Rattle.trajdb.specs.Calls.{QuestionAsks, Begins, BeginsOnly, HasLoad, IsAsked, IsLater, IsLoadFault, IsLoadStop, IsQuestionFault, IsRunStop, IsStopped, KeepsPages, LeavesBook, Loads, RisesWithin, lines_cost}
-use Rattle.trajdb.specs.Checking.{Reports}
+use Rattle.trajdb.specs.Db.{Reports, DbView, HasPages, IsSoundDb}
 use Rattle.trajdb.specs.Database.{CoreView, FailsBy, IsRefused, IsSound, IsTold, LoadGives, Becomes}
-use Rattle.trajdb.specs.Db.{DbView, HasPages, IsSoundDb}
 use Rattle.trajdb.specs.Faults.{IsNotOutput}
 use Rattle.trajdb.specs.Lasting.{HasBook, IsClosingFault, IsFaultless, IsIdle, IsSafe, IsSafeStore, IsUnfinishedAnswer}
 use Rattle.trajdb.specs.Run.{AcceptsSome, CutsBy, RunsBy, StopsAt, Stops, IsCut}
@@ -133,8 +132,8 @@ module _ {I : Type 0} (g : Ghosts I) (files : List (List ℕ × List ℕ)) (old 
 pub record RunCall {I O : Type 0} (g : Ghosts I) (shown : O → OutputView)
     (files : List (List ℕ × List ℕ)) (out out' : O) (old new : CoreView I)
     (lines : List (List ℕ)) (result : Result (Unit {0}) RunFault) : Type 0 where
-  -- after `Ok` a sound database is sound still
-  pub sound : OnOk result (IsSound g old → IsSound g new)
+  -- a sound database is sound still, unless it has failed
+  pub kept : new.failed ≡ false → IsSound g old → IsSound g new
   -- after `Ok` the database has not failed
   pub lives : OnOk result (new.failed ≡ false)
   -- any database sent the answers to all lines, each of which does what `command` promises
@@ -151,8 +150,6 @@ pub record RunCall {I O : Type 0} (g : Ghosts I) (shown : O → OutputView)
   -- sent
   pub output : IsErrOf result RunFault.Output → IsSound g old
       → IsCut files (shown out).contents (shown out').contents old new lines
-  -- a sound database stays sound if the output fails
-  pub cut_sound : IsErrOf result RunFault.Output → IsSound g old → IsSound g new
   -- the database has not failed if the output fails
   pub cut_lives : IsErrOf result RunFault.Output → new.failed ≡ false
   -- `Output` is returned only if the output refused a call
@@ -166,9 +163,6 @@ pub record RunCall {I O : Type 0} (g : Ghosts I) (shown : O → OutputView)
   -- answers were sent whole
   pub refused : IfErr result (λ e. IsNotOutput e → old.failed ≡ false → IsSound g old
       → Stops files (shown out).contents (shown out').contents old new lines)
-  -- a sound database at which a run stops stays sound, unless it has failed
-  pub kept : IfErr result (λ e. IsNotOutput e → new.failed ≡ false → IsSound g old
-      → IsSound g new)
   -- the run stops at a line that is a command or is refused; only a `load` of a file that is there
   -- fails the database
   pub stops : IfErr result (λ fault. IsNotOutput fault → old.failed ≡ false
@@ -187,10 +181,8 @@ pub record RunCall {I O : Type 0} (g : Ghosts I) (shown : O → OutputView)
   -- a database that has begun keeps page 0 marked; before that no page as written changes, except
   -- page 0 if the store fails
   pub pages : KeepsPages g old new
-  -- a failed database does nothing
-  pub was_failed : old.failed ≡ true → (result ≡ Err RunFault.Failed) × (new ≡ old)
-  -- and nothing is sent
-  pub was_failed_output : old.failed ≡ true → out' ≡ out
+  -- a failed database does nothing, and nothing is sent
+  pub was_failed : old.failed ≡ true → (result ≡ Err RunFault.Failed) × (new ≡ old) × (out' ≡ out)
 
 -- what a call of a database over pages keeps, whatever it answers: one at rest stays so until it accepts a file or
 -- fails, and the store of a sound one, whose pages are as its state says, stays safe

@@ -15,19 +15,6 @@ IsPrefixOf front all = (rest : List ℕ) × (all ≡ front ++ rest)
 
 -- lines, each of which does a step: from what was before it to what it leaves, with what it answers
 module _ {S : Type 0} (step : S → S → List ℕ → List ℕ → Type 0) where
-  -- a line is done, and its answer was sent
-  pub record HasDone (sent sent' : Option (List ℕ)) (old new : S) (line : List ℕ) : Type 0 where
-    pub text : List ℕ
-    pub does : step old new line text
-    pub sends : Appends sent sent' text
-
-  -- a line is done, and the first n bytes of its answer were sent
-  pub record HasCut (sent sent' : Option (List ℕ)) (old new : S) (line : List ℕ) : Type 0 where
-    pub text : List ℕ
-    pub does : step old new line text
-    pub n : ℕ
-    pub sends : Appends sent sent' (take n text)
-
   -- the text is the answers to lines, one after another, each a step from what the lines before left
   abbrev pub DoesAll : (old new : S) → List (List ℕ) → List ℕ → Type 0
   DoesAll old new [] text = (new ≡ old) × (text ≡ [])
@@ -42,8 +29,8 @@ module _ {S : Type 0} (step : S → S → List ℕ → List ℕ → Type 0) wher
       pub does : DoesAll old new lines text
       pub sends : Appends sent sent' text
 
-  -- the first k lines are done, all but the last of them and then that one; what was sent is a prefix of their answers, and
-  -- all of them but the last one are whole
+  -- the first k lines are done, all but the last of them and then that one; what was sent is a prefix of their answers,
+  -- and all of them but the last one are whole
   pub record CutsBy (sent sent' : Option (List ℕ)) (old new : S) (lines : List (List ℕ)) : Type 0
     where
       pub k : ℕ
@@ -57,11 +44,11 @@ module _ {S : Type 0} (step : S → S → List ℕ → List ℕ → Type 0) wher
       pub whole : IsPrefixOf before written
       pub prefix : IsPrefixOf written (before ++ text)
 
--- the book after all lines
-abbrev pub run_book : LimitsView → List (List ℕ × List ℕ) → Book → List (List ℕ) → Book
-run_book limits files book [] = book
-run_book limits files book (line ∷ lines) =
-    run_book limits files (line_book limits files book line) lines
+-- the text is the answer to a line over a book, which becomes the book after the line
+abbrev pub AnswersLine : LimitsView → List (List ℕ × List ℕ) → (old new : Book) → List ℕ → List ℕ
+    → Type 0
+AnswersLine limits files old new line text =
+    IsLineText limits files old line text × (new ≡ line_book limits files old line)
 
 -- some line is a `load` of a file that is there and is accepted into the book after the lines before
 abbrev pub AcceptsSome : LimitsView → List (List ℕ × List ℕ) → Book → List (List ℕ) → Type 0
@@ -69,22 +56,6 @@ AcceptsSome limits files book [] = ⊥
 AcceptsSome limits files book (line ∷ lines) =
     AcceptsLine limits files book line
     ⊎ AcceptsSome limits files (line_book limits files book line) lines
-
--- the text is the answers to all lines, one after another, each over the book after the lines before
-abbrev pub IsRunText : LimitsView → List (List ℕ × List ℕ) → Book → List (List ℕ) → List ℕ → Type 0
-IsRunText limits files book [] text = text ≡ []
-IsRunText limits files book (line ∷ lines) text =
-    (first : List ℕ) × (others : List ℕ) × (text ≡ first ++ others)
-    × IsLineText limits files book line first
-    × IsRunText limits files (line_book limits files book line) lines others
-
--- all lines are done, and their answers and nothing else were sent
-pub record HasRun (limits : LimitsView) (files : List (List ℕ × List ℕ))
-    (sent sent' : Option (List ℕ)) (old new : Book) (lines : List (List ℕ)) : Type 0 where
-  pub text : List ℕ
-  pub answers : IsRunText limits files old lines text
-  pub sends : Appends sent sent' text
-  pub book : new ≡ run_book limits files old lines
 
 -- line k + 1 is there, and is not done: it is a command or a refused line; the first k lines are done, and
 -- their answers, whole, and nothing else were sent; the book is the one after them, or line k + 1 is a `load`
@@ -94,10 +65,9 @@ pub record HasStopped (limits : LimitsView) (files : List (List ℕ × List ℕ)
     (k : ℕ) : Type 0 where
   pub within : k < length lines
   pub speaks : Speaks (slice_index_or lines k [])
-  pub text : List ℕ
-  pub answers : IsRunText limits files old (take k lines) text
-  pub sends : Appends sent sent' text
-  pub book : failed ≡ false → new ≡ run_book limits files old (take k lines)
+  pub before : Book
+  pub run : RunsBy (AnswersLine limits files) sent sent' old before (take k lines)
+  pub book : failed ≡ false → new ≡ before
   pub loads : failed ≡ true → LoadsBy files (slice_index_or lines k [])
 
 -- a line is not done, be the database sound or not: it is a command or a refused line; the database is failed
@@ -113,24 +83,11 @@ abbrev pub StopsAt : List (List ℕ × List ℕ) → Bool → RunFault → List 
 StopsAt files failed fault lines =
     (k : ℕ) × (k < length lines) × FailsAt files failed fault (slice_index_or lines k [])
 
--- the first k lines are done, and the book is the one after them; what was sent is a prefix of their
--- answers, and all of them but the last one are whole
-pub record HasCutRun (limits : LimitsView) (files : List (List ℕ × List ℕ))
-    (sent sent' : Option (List ℕ)) (old new : Book) (lines : List (List ℕ)) (k : ℕ) : Type 0 where
-  pub written : List ℕ
-  pub sends : Appends sent sent' written
-  pub all : List ℕ
-  pub answers : IsRunText limits files old (take k lines) all
-  pub prefix : IsPrefixOf written all
-  pub before : List ℕ
-  pub earlier : IsRunText limits files old (take (k - 1) lines) before
-  pub whole : IsPrefixOf before written
-  pub book : new ≡ run_book limits files old (take k lines)
-
--- of a database: all lines are done
+-- of a database: all lines are done, each over the book after the lines before
 abbrev pub Runs : {I : Type 0} → List (List ℕ × List ℕ) → Option (List ℕ) → Option (List ℕ)
     → CoreView I → CoreView I → List (List ℕ) → Type 0
-Runs files sent sent' old new lines = HasRun old.limits files sent sent' old.book new.book lines
+Runs files sent sent' old new lines =
+    RunsBy (AnswersLine old.limits files) sent sent' old.book new.book lines
 
 -- the database has begun only where it had, or where one of these lines is the load of a file that is accepted
 abbrev pub BeginsIn : {I : Type 0} → List (List ℕ × List ℕ) → CoreView I → CoreView I
@@ -151,5 +108,5 @@ Stops files sent sent' old new lines =
 abbrev pub IsCut : {I : Type 0} → List (List ℕ × List ℕ) → Option (List ℕ) → Option (List ℕ)
     → CoreView I → CoreView I → List (List ℕ) → Type 0
 IsCut files sent sent' old new lines =
-    (k : ℕ) × HasCutRun old.limits files sent sent' old.book new.book lines k
-    × BeginsIn files old new (take k lines)
+    (cut : CutsBy (AnswersLine old.limits files) sent sent' old.book new.book lines)
+    × BeginsIn files old new (take cut.k lines)

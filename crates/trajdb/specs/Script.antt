@@ -1,5 +1,5 @@
--- The lines of a script.
-use Rattle.std.specs.Prelude.{ℕ, ◌-◌, ◌==◌, Bool, if◌then◌else◌, List, [], ◌∷◌, map, take, length, slice_index}
+-- The lines of a script, and the named files that it may load.
+use Rattle.std.specs.Prelude.{ℕ, ◌-◌, ◌==◌, ◌++◌, Bool, if◌then◌else◌, List, [], ◌∷◌, map, take, length, slice_index, Option, Some, None, is_some, bytes_eq}
 
 -- the byte is LF, which ends a line
 abbrev pub is_line_end : ℕ → Bool
@@ -23,3 +23,13 @@ without_return piece =
 -- the lines of a script
 abbrev pub lines_of : List ℕ → List (List ℕ)
 lines_of script = map without_return (pieces_of script)
+
+-- the bytes of the first file of that name
+abbrev pub file_named : List (List ℕ × List ℕ) → List ℕ → Option (List ℕ)
+file_named [] name = None
+file_named (file ∷ files) name = if bytes_eq name file.0 then Some file.1 else file_named files name
+
+-- the files with one more; of a name that is there the first counts
+abbrev pub files_with : List (List ℕ × List ℕ) → List ℕ → List ℕ → List (List ℕ × List ℕ)
+files_with files name bytes =
+    if is_some (file_named files name) then files else files ++ (name, bytes) ∷ []

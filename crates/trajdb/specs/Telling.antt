@@ -1,6 +1,6 @@
 -- What a database answers by what the pages of its index say, be it sound or not: nothing else is answered, and a page
 -- that is named is one that was met and is not what it is to be there, or page 0.
-use Rattle.std.specs.Prelude.{ℕ, ◌≡◌, ◌≤◌, ◌<◌, ◌++◌, ◌⊎◌, ◌↔◌, List, [], ◌∷◌, length, All, Option, Some, None, Result, IfOk, IfErr, OnOk, true, codes, decimal}
+use Rattle.std.specs.Prelude.{ℕ, ◌≡◌, ◌≤◌, ◌<◌, ◌⊎◌, ◌↔◌, List, [], ◌∷◌, length, All, Option, Some, None, Result, IfOk, IfErr, OnOk, true, codes}
 use Rattle.std.specs.Global.{Vec}
 use Rattle.std.specs.List.{range_with_len}
 use Rattle.timebase.specs.Period.{PeriodView}
@@ -20,13 +20,13 @@ use Rattle.predicates.specs.Predicates.{Holds}
 use Rattle.predicates.specs.declared.Predicate.{Predicate}
 use Rattle.querylang.specs.declared.Command.{Command}
 use Rattle.querylang.specs.declared.Command.TheVariants.{Load, Count, Box, Legs, Features, Trajectory, Write}
-use Rattle.trajdb.specs.Answers.{HoldsOfLeg, IsAnswer, IsCountsText, IsFileRefusal, file_answer, legs_text, names_text, ok_text, refusal_text}
+use Rattle.trajdb.specs.Answers.{HoldsOfLeg, IsAnswer, IsCountsText, IsFileRefusal, count_text, file_answer, legs_text, names_text, refusal_text}
 use Rattle.trajdb.specs.Calls.{IsRefused, IsText, LeavesBook, QuestionAsks}
 use Rattle.trajdb.specs.Database.{CoreView, IsSound}
-use Rattle.trajdb.specs.Files.{file_named}
+use Rattle.trajdb.specs.Script.{file_named}
 use Rattle.trajdb.specs.Picks.{Picks}
 use Rattle.trajdb.specs.declared.RunFault.{RunFault}
-use Rattle.trajdb.specs.declared.RunFault.TheVariants.{Memory, Store, Damaged, StoreFull, Failed, Output}
+use Rattle.trajdb.specs.declared.RunFault.TheVariants.{Damaged, Failed}
 
 module _ {I : Type 0} (g : Ghosts I) (core : CoreView I) where
   -- the text shows legs, of each of which the catalogue has the name and the row of values
@@ -98,12 +98,6 @@ module _ {I : Type 0} (g : Ghosts I) (core : CoreView I) where
       × All (IsThere core.book) legs × (text ≡ file_answer core.book head legs)
   IsToldFile None text = text ≡ refusal_text (codes "Q10")
 
-  -- how many legs the index counts, and how many features there are
-  abbrev pub told_count : List ℕ
-  told_count =
-      ok_text 1 ++ decimal (g.counted core.index) ++ 44 ∷ [] ++ decimal (length core.book.names)
-      ++ 10 ∷ []
-
   -- counts or a refusal of a file that is there
   abbrev pub IsToldLoad : Option (List ℕ) → List ℕ → Type 0
   IsToldLoad (Some bytes) text = IsCountsText text ⊎ IsFileRefusal text
@@ -113,7 +107,8 @@ module _ {I : Type 0} (g : Ghosts I) (core : CoreView I) where
   -- any limit allows
   abbrev pub IsToldAnswer : List (List ℕ × List ℕ) → Command → List ℕ → Type 0
   IsToldAnswer files (Load name) text = IsToldLoad (file_named files name) text
-  IsToldAnswer files Count text = text ≡ told_count
+  IsToldAnswer files Count text =
+      text ≡ count_text (g.counted core.index) (length core.book.names)
   IsToldAnswer files (Box rect period) text = IsToldLegs (InBox (box_over rect period)) text
   IsToldAnswer files (Legs predicate rect period) text = IsToldPicks predicate rect period text
   IsToldAnswer files (Features predicate rect period) text =
@@ -143,12 +138,9 @@ module _ {I : Type 0} (g : Ghosts I) (core : CoreView I) where
 
   -- a page that is named is such a one; the database is said to be failed only where it was, or its index refused a leg
   abbrev pub Names : (ℕ → Type 0) → RunFault → Type 0
-  Names P Memory = Unit {0}
-  Names P Store = Unit {0}
   Names P (Damaged page) = P page
-  Names P StoreFull = Unit {0}
   Names P Failed = (core.failed ≡ true) ⊎ (g.is_spent core.index ≡ true)
-  Names P Output = Unit {0}
+  Names P _ = Unit {0}
 
   -- why a command is refused: a page that a question names is one that it met; of a `load` nothing is said
   abbrev pub NamesBy : Command → RunFault → Type 0

@@ -1,6 +1,6 @@
 //! The texts of answers.
-ghost use Rattle.std.specs.Prelude.{◌≡◌, ◌++◌, ◌∷◌, [], IfOk, OnOk, decimal, Ok, Err};
-ghost use Rattle.trajdb.specs.Answers.{ok_text, refusal_text, counts_text, load_text};
+ghost use Rattle.std.specs.Prelude.{◌≡◌, ◌++◌, IfOk, OnOk, decimal, Err};
+ghost use Rattle.trajdb.specs.Answers.{ok_text, refusal_text, count_text, counts_text, load_text};
 
 use crate::{Counts, FileCode};
 use itoa::Buffer;
@@ -51,8 +51,7 @@ pub(crate) fn file_refusal_text(
 
 /// The answer of one record of two numbers.
 pub(crate) fn count_text(alloc: Global, legs: u64, features: u64) -> Result<Vec<u8>, AllocError>
-    ensures { IfOk result (λ text. text.items ≡ ok_text 1 ++ decimal legs ++ 44 ∷ []
-        ++ decimal features ++ 10 ∷ []) }
+    ensures { IfOk result (λ text. text.items ≡ count_text legs features) }
 {
     let mut text = ok_text(alloc, 1)?;
     push_number(&mut text, legs)?;

@@ -1,7 +1,7 @@
 //! A database is checked.
 ghost use Rattle.std.specs.Prelude.{◌≡◌, ◌<◌, ◌^◌, ◌↔◌, IsTrue, length};
 ghost use Rattle.legs.specs.Law.{IsName};
-ghost use Rattle.trajdb.specs.Checking.{AreNames, FitsHead, IsOwnName};
+ghost use Rattle.trajdb.specs.Db.{AreNames, FitsHead, IsOwnName};
 
 use crate::database::Core;
 use crate::db::Db;
@@ -57,7 +57,7 @@ fn fits_head(head: &Option<BookHead>, features: u64, rows: &Rows) -> bool
 
 impl<I: Start> Core<I> {
     ghost use Rattle.std.specs.Prelude.{◌↔◌, IsTrue};
-    ghost use Rattle.trajdb.specs.Checking.{KeepsLaw};
+    ghost use Rattle.trajdb.specs.Db.{KeepsLaw};
 
     /// Whether its names, its numbers and its rows are those of a book under its limits.
     fn keeps_law(&self) -> bool
@@ -75,7 +75,7 @@ impl<I: Start> Core<I> {
 }
 
 impl<S: PageStore> Core<TreeIndex<S>> {
-    ghost use Rattle.std.specs.Prelude.{ℕ, ◌≡◌, IfErr, IfOk, IsErrOf, IsTrue, OnOk, false, true, length};
+    ghost use Rattle.std.specs.Prelude.{ℕ, ◌≡◌, IfErr, IsErrOf, IsTrue, OnOk, false, true, length};
     ghost use Rattle.legs.specs.Asking.{Refusals};
     ghost use Rattle.legs.specs.Index.{HasRisen, MayRefuse};
     ghost use Rattle.legs.specs.Limits.{IsLimits};
@@ -84,11 +84,8 @@ impl<S: PageStore> Core<TreeIndex<S>> {
     ghost use Rattle.treecheck.specs.Checking.{AreTracksOf};
     ghost use Rattle.boxsearch.specs.Index.{content, words, IsSoundIndex};
     ghost use Rattle.header.specs.Front.{SaysState};
-    ghost use Rattle.trajdb.specs.Calls.{IsAsked, IsQuestionFault, LeavesBook};
-    ghost use Rattle.trajdb.specs.Checking.{Reports};
-    ghost use Rattle.trajdb.specs.Db as db;
-    ghost use Rattle.trajdb.specs.Lasting.{IsIdle};
-    ghost use Rattle.trajdb.specs.declared.RunFault.{RunFault};
+    ghost use Rattle.trajdb.specs.Calls.{LeavesBook};
+    ghost use Rattle.trajdb.specs.Promises.{CheckCall};
 
     /// Writes all that is changed.
     fn flush(&mut self) -> Result<(), IndexFault>
@@ -96,8 +93,6 @@ impl<S: PageStore> Core<TreeIndex<S>> {
         ensures leaves { LeavesBook words self.old self.new }
         ensures payloads { IsTrue self.old.index.cache.store.is_faithful → (page : ℕ)
             → payload_of self.new.index.cache page ≡ payload_of self.old.index.cache page }
-        ensures faithful { self.new.index.cache.store.is_faithful
-            ≡ self.old.index.cache.store.is_faithful }
         ensures legs { content self.new.index ≡ self.new.book.legs }
         ensures refusals { Refusals words self.old.index self.new.index result }
         ensures works { IfErr result (λ fault. words.is_spent self.old.index ≡ false
@@ -136,24 +131,11 @@ impl<S: PageStore> Core<TreeIndex<S>> {
 
     /// Checks its pages, and what stands beside them.
     pub(crate) fn check(&mut self) -> Result<Report, RunFault>
-        requires { self.old.failed ≡ false }
-        ensures sound { OnOk result (IsTrue self.old.index.cache.store.is_faithful
-            → db.IsSoundDb self.new) }
-        ensures has_pages { OnOk result (IsTrue self.old.index.cache.store.is_faithful
-            → db.HasPages self.new) }
-        ensures report { IfOk result (λ report. IsTrue self.old.index.cache.store.is_faithful
-            → Reports self.new report) }
-        ensures written { OnOk result (IsClean self.new.index.cache) }
-        ensures only { IfErr result (λ fault. db.IsSoundDb self.old → db.HasPages self.old
-            → IsIdle self.old → IsQuestionFault fault) }
-        ensures works { IsErrOf result RunFault.Failed
-            → words.is_spent self.old.index ≡ true }
-        ensures leaves { LeavesBook words self.old self.new }
-        ensures payloads { IsTrue self.old.index.cache.store.is_faithful → (page : ℕ)
-            → payload_of self.new.index.cache page ≡ payload_of self.old.index.cache page }
-        ensures store { IfErr result (IsAsked words self.old.index self.new.index) }
+        ensures { CheckCall self.old self.new result }
     {
-        boxsearch::laws();
+        if self.failed {
+            return Err(RunFault::Failed);
+        }
         // For its clause: a page that is not changed is as written.
         let _ = self.index.page_count();
         self.flush()?;
@@ -186,9 +168,6 @@ impl<S: PageStore> Db<S> {
         ensures call { CheckCall self.old self.new result }
         ensures keeps { KeepsStore self.old self.new }
     {
-        if self.core.failed {
-            return Err(RunFault::Failed);
-        }
         self.core.check()
     }
 }

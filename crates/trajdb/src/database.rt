@@ -4,7 +4,6 @@ ghost use Rattle.std.specs.Prelude.{◌≡◌, [], IfOk};
 use crate::answer::{count_text, counts_text, file_refusal_text, refusal_text};
 use crate::files::Files;
 use crate::load::{NewFile, counts_of, join_text, keep_head};
-use crate::output::send;
 use crate::script::{first_piece, without_return};
 use crate::start::{Start, put_legs};
 use crate::{Counts, LoadFault, RunFault};
@@ -60,9 +59,8 @@ impl<I: Start> Model for Core<I> {
 }
 
 impl<I: Start> Core<I> {
-    ghost use Rattle.std.specs.Prelude.{◌≡◌, [], None, IfOk, IfErr, false};
-    ghost use Rattle.legs.specs.Book.{empty_book};
-    ghost use Rattle.trajdb.specs.Database.{catalogue_of, IsSound};
+    ghost use Rattle.std.specs.Prelude.{◌≡◌, [], IfOk, IfErr};
+    ghost use Rattle.trajdb.specs.Database.{catalogue_of, fresh, IsSound};
 
     /// A database without files over an index without legs, which has begun or not. Names are hashed with the keys,
     /// which a stranger who chooses the names of a file is not to know.
@@ -73,17 +71,11 @@ impl<I: Start> Core<I> {
         limits: Limits,
         begun: bool,
     ) -> Result<Core<I>, (I, AllocError)>
-        ensures book { IfOk result (λ core. I.content index ≡ [] → core.book ≡ empty_book) }
+        ensures made { IfOk result (λ core. I.content index ≡ []
+            → core ≡ fresh limits index begun) }
         ensures sound { IfOk result (λ core. I.is_sound index → I.content index ≡ []
             → IsSound I.Listed core) }
-        ensures limits { IfOk result (λ core. core.limits ≡ limits) }
         ensures index { IfOk result (λ core. core.index ≡ index) }
-        ensures begun { IfOk result (λ core. core.begun ≡ begun) }
-        ensures lives { IfOk result (λ core. core.failed ≡ false) }
-        ensures tracks { IfOk result (λ core. core.tracks
-            ≡ record { names = []; tracks = []; legs = 0; rows = 0 }) }
-        ensures parts { IfOk result (λ core. core.book
-            ≡ record { head = None; names = []; legs = I.content index; rows = [] }) }
         ensures refused { IfErr result (λ back. back.0 ≡ index) }
     {
         prove!(limits.legs() > 0);
@@ -134,14 +126,28 @@ impl<I: Start> Core<I> {
 }
 
 impl<I: Start> Core<I> {
-    ghost use Rattle.std.specs.Prelude.{◌≡◌, Ok, IfOk, IfErr, OnOk, OnErr, true, false};
+    ghost use Rattle.std.specs.Prelude.{◌≡◌, Ok, IfOk, IfErr, OnOk, OnErr, true};
     ghost use Rattle.mfcsv.specs.FileText.{file_of_bytes};
     ghost use Rattle.mfcsv.specs.declared.File.{File};
     ghost use Rattle.legs.specs.Book.{with_file};
-    ghost use Rattle.trajdb.specs.Answers.{book_with, load_of};
-    ghost use Rattle.trajdb.specs.Database.{FaultIs, IsRefused, IsTold, LoadGives, Becomes, IsSound};
+    ghost use Rattle.trajdb.specs.Answers.{load_of};
+    ghost use Rattle.trajdb.specs.Database.{Becomes, FaultIs, IsSound};
     ghost use Rattle.trajdb.specs.Loads.{Accepts};
-    ghost use Rattle.trajdb.specs.Calls.{IsJoinStop, IsLater, IsLoadFault, IsLoadStop, IsOfStore, LeavesPages};
+    ghost use Rattle.trajdb.specs.Calls.{IsJoinStop, IsLater, IsLoadFault, IsOfStore, LeavesPages};
+
+    /// What a file adds, or its first fault.
+    fn join_file(&self, alloc: Global, bytes: &[u8]) -> Result<NewFile, LoadFault>
+        ensures joined { IfOk result (λ new. (file : File) × (file_of_bytes bytes.now ≡ Ok file)
+            × (IsSound I.Listed self.now → Accepts self.now.limits self.now.book file new)) }
+        ensures refused { IfErr result (λ fault. IsSound I.Listed self.now
+            → FaultIs fault (load_of self.now.limits self.now.book bytes.now)) }
+        ensures stopped { IfErr result IsJoinStop }
+    {
+        match join_text(alloc, self.head.as_ref(), &self.tracks, &self.limits, bytes) {
+            Ok(new) => Ok(new),
+            Err(fault) => Err(fault),
+        }
+    }
 
     /// Takes in a file that was read and joined.
     fn take(&mut self, new: NewFile) -> Result<(), RunFault>
@@ -167,48 +173,6 @@ impl<I: Start> Core<I> {
         self.begun = true;
         Ok(())
     }
-
-    /// What a file adds, or its first fault.
-    fn join_file(&self, alloc: Global, bytes: &[u8]) -> Result<NewFile, LoadFault>
-        ensures joined { IfOk result (λ new. (file : File) × (file_of_bytes bytes.now ≡ Ok file)
-            × (IsSound I.Listed self.now → Accepts self.now.limits self.now.book file new)) }
-        ensures refused { IfErr result (λ fault. IsSound I.Listed self.now
-            → FaultIs fault (load_of self.now.limits self.now.book bytes.now)) }
-        ensures stopped { IfErr result IsJoinStop }
-    {
-        match join_text(alloc, self.head.as_ref(), &self.tracks, &self.limits, bytes) {
-            Ok(new) => Ok(new),
-            Err(fault) => Err(fault),
-        }
-    }
-
-    /// Reads and accepts a file.
-    fn read(&mut self, alloc: Global, bytes: &[u8]) -> Result<Counts, LoadFault>
-        ensures counts { IsSound I.Listed self.old
-            → LoadGives result (load_of self.old.limits self.old.book bytes.now) }
-        ensures becomes { IsTold result
-            → Becomes I.Listed self.old self.new (book_with self.old.limits
-            self.old.book bytes.now) }
-        ensures stopped { IfErr result (IsLoadStop I.Listed self.old self.new) }
-        ensures later { IsLater I.Listed self.old self.new }
-        ensures failed { self.new.failed ≡ self.old.failed }
-        ensures refused { IfErr result (λ fault. IsRefused fault → self.new ≡ self.old) }
-        ensures begun { OnOk result (self.new.begun ≡ true) }
-        ensures idle { OnErr result (self.new.begun ≡ self.old.begun) }
-        ensures marks { OnOk result (I.is_faithful self.old.index → I.is_marked self.new.index) }
-        ensures pages { I.is_faithful self.old.index
-            → LeavesPages I.Listed self.old.index self.new.index }
-    {
-        let new = match self.join_file(alloc, bytes) {
-            Ok(new) => new,
-            Err(fault) => return Err(fault),
-        };
-        let counts = counts_of(&new);
-        match self.take(new) {
-            Ok(()) => Ok(counts),
-            Err(fault) => Err(LoadFault::Run(fault)),
-        }
-    }
 }
 
 impl<I: Start> Core<I> {
@@ -226,39 +190,40 @@ impl<I: Start> Core<I> {
         if self.failed {
             return Err(LoadFault::Run(RunFault::Failed));
         }
-        match self.read(alloc, bytes) {
+        match self.join_file(alloc, bytes) {
+            Ok(new) => {
+                let counts = counts_of(&new);
+                match self.take(new) {
+                    Ok(()) => Ok(counts),
+                    Err(fault) => {
+                        self.failed = true;
+                        Err(LoadFault::Run(fault))
+                    }
+                }
+            }
             Err(LoadFault::Run(fault)) => {
                 self.failed = true;
                 Err(LoadFault::Run(fault))
             }
-            told => told,
+            Err(refused) => Err(refused),
         }
     }
 }
 
 impl<I: Start> Core<I> {
-    ghost use Rattle.std.specs.Prelude.{◌⊎◌, ◌≡◌, IfOk, IfErr, OnOk, OnErr, Some, true, false};
-    ghost use Rattle.trajdb.specs.Answers.{IsCountsText, IsFileRefusal, named_book, named_text, AcceptsNamed};
-    ghost use Rattle.trajdb.specs.Database.{Becomes, IsSound};
-    ghost use Rattle.trajdb.specs.Calls.{Begins, BeginsOnly, IsStopped, IsLater, KeepsPages};
+    ghost use Rattle.std.specs.Prelude.{◌≡◌, false};
+    ghost use Rattle.querylang.specs.declared.Command.{Command};
+    ghost use Rattle.trajdb.specs.Promises.{CommandCall};
 
-    /// The answer to `load` of a file.
-    fn load_text(&mut self, alloc: Global, bytes: &[u8]) -> Result<Vec<u8>, RunFault>
-        ensures text { IfOk result (λ text. IsSound I.Listed self.old
-            → text.items ≡ named_text self.old.limits self.old.book (Some bytes.now)) }
-        ensures told { IfOk result (λ text. IsCountsText text.items ⊎ IsFileRefusal text.items) }
-        ensures becomes { OnOk result (Becomes I.Listed self.old self.new
-            (named_book self.old.limits self.old.book (Some bytes.now))) }
-        ensures lives { OnOk result (self.new.failed ≡ false) }
-        ensures failed { OnErr result (self.new.failed ≡ true) }
-        ensures stopped { IfErr result (IsStopped I.Listed self.old self.new) }
-        ensures later { IsLater I.Listed self.old self.new }
-        ensures begins { OnOk result (Begins I.Listed self.old self.new
-            (AcceptsNamed self.old.limits self.old.book (Some bytes.now))) }
-        ensures only { BeginsOnly I.Listed self.old self.new
-            (AcceptsNamed self.old.limits self.old.book (Some bytes.now)) }
-        ensures pages { KeepsPages I.Listed self.old self.new }
+    /// The answer to `load` of the file of that name.
+    fn load_text(&mut self, alloc: Global, name: &str, files: &Files) -> Result<Vec<u8>, RunFault>
+        requires { self.old.failed ≡ false }
+        ensures { CommandCall I.Listed files.now self.old self.new (Command.Load name.now) result }
     {
+        let bytes = match files.get(name) {
+            Some(bytes) => bytes,
+            None => return Ok(refusal_text(alloc, "Q9")?),
+        };
         let text = match self.load(alloc, bytes) {
             Ok(counts) => counts_text(alloc, counts),
             Err(LoadFault::Refused { code, number }) => file_refusal_text(alloc, code, number),
@@ -293,10 +258,7 @@ impl<I: Start> Core<I> {
             return Err(RunFault::Failed);
         }
         match command {
-            Command::Load(name) => match files.get(name.as_str()) {
-                Some(bytes) => self.load_text(alloc, bytes),
-                None => Ok(refusal_text(alloc, "Q9")?),
-            },
+            Command::Load(name) => self.load_text(alloc, name.as_str(), files),
             Command::Count => Ok(count_text(alloc, self.index.len(), self.tracks.feature_count())?),
             Command::Box(rect, period) => self.box_text(alloc, rect, period),
             Command::Legs(predicate, rect, period) => {
@@ -313,7 +275,6 @@ impl<I: Start> Core<I> {
 
 impl<I: Start> Core<I> {
     ghost use Rattle.std.specs.Prelude.{IfOk, IfErr};
-    ghost use Rattle.trajdb.specs.Faults.{IsNotOutput};
     ghost use Rattle.trajdb.specs.Promises.{DoesLine, StopsLine};
 
     /// The whole answer to a line of a script.
@@ -322,7 +283,6 @@ impl<I: Start> Core<I> {
         ensures does { IfOk result (λ text.
             DoesLine I.Listed files.now self.old self.new line.now text.items) }
         ensures stops { IfErr result (StopsLine I.Listed files.now self.old self.new line.now) }
-        ensures inside { IfErr result IsNotOutput }
     {
         match parse_line(alloc, line) {
             Ok(Some(command)) => self.command(alloc, &command, files),
@@ -334,47 +294,11 @@ impl<I: Start> Core<I> {
 }
 
 impl<I: Start> Core<I> {
-    ghost use Rattle.std.specs.Prelude.{◌≡◌, ◌⊎◌, IfErr, IsErrOf, IsTrue, OnOk, Err};
-    ghost use Rattle.std.specs.Io.KnownBytes.{Keeps};
-    ghost use Rattle.outputs.specs.Output.{HasRefused};
+    ghost use Rattle.std.specs.Prelude.{OnOk};
     ghost use Rattle.trajdb.specs.Database.{IsSound};
-    ghost use Rattle.trajdb.specs.Faults.{IsNotOutput};
-    ghost use Rattle.trajdb.specs.Promises.{DoesLine, RunCall, StopsLine};
-    ghost use Rattle.trajdb.specs.Run.{HasCut, HasDone, Runs};
+    ghost use Rattle.trajdb.specs.Promises.{RunCall};
+    ghost use Rattle.trajdb.specs.Run.{Runs};
     ghost use Rattle.trajdb.specs.Script.{lines_of};
-
-    /// One line of a script: its answer goes to the output.
-    fn line<O: Output>(
-        &mut self,
-        alloc: Global,
-        line: &[u8],
-        files: &Files,
-        out: &mut O,
-    ) -> Result<(), RunFault>
-        ensures done { OnOk result (HasDone (DoesLine I.Listed files.now)
-            (O.seen out.old).contents (O.seen out.new).contents self.old self.new line.now) }
-        ensures cut { IsErrOf result RunFault.Output → HasCut (DoesLine I.Listed files.now)
-            (O.seen out.old).contents (O.seen out.new).contents self.old self.new line.now }
-        ensures stops { IfErr result (λ fault. IsNotOutput fault
-            → StopsLine I.Listed files.now self.old self.new line.now fault) }
-        ensures sends { IfErr result (λ fault. IsNotOutput fault
-            → Keeps (O.seen out.old).contents (O.seen out.new).contents) }
-        ensures refuses_none { OnOk result ((O.seen out.new).refusals ≡ (O.seen out.old).refusals) }
-        ensures output { IsErrOf result RunFault.Output
-            → HasRefused (O.seen out.old) (O.seen out.new) }
-        ensures flushed { IfErr result (λ fault. IsNotOutput fault
-            → IsTrue (O.seen out.new).is_flushed
-            ⊎ HasRefused (O.seen out.old) (O.seen out.new)) }
-    {
-        match self.answer(alloc, line, files) {
-            Ok(text) => send(out, text.as_slice()),
-            Err(fault) => {
-                // Where the output refuses to be flushed, the fault is still the line's.
-                let _ = out.flush();
-                Err(fault)
-            }
-        }
-    }
 
     /// Runs a script, with the named files at hand, and sends its answers.
     ///
@@ -403,9 +327,16 @@ impl<I: Start> Core<I> {
         let mut rest = script;
         while !rest.is_empty() {
             let (piece, others) = first_piece(rest);
-            match self.line(alloc, without_return(piece), files, out) {
-                Ok(()) => {}
-                Err(fault) => return Err(fault),
+            match self.answer(alloc, without_return(piece), files) {
+                Ok(text) => match out.send(text.as_slice()) {
+                    Ok(()) => {}
+                    Err(_) => return Err(RunFault::Output),
+                },
+                Err(fault) => {
+                    // Where the output refuses to be flushed, the fault is still the line's.
+                    let _ = out.flush();
+                    return Err(fault);
+                }
             }
             rest = others;
         }

@@ -19,14 +19,7 @@ use std::marker::Model;
 use tbtree::Shape;
 
 impl<S: PageStore> Start for TreeIndex<S> {
-    ghost use Rattle.std.specs.Prelude.{◌≡◌, ◌<◌, OnOk, IsTrue};
-    ghost use Rattle.legs.specs.Asking.{Refusals, Starts};
-    ghost use Rattle.boxsearch.specs.Index.{words};
-
-    fn start(&mut self) -> Result<(), IndexFault>
-        ensures starts { Starts words self.old self.new result }
-        ensures refusals { Refusals words self.old self.new result }
-    {
+    fn start(&mut self) -> Result<(), IndexFault> {
         self.mark()
     }
 }
@@ -59,19 +52,18 @@ fn fault_of(fault: CacheFault) -> OpenFault
 }
 
 impl<S: PageStore> Db<S> {
-    ghost use Rattle.std.specs.Prelude.{◌≡◌, ◌<◌, Some, IfOk, IfErr, IsTrue, OnOk, true, false};
+    ghost use Rattle.std.specs.Prelude.{◌≡◌, ◌<◌, Some, IfOk, IfErr, IsTrue, OnOk, true};
     ghost use Rattle.pages.specs.Sealed.{sealed};
-    ghost use Rattle.pages.specs.Store.{IsSynced, Keeps, Store, Writes};
+    ghost use Rattle.pages.specs.Store.{IsSynced, Keeps, Writes};
     ghost use Rattle.boxsearch.specs.Index.{words};
     ghost use Rattle.catalogue.specs.Beginning.{IsLeft};
     ghost use Rattle.header.specs.Fields.{header_payload};
-    ghost use Rattle.legs.specs.Book.{empty_book};
+    ghost use Rattle.trajdb.specs.Database.{fresh};
     ghost use Rattle.trajdb.specs.Script.{lines_of};
     ghost use Rattle.trajdb.specs.Run.{Runs};
     ghost use Rattle.trajdb.specs.Promises.{CommandCall, KeepsStore, LoadCall, RunCall};
     ghost use Rattle.register.specs.Saving.{IsSavingStop};
     ghost use Rattle.trajdb.specs.Db.{HasPages, IsCaused, IsSoundDb};
-    ghost use Rattle.trajdb.specs.Lasting.{IsSafe};
 
     /// Makes a database over an empty store. Its cache holds at most that many pages, at least 1.
     /// Names are hashed with the keys, which a stranger who chooses the names of a file is not to
@@ -93,10 +85,9 @@ impl<S: PageStore> Db<S> {
         requires cache_pages { 0 < cache_pages }
         // Over a faithful store the new database is sound.
         ensures sound { IfOk result (λ db. IsTrue (S.seen store).is_faithful → IsSoundDb db) }
-        // No file was accepted: the book is the empty one.
-        ensures book { IfOk result (λ db. db.book ≡ empty_book) }
-        // It keeps the limits that were given.
-        ensures limits { IfOk result (λ db. db.limits ≡ limits) }
+        // No file was accepted, so the book is the empty one. It keeps the limits that were given.
+        // It has not failed, and it has begun, so `close` will save it.
+        ensures made { IfOk result (λ db. db ≡ fresh limits db.index true) }
         // Its tree has the shape that was given.
         ensures shape { IfOk result (λ db. words.plan db.index ≡ Some shape) }
         // Its cache holds at most that many pages.
@@ -107,15 +98,9 @@ impl<S: PageStore> Db<S> {
             (S.seen store) db.index.cache.store) }
         // That page is synced.
         ensures synced { IfOk result (λ db. IsSynced db.index.cache.store) }
-        // It has not failed.
-        ensures lives { IfOk result (λ db. db.failed ≡ false) }
-        // It has begun, so `close` will save it.
-        ensures begun { IfOk result (λ db. db.begun ≡ true) }
-        // Over a faithful store page 0 as written says that the store is not finished.
+        // Over a faithful store page 0 as written says that the store is not finished. So if it is
+        // given up, the store is refused as unfinished.
         ensures pages { IfOk result (λ db. IsTrue (S.seen store).is_faithful → HasPages db) }
-        // If it is given up, the store over which it was made is refused as unfinished.
-        ensures safe { IfOk result (λ db. IsTrue (S.seen store).is_faithful → (was : Store)
-            → IsSafe was db) }
         // Over a faithful store it fails only if memory runs out, or the store fails or is full.
         ensures only { IfErr result (λ back. IsTrue (S.seen store).is_faithful
             → IsSavingStop back.1) }

@@ -1,7 +1,7 @@
 //! The named files that a script may load.
 ghost use Rattle.std.specs.Prelude.{◌≡◌, [], OnOk, OnErr};
 ghost use Rattle.std.specs.Option.{option_copied};
-ghost use Rattle.trajdb.specs.Files.{file_named, files_with};
+ghost use Rattle.trajdb.specs.Script.{file_named, files_with};
 
 use indexmap::IndexMap;
 use std::alloc::{AllocError, Global};

@@ -11,7 +11,6 @@ mod files;
 mod lasting;
 mod load;
 mod lookups;
-mod output;
 mod questions;
 mod script;
 mod start;
@@ -40,7 +39,7 @@ pub enum FileCode {
 
 impl FileCode {
     ghost use Rattle.std.specs.Prelude.{◌≡◌};
-    ghost use Rattle.trajdb.specs.Codes.{file_code};
+    ghost use Rattle.trajdb.specs.Faults.{file_code};
 
     /// The code as it is printed, as `F18`.
     pub fn as_str(self) -> &'static str
@@ -55,7 +54,7 @@ impl FileCode {
 
 impl fmt::Display for FileCode {
     ghost use Rattle.std.specs.Prelude.{Some};
-    ghost use Rattle.trajdb.specs.Codes.{file_code};
+    ghost use Rattle.trajdb.specs.Faults.{file_code};
 
     ghost output = { λ c. Some (file_code c) };
 

@@ -36,21 +36,21 @@ fn holding(
 }
 
 impl<I: Start> Core<I> {
-    ghost use Rattle.std.specs.Prelude.{◌≡◌, ◌↔◌, ◌≤◌, ◌<◌, All, IsTrue, IfOk, IfErr, None, Some, length, map};
+    ghost use Rattle.std.specs.Prelude.{◌≡◌, ◌↔◌, ◌≤◌, ◌<◌, All, IsTrue, None, Some, length, map};
     ghost use Rattle.std.specs.List.{range_with_len};
     ghost use Rattle.legs.specs.Boxes.{box_over, everything};
     ghost use Rattle.legs.specs.Index.{legs_in_box, legs_of, live_legs_of};
     ghost use Rattle.legs.specs.Limits.{greatest_limit};
     ghost use Rattle.legs.specs.Book.{feature_named};
     ghost use Rattle.trajdb.specs.Picks.{Picks};
-    ghost use Rattle.trajdb.specs.Answers.{HoldsOfFeature, HoldsOfLeg, book_frame, named_leg_of, file_answer, legs_text, feature_name, names_text, track_of};
+    ghost use Rattle.trajdb.specs.Answers.{HoldsOfFeature, HoldsOfLeg, PicksFeatures, book_frame, named_leg_of, file_answer, legs_text, feature_name, names_text, track_of};
     ghost use Rattle.legs.specs.Costs.{search_cost};
     ghost use Rattle.predicates.specs.Near.{box_near};
     ghost use Rattle.legs.specs.Law.{IsThere};
     ghost use Rattle.legs.specs.Questions.{InBox, OfFeature};
     ghost use Rattle.legs.specs.Sieves.{IsSieved};
     ghost use Rattle.trajdb.specs.Telling.{ArePickedOf, AreSievedLive, AreToldOf, DeniesNamed, DeniesSome, HoldsLive, MakingCall, Names, PicksLive, QuestionCall, TextCall};
-    ghost use Rattle.trajdb.specs.Calls.{IsText, Asks, AsksAtMost, feature_bound, features_bound, track_asks};
+    ghost use Rattle.trajdb.specs.Calls.{Asks, AsksAtMost, feature_bound, features_bound, track_asks};
     ghost use Rattle.querylang.specs.declared.Command.{Command};
 
     /// How legs are written.
@@ -204,7 +204,8 @@ impl<I: Start> Core<I> {
 
     /// How many features there are.
     fn feature_count(&self) -> u32
-        ensures { length self.now.book.names ≤ greatest_limit → result ≡ length self.now.book.names }
+        ensures { length self.now.book.names ≤ greatest_limit
+            → result ≡ length self.now.book.names }
     {
         u32::try_from(self.tracks.feature_count()).unwrap_or(u32::MAX)
     }
@@ -218,8 +219,7 @@ impl<I: Start> Core<I> {
         period: &Period,
     ) -> Result<Vec<u32>, RunFault>
         ensures { QuestionCall I.Listed self.old self.new result
-            (λ features. Picks (HoldsOfFeature predicate rect.now period.now self.old.book.legs)
-            (range_with_len 0 (length self.old.book.names)) features.items)
+            (λ features. PicksFeatures self.old.book predicate rect.now period.now features.items)
             (λ features. length self.old.book.names ≤ greatest_limit
             → PicksLive I.Listed self.old predicate rect.now period.now
             (range_with_len 0 (length self.old.book.names)) features.items)
@@ -238,10 +238,9 @@ impl<I: Start> Core<I> {
 
     /// The names of features.
     fn names(&self, alloc: Global, features: &[u32]) -> Result<Vec<&str>, RunFault>
-        ensures names { IfOk result (λ names. map (λ n. n.now) names.items ≡ map (feature_name
-            self.now.book) features.now) }
-        ensures fault { IfErr result (IsText (All (λ feature. feature < length
-            self.now.book.names) features.now)) }
+        ensures { MakingCall result (λ names. map (λ n. n.now) names.items
+            ≡ map (feature_name self.now.book) features.now)
+            (All (λ feature. feature < length self.now.book.names) features.now) }
     {
         let mut names = Vec::with_capacity(alloc, features.len())?;
         for feature in features {
@@ -252,9 +251,8 @@ impl<I: Start> Core<I> {
 
     /// The answer of features.
     pub(crate) fn names_text(&self, alloc: Global, features: &[u32]) -> Result<Vec<u8>, RunFault>
-        ensures text { IfOk result (λ text. text.items ≡ names_text self.now.book features.now) }
-        ensures fault { IfErr result (IsText (All (λ feature. feature < length
-            self.now.book.names) features.now)) }
+        ensures { MakingCall result (λ text. text.items ≡ names_text self.now.book features.now)
+            (All (λ feature. feature < length self.now.book.names) features.now) }
     {
         let names = self.names(alloc, features)?;
         let mut text = ok_text(alloc, features.len() as u64)?;
@@ -340,7 +338,8 @@ impl<I: Start> Core<I> {
         rect: &Rect,
         period: &Period,
     ) -> Result<Vec<u8>, RunFault>
-        ensures { TextCall I.Listed self.old self.new (Command.Legs predicate rect.now period.now) result }
+        ensures { TextCall I.Listed self.old self.new
+            (Command.Legs predicate rect.now period.now) result }
     {
         let legs = self.legs_for(alloc, predicate, rect, period)?;
         self.legs_text(alloc, legs.as_slice())
@@ -354,7 +353,8 @@ impl<I: Start> Core<I> {
         rect: &Rect,
         period: &Period,
     ) -> Result<Vec<u8>, RunFault>
-        ensures { TextCall I.Listed self.old self.new (Command.Features predicate rect.now period.now) result }
+        ensures { TextCall I.Listed self.old self.new
+            (Command.Features predicate rect.now period.now) result }
     {
         let features = self.features_for(alloc, predicate, rect, period)?;
         self.names_text(alloc, features.as_slice())

@@ -1,5 +1,5 @@
 use Rattle.std.proofs.Common.{ℕ, ◌<◌}
-use Rattle.trajdb.specs.Checking.{IsOwnName}
+use Rattle.trajdb.specs.Db.{IsOwnName}
 use Rattle.trajdb.proofs.checking.are_names.Given as goal
 
 abbrev pub invariant-loop-feature : goal.invariant-loop-feature

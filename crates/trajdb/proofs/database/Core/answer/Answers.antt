@@ -1,6 +1,6 @@
 use Rattle.std.proofs.Common.{◌≡◌, ◌∙◌, Ok, Some, ap}
 use Rattle.querylang.specs.Line.{line_command}
-use Rattle.trajdb.proofs.LineLaws.{command_does, command_inside, command_stops}
+use Rattle.trajdb.proofs.LineLaws.{command_does, command_stops}
 use Rattle.trajdb.proofs.database.Core.answer.Goals as goal
 
 pub returns-in-Ok-Some : goal.returns-in-Ok-Some
@@ -9,5 +9,4 @@ returns-in-Ok-Some g c =
     record {
       does = command_does g.I.Listed c.args.files.now _ _ c.args.line.now c.in-Ok-Some.command c.command.result is c.command.ensures;
       stops = command_stops g.I.Listed c.args.files.now _ _ c.args.line.now c.in-Ok-Some.command c.command.result is c.command.ensures;
-      inside = command_inside g.I.Listed c.args.files.now _ _ c.in-Ok-Some.command c.command.result c.command.ensures;
     }

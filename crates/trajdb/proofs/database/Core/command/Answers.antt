@@ -2,25 +2,8 @@ use Rattle.std.proofs.Common.{rules}
 use Rattle.trajdb.proofs.PageLemmas.{keeps_leaves}
 use Rattle.trajdb.proofs.database.Core.command.Goals as goal
 
-pub returns-in-Some : goal.returns-in-Some
-returns-in-Some g c = record {
-  text = search rules;
-  becomes = search rules;
-  lives = search rules;
-  says = search rules;
-  named = search rules;
-  asks = search rules;
-  later = search rules;
-  question = search rules;
-  refused = search rules;
-  failed = search rules;
-  full = search rules;
-  stopped = search rules;
-  begins = search rules;
-  only = search rules;
-  pages = search rules;
-  was_failed = search rules;
-}
+pub returns-in-Load : goal.returns-in-Load
+returns-in-Load g c = rw (c.in-Load.is, ← c.as_str.ensures) c.load_text.ensures
 
 pub returns-in-Features : goal.returns-in-Features
 returns-in-Features g c = rw (c.in-Features.is) (record {

@@ -3,9 +3,9 @@ use Rattle.std.proofs.lemmas.Result.{err_from_is_err_and}
 use Rattle.legs.specs.Asking.{Denies}
 use Rattle.legs.specs.Book.{Book}
 use Rattle.legs.specs.Questions.{OfFeature}
-use Rattle.legs.specs.Sieves.{sieved_same}
 use Rattle.trajdb.proofs.TellingLemmas.{denied_of}
 use Rattle.trajdb.proofs.database.Core.live_legs.Goals as goal
+use Rattle.legs.proofs.SieveLaws.{sieved_same}
 
 pub returns-then-is_over : goal.returns-then-is_over
 returns-then-is_over g c = record {

@@ -2,6 +2,9 @@ use Rattle.catalogue.proofs.RestLemmas.{rest_stays}
 use Rattle.trajdb.proofs.SafeLemmas.{keeps_store}
 use Rattle.trajdb.proofs.db.Db.run.Goals as goal
 
+pub returns-clause-ok : goal.returns-clause-ok
+returns-clause-ok g c = rw (← c.self.view_is) c.run.ensures.ok
+
 pub returns-clause-call : goal.returns-clause-call
 returns-clause-call g c = rw (← c.self.view_is) c.run.ensures.call
 

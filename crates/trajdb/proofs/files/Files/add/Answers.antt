@@ -3,7 +3,7 @@ use Rattle.std.specs.Option.{is_some}
 use Rattle.std.specs.String.{string_bytes}
 use Rattle.std.specs.Prelude.{bytes_eq}
 use Rattle.std.specs.Map.{lookup}
-use Rattle.trajdb.specs.Files.{file_named, files_with}
+use Rattle.trajdb.specs.Script.{file_named, files_with}
 use Rattle.trajdb.proofs.FileLemmas.{file_named-seen, seen, seen-insert, files_with-there, files_with-new, is_some-map, none_is}
 use Rattle.trajdb.proofs.files.Files.add.Goals as goal
 
