@@ -1,6 +1,5 @@
 //! Visits of features: stays that go on over several legs, joined.
 ghost use Rattle.std.specs.Prelude.{◌≡◌, All, IfOk};
-ghost use Rattle.visiting.specs.Lengths.{not_below_0};
 ghost use Rattle.moments.specs.Lengths.{IsNoLater};
 ghost use Rattle.moments.specs.Visits.{visits_of};
 
@@ -9,7 +8,7 @@ use crate::moment::Moment;
 use crate::stay::Stay;
 use mfcsv::Position;
 use std::alloc::{AllocError, Global};
-use visiting::{Joined, Lasting, joined_of};
+use visiting::{Joined, Lasting, Micros, joined_of, length};
 
 /// A visit: one stay of a feature, or several, each of which begins at the moment at which the one before it ends.
 #[derive(Clone, Copy, PartialEq, Eq, Debug)]
@@ -31,13 +30,6 @@ pub struct Visit {
     pub legs: u64,
 }
 
-/// A number, or 0 in the place of one below 0.
-fn not_below_0(number: i64) -> u64
-    ensures { result ≡ not_below_0 number }
-{
-    if number < 0 { 0 } else { number.unsigned_abs() }
-}
-
 impl Visit {
     ghost use Rattle.std.specs.Prelude.{◌≡◌};
     ghost use Rattle.moments.specs.Lengths.{IsBetween, IsNoLater, least_of, most_of};
@@ -53,9 +45,15 @@ impl Visit {
         ensures between { IsNoLater self.now.enters self.now.leaves
             → IsBetween self.now.enters self.now.leaves result.0 result.1 }
     {
-        let least = self.leaves.micros_down() - self.enters.micros_up();
-        let most = self.leaves.micros_up() - self.enters.micros_down();
-        (not_below_0(least), not_below_0(most))
+        let enters = Micros {
+            down: self.enters.micros_down(),
+            up: self.enters.micros_up(),
+        };
+        let leaves = Micros {
+            down: self.leaves.micros_down(),
+            up: self.leaves.micros_up(),
+        };
+        length(enters, leaves)
     }
 }
 

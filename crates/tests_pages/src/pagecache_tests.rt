@@ -47,26 +47,39 @@ fn with_byte(value: u8) -> Payload {
     payload
 }
 
-// A page that is added is one call of the store, and what stands there is not written again: a
-// flush after it makes the store last, as the second call.
-fn adding_is_one_call(alloc: Global) -> Result<bool, Memory> {
-    let store = Fuse::new(MemStore::new(alloc, 10), 2, false);
+/// Adds a leaf's page with one byte, which is to change or is not.
+fn add(
+    cache: &mut PageCache<Fuse<MemStore>>,
+    is_to_change: bool,
+    value: u8,
+) -> Result<u32, CacheFault> {
+    if is_to_change {
+        cache.add_changed(with_byte(value))
+    } else {
+        cache.add(with_byte(value))
+    }
+}
+
+// A page that is added is one call of the store. One that is to change is a second call when it is flushed; what
+// stands there is not written again. So many calls and no more: the next one, by which the store lasts, fails.
+fn adding_is_so_many_calls(alloc: Global, is_to_change: bool, calls: u64) -> Result<bool, Memory> {
+    let store = Fuse::new(MemStore::new(alloc, 10), calls, false);
     let mut cache = cache_over(alloc, store, 1)?;
     Ok(
-        cache.add(with_byte(3)) == Ok(0)
+        add(&mut cache, is_to_change, 3) == Ok(0)
             && cache.flush() == Ok(())
             && cache.flush() == Err(CacheFault::Store),
     )
 }
 
-// The store fails the one call: no page is there, and the next one gets the number.
-fn failed_adding_adds_none(alloc: Global) -> Result<bool, Memory> {
+// The store fails the first call: no page is there, and the next one gets the number.
+fn failed_adding_adds_none(alloc: Global, is_to_change: bool) -> Result<bool, Memory> {
     let store = Fuse::new(MemStore::new(alloc, 10), 0, true);
     let mut cache = cache_over(alloc, store, 1)?;
     Ok(
-        cache.add(with_byte(3)) == Err(CacheFault::Store)
+        add(&mut cache, is_to_change, 3) == Err(CacheFault::Store)
             && cache.count() == 0
-            && cache.add(with_byte(4)) == Ok(0)
+            && add(&mut cache, is_to_change, 4) == Ok(0)
             && byte(&mut cache, 0, PLACE) == Ok(4),
     )
 }
@@ -83,35 +96,13 @@ fn a_page_that_is_to_change_is_lost_without_a_flush(rt: HostRuntime) -> Result<(
     Ok(())
 }
 
-// The page is one call of the store when it is added, one when it is flushed, and the flush one more.
-fn adding_a_changed_page_is_two_calls(alloc: Global) -> Result<bool, Memory> {
-    let store = Fuse::new(MemStore::new(alloc, 10), 3, false);
-    let mut cache = cache_over(alloc, store, 1)?;
-    Ok(
-        cache.add_changed(with_byte(3)) == Ok(0)
-            && cache.flush() == Ok(())
-            && cache.flush() == Err(CacheFault::Store),
-    )
-}
-
-// The store fails the first call: no page is there, and the next one gets the number.
-fn failed_adding_of_a_changed_page_adds_none(alloc: Global) -> Result<bool, Memory> {
-    let store = Fuse::new(MemStore::new(alloc, 10), 0, true);
-    let mut cache = cache_over(alloc, store, 1)?;
-    Ok(
-        cache.add_changed(with_byte(3)) == Err(CacheFault::Store)
-            && cache.count() == 0
-            && cache.add_changed(with_byte(4)) == Ok(0)
-            && byte(&mut cache, 0, PLACE) == Ok(4),
-    )
-}
-
 #[test]
 fn pages_are_added_in_so_many_calls(rt: HostRuntime) -> Result<(), Fail> {
-    assert!(rt; adding_is_one_call(rt.alloc())?);
-    assert!(rt; failed_adding_adds_none(rt.alloc())?);
-    assert!(rt; adding_a_changed_page_is_two_calls(rt.alloc())?);
-    assert!(rt; failed_adding_of_a_changed_page_adds_none(rt.alloc())?);
+    assert!(rt; adding_is_so_many_calls(rt.alloc(), false, 2)?);
+    assert!(rt; adding_is_so_many_calls(rt.alloc(), true, 3)?);
+    for is_to_change in [false, true] {
+        assert!(rt; failed_adding_adds_none(rt.alloc(), is_to_change)?);
+    }
     Ok(())
 }
 

@@ -75,27 +75,16 @@ fn second() -> Option<Leg> {
     Leg::new(2, 0, t0, t1, from, to, 2)
 }
 
-/// Pushes a leg where the payload is a leaf that takes it.
-fn push(payload: &mut Payload, leg: &Leg) -> bool {
-    let Some(view) = leaf(payload) else {
-        return false;
-    };
-    if !view.takes(leg) {
-        return false;
-    }
-    push_leg(payload, leg);
-    true
-}
-
 /// The two legs of the example as a leaf.
 fn worked_leaf() -> Option<Payload> {
     let mut payload = Payload::zero(Kind::Header);
     init_leaf(&mut payload, 0, &first()?);
-    if push(&mut payload, &second()?) {
-        Some(payload)
-    } else {
-        None
+    let second = second()?;
+    if !leaf(&payload)?.takes(&second) {
+        return None;
     }
+    push_leg(&mut payload, &second);
+    Some(payload)
 }
 
 /// The same, from the bytes written by hand.
@@ -205,40 +194,6 @@ fn each_byte_is_one_field(rt: HostRuntime) {
     assert!(rt; refusals(&mut worked_leaf_bytes()) == Some(47));
 }
 
-/// Whether the worked leaf with another byte at a place is still a leaf.
-fn leaf_with(place: usize, byte: u8) -> bool
-    requires { place < 4056 }
-{
-    let mut payload = worked_leaf_bytes();
-    payload.bytes[place] = byte;
-    leaf(&payload).is_some()
-}
-
-/// A byte at a place of the worked leaf, and whether it is a leaf then: another number of legs, an ordinal that does not
-/// rise and one that does, and bytes that are not looked at.
-const LEAVES: [(usize, u8, bool); 7] = [
-    (13, 0, false),
-    (13, 1, true),
-    (13, 51, false),
-    (103, 0, false),
-    (103, 1, true),
-    (176, 1, true),
-    (4055, 255, true),
-];
-
-#[test]
-fn the_form_of_a_leaf(rt: HostRuntime) {
-    for (place, byte, is_leaf) in LEAVES {
-        assert!(rt;
-            place < 4056 && leaf_with(place, byte) == is_leaf,
-            "{byte} at {place}"
-        );
-    }
-    let mut payload = worked_leaf_bytes();
-    payload.kind = Kind::Catalogue;
-    assert!(rt; leaf(&payload).is_none() && inner(&payload).is_none());
-}
-
 /// Which of its two legs the worked leaf gives that is not tested, with another byte at a place; `None` where it is not
 /// given at all.
 fn untested_with(place: usize, byte: u8) -> Option<(bool, bool)>
@@ -319,33 +274,52 @@ fn an_inner_page_is_its_layout(rt: HostRuntime) {
     assert!(rt; entry_at(&worked_inner_bytes(), 1).is_none());
 }
 
-/// Whether the worked inner page with another byte at a place is still one.
-fn inner_with(place: usize, byte: u8) -> bool
+/// Whether the worked leaf, or the worked inner page, with another byte at a place is still one.
+fn has_form_with(is_leaf: bool, place: usize, byte: u8) -> bool
     requires { place < 4056 }
 {
-    let mut payload = worked_inner_bytes();
+    let mut payload = if is_leaf {
+        worked_leaf_bytes()
+    } else {
+        worked_inner_bytes()
+    };
     payload.bytes[place] = byte;
-    inner(&payload).is_some()
+    if is_leaf {
+        leaf(&payload).is_some()
+    } else {
+        inner(&payload).is_some()
+    }
 }
 
-/// A byte at a place of the worked inner page, and whether it is one then: another level, number of entries, zero byte
-/// and least x, and a byte that is not looked at.
-const INNERS: [(usize, u8, bool); 7] = [
-    (1, 0, false),
-    (1, 2, true),
-    (3, 0, false),
-    (3, 73, false),
-    (15, 1, false),
-    (28, 8, false),
-    (72, 1, true),
+/// A byte at a place of the worked leaf, or else of the worked inner page, and whether it is one then. Of a leaf: another
+/// number of legs, an ordinal that does not rise and one that does, and bytes that are not looked at. Of an inner page:
+/// another level, number of entries, zero byte and least x, and a byte that is not looked at.
+const FORMS: [(bool, usize, u8, bool); 14] = [
+    (true, 13, 0, false),
+    (true, 13, 1, true),
+    (true, 13, 51, false),
+    (true, 103, 0, false),
+    (true, 103, 1, true),
+    (true, 176, 1, true),
+    (true, 4055, 255, true),
+    (false, 1, 0, false),
+    (false, 1, 2, true),
+    (false, 3, 0, false),
+    (false, 3, 73, false),
+    (false, 15, 1, false),
+    (false, 28, 8, false),
+    (false, 72, 1, true),
 ];
 
 #[test]
-fn the_form_of_an_inner_page(rt: HostRuntime) {
-    for (place, byte, is_inner) in INNERS {
+fn the_forms_of_a_leaf_and_of_an_inner_page(rt: HostRuntime) {
+    for (is_leaf, place, byte, has_form) in FORMS {
         assert!(rt;
-            place < 4056 && inner_with(place, byte) == is_inner,
+            place < 4056 && has_form_with(is_leaf, place, byte) == has_form,
             "{byte} at {place}"
         );
     }
+    let mut payload = worked_leaf_bytes();
+    payload.kind = Kind::Catalogue;
+    assert!(rt; leaf(&payload).is_none() && inner(&payload).is_none());
 }

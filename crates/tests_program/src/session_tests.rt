@@ -12,14 +12,11 @@ use std::hash::RandomState;
 use std::test::Fail;
 use trajdb::{Files, OpenFault, RunFault};
 
-/// The example of the standard.
-const STANDARD: &str = "\
-@stboundedby,urn:x-ogc:def:crs:EPSG:6.6:4326,2D,50.23 9.23,50.31 9.27,2012-01-17T12:33:41Z,2012-01-17T12:37:00Z,sec
-@columns,mfidref,trajectory,state,xsd:token,\"type code\",xsd:integer
-a,10,150,11.0 2.0 12.0 3.0,walking,1
-b,10,190,10.0 2.0 11.0 3.0,walking,2
-a,150,190,12.0 3.0 10.0 3.0,walking,2
-c,10,190,12.0 1.0 10.0 2.0 11.0 3.0,vehicle,1
+/// A file of one leg.
+const WALK: &str = "\
+@stboundedby,local,2D,,,2024-01-01T00:00:00Z,,sec
+@columns,mfidref,trajectory
+a,0,10,0 0 10 0
 ";
 
 #[test]
@@ -76,7 +73,7 @@ fn each_fault_has_its_line(rt: HostRuntime) -> Result<(), Fail> {
 fn the_first_fault_is_said(rt: HostRuntime) -> Result<(), Fail> {
     let (alloc, keys) = (rt.alloc(), RandomState::new(&rt)?);
     let mut files = Files::new(alloc);
-    files.add("S1.csv", Vec::from_slice(alloc, STANDARD.as_bytes())?)?;
+    files.add("walk.csv", Vec::from_slice(alloc, WALK.as_bytes())?)?;
     // Page 0 is written and made to last, and the third call fails: the load, and then the closing.
     let store = Fuse::new(MemStore::new(alloc, 100), 2, false);
     let how = Opening {
@@ -89,7 +86,7 @@ fn the_first_fault_is_said(rt: HostRuntime) -> Result<(), Fail> {
     let opened = database(&how, store);
     let mut taken = Vec::new(alloc);
     let mut out = CountedOutput::new(&mut taken);
-    let (_, ended) = answer(alloc, opened, b"load S1.csv".as_slice(), &files, &mut out);
+    let (_, ended) = answer(alloc, opened, b"load walk.csv".as_slice(), &files, &mut out);
     assert!(rt; ended.ran == Err(Fault::Run(RunFault::Store)) && taken.is_empty());
     assert!(rt; ended.kept == Err(Fault::Run(RunFault::Failed)));
     Ok(())

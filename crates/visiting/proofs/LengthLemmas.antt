@@ -1,5 +1,5 @@
 -- How long it is between two moments, by their whole microseconds.
-use Rattle.std.proofs.Common.{ℕ, ◌+◌, ◌<◌, ◌≤◌, ◌≡◌, ◌∙◌, ℤ, pos, negsuc, ◌+ℤ◌, ◌-ℤ◌, ◌*ℤ◌, ◌≤ℤ◌, ◌<ℤ◌, unsigned_abs, arith, ap, sym, subst, refl}
+use Rattle.std.proofs.Common.{ℕ, ◌+◌, ◌<◌, ◌≤◌, ◌≡◌, ◌∙◌, ℤ, pos, negsuc, ◌+ℤ◌, ◌-ℤ◌, ◌*ℤ◌, ◌≤ℤ◌, ◌<ℤ◌, unsigned_abs, arith, ap, sym, subst, refl, ◌^◌, to_z, of_z, w64}
 use Rattle.std.proofs.lemmas.Int.{ints}
 use Rattle.clipping.proofs.Products.{products, difference_times_is}
 use Rattle.clipping.proofs.Fractions.{scale}
@@ -92,3 +92,7 @@ module _ (n m : ℤ) (d e : ℕ) (d0 : 0 < d) (e0 : 0 < e) where
         most_is = most_holds (p -ℤ q) (pos d *ℤ pos e) s scale0 (at_most n m d e p q ceiling'.0 floor'.0);
         near = always_near;
       }
+
+-- the difference of two moments in whole microseconds, as `length` takes it
+pub difference_of : (a b x y : ℤ) → x ≡ a → y ≡ b → unsigned_abs x < 2 ^ 58 → unsigned_abs y < 2 ^ 58 → to_z w64 (of_z w64 x) -ℤ to_z w64 (of_z w64 y) ≡ a -ℤ b
+difference_of a b x y e f h k = omega (arith, ints, e, f, h, k)

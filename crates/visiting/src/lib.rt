@@ -5,7 +5,9 @@
 mod dwells;
 mod ends;
 mod joined;
+mod lengths;
 
 pub use dwells::{Dwell, Lasting, dwells_of};
 pub use ends::End;
 pub use joined::{Joined, joined_of};
+pub use lengths::{Micros, length};

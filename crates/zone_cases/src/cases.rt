@@ -1,21 +1,21 @@
 //! The cases that the lines give.
 use crate::numbers::Numbers;
 use std::alloc::{AllocError, Global};
-use zones::{Course, CoursePlace, Position, Ring};
+use zones::{CoursePlace, GridPoint, Ring, Segment};
 
 /// A course, the part of it that is asked for, and a zone.
 #[derive(Drop)]
 pub struct Case {
-    pub course: Course,
+    pub course: Segment,
     pub first: CoursePlace,
     pub last: CoursePlace,
     pub rings: Vec<Ring>,
 }
 
-pub fn position(numbers: &mut Numbers) -> Option<Position> {
+pub fn position(numbers: &mut Numbers) -> Option<GridPoint> {
     let x = numbers.take()?;
     let y = numbers.take()?;
-    Position::new(x, y)
+    GridPoint::new(x, y)
 }
 
 fn place(numbers: &mut Numbers) -> Option<CoursePlace> {
@@ -54,7 +54,7 @@ pub fn rings(alloc: Global, numbers: &mut Numbers) -> Result<Option<Vec<Ring>>, 
 
 #[derive(Drop)]
 struct Asked {
-    course: Course,
+    course: Segment,
     first: CoursePlace,
     last: CoursePlace,
 }
@@ -65,7 +65,7 @@ fn asked_of(numbers: &mut Numbers) -> Option<Asked> {
     let first = place(numbers)?;
     let last = place(numbers)?;
     Some(Asked {
-        course: Course::new(from, to),
+        course: Segment::new(from, to),
         first,
         last,
     })
@@ -73,9 +73,7 @@ fn asked_of(numbers: &mut Numbers) -> Option<Asked> {
 
 /// The case of a line; `None` where it gives none.
 pub fn read_case(alloc: Global, line: &str) -> Result<Option<Case>, AllocError> {
-    let Some(mut numbers) = Numbers::of_line(alloc, line)? else {
-        return Ok(None);
-    };
+    let mut numbers = Numbers::of_line(alloc, line)?;
     let Some(asked) = asked_of(&mut numbers) else {
         return Ok(None);
     };

@@ -62,38 +62,47 @@ fn gate_of(numbers: &mut Numbers) -> Option<Gate> {
     })
 }
 
-/// The case of a line behind `gate`; `None` where it gives none.
-pub fn read_gate_case(alloc: Global, line: &str) -> Result<Option<LegCase>, AllocError> {
-    let Some(mut numbers) = Numbers::of_line(alloc, line)? else {
-        return Ok(None);
-    };
-    let Some(asked) = asked_of(&mut numbers) else {
-        return Ok(None);
-    };
-    let Some(gate) = gate_of(&mut numbers) else {
-        return Ok(None);
-    };
-    Ok(Some(LegCase {
-        leg: asked.leg,
-        period: asked.period,
-        site: Site::of_gate(alloc, gate)?,
-    }))
+/// What stands behind a leg and a period.
+#[derive(Clone, Copy)]
+pub enum Behind {
+    Rings,
+    Gate,
 }
 
-/// The case of a line behind `leg`; `None` where it gives none.
-pub fn read_leg_case(alloc: Global, line: &str) -> Result<Option<LegCase>, AllocError> {
-    let Some(mut numbers) = Numbers::of_line(alloc, line)? else {
-        return Ok(None);
-    };
+/// The zone that the numbers give from here on; `None` where they give none.
+fn site_of(
+    alloc: Global,
+    numbers: &mut Numbers,
+    behind: Behind,
+) -> Result<Option<Site>, AllocError> {
+    match behind {
+        Behind::Rings => match rings(alloc, numbers)? {
+            Some(rings) => Ok(Some(Site::of_rings(alloc, rings)?)),
+            None => Ok(None),
+        },
+        Behind::Gate => match gate_of(numbers) {
+            Some(gate) => Ok(Some(Site::of_gate(alloc, gate)?)),
+            None => Ok(None),
+        },
+    }
+}
+
+/// The case of a line behind its first word; `None` where it gives none.
+pub fn read_leg_case(
+    alloc: Global,
+    line: &str,
+    behind: Behind,
+) -> Result<Option<LegCase>, AllocError> {
+    let mut numbers = Numbers::of_line(alloc, line)?;
     let Some(asked) = asked_of(&mut numbers) else {
         return Ok(None);
     };
-    let Some(rings) = rings(alloc, &mut numbers)? else {
+    let Some(site) = site_of(alloc, &mut numbers, behind)? else {
         return Ok(None);
     };
     Ok(Some(LegCase {
         leg: asked.leg,
         period: asked.period,
-        site: Site::of_rings(alloc, rings)?,
+        site,
     }))
 }

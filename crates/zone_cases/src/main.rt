@@ -15,9 +15,9 @@ mod numbers;
 
 use cases::{Case, read_case};
 use fractions::lowest_terms;
-use leg_cases::{LegCase, read_gate_case, read_leg_case};
+use leg_cases::{Behind, LegCase, read_leg_case};
 use mfcsv::Position;
-use std::alloc::{AllocError, Global};
+use std::alloc::Global;
 use std::io::{self, BufRead, BufReader};
 use zones::{CoursePlace, Cut, stays};
 use zoning::{Moment, Side, Stay};
@@ -87,8 +87,11 @@ fn print_stay(rt: &impl Print, stay: &Stay) -> io::Result<()> {
     print!(rt; " {begins}:{ends} {from}:{to} ")
 }
 
-/// Prints the stays of one case of a leg.
-fn print_leg_case(rt: &impl Print, alloc: Global, case: &LegCase) -> io::Result<()> {
+/// Prints the stays of one case of a leg, if there is one.
+fn print_leg_case(rt: &impl Print, alloc: Global, case: Option<LegCase>) -> io::Result<()> {
+    let Some(case) = case else {
+        return println!(rt; "no case");
+    };
     let stays = case.site.stays_of(alloc, &case.leg, &case.period)?;
     if stays.is_empty() {
         print!(rt; "-")?;
@@ -101,29 +104,17 @@ fn print_leg_case(rt: &impl Print, alloc: Global, case: &LegCase) -> io::Result<
 
 /// Prints the answer to a line.
 fn print_line(rt: &impl Print, alloc: Global, line: &str) -> io::Result<()> {
-    let (leg, gate) = (line.strip_prefix("leg "), line.strip_prefix("gate "));
-    if leg.is_some() || gate.is_some() {
-        return match leg_case_of(alloc, leg, gate)? {
-            Some(case) => print_leg_case(rt, alloc, &case),
-            None => println!(rt; "no case"),
-        };
+    if let Some(numbers) = line.strip_prefix("leg ") {
+        let case = read_leg_case(alloc, numbers, Behind::Rings)?;
+        return print_leg_case(rt, alloc, case);
+    }
+    if let Some(numbers) = line.strip_prefix("gate ") {
+        let case = read_leg_case(alloc, numbers, Behind::Gate)?;
+        return print_leg_case(rt, alloc, case);
     }
     match read_case(alloc, line)? {
         Some(case) => print_case(rt, alloc, &case),
         None => println!(rt; "no case"),
-    }
-}
-
-/// The case of a line behind the word `leg`, or behind `gate`.
-fn leg_case_of(
-    alloc: Global,
-    leg: Option<&str>,
-    gate: Option<&str>,
-) -> Result<Option<LegCase>, AllocError> {
-    match (leg, gate) {
-        (Some(line), _) => read_leg_case(alloc, line),
-        (_, Some(line)) => read_gate_case(alloc, line),
-        _ => Ok(None),
     }
 }
 

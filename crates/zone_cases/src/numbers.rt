@@ -9,16 +9,23 @@ pub struct Numbers {
 }
 
 impl Numbers {
-    /// The numbers of a line; `None` where a word is none.
-    pub fn of_line(alloc: Global, line: &str) -> Result<Option<Numbers>, AllocError> {
+    /// The numbers of a line; none at all where a word is no number.
+    pub fn of_line(alloc: Global, line: &str) -> Result<Numbers, AllocError> {
         let mut values = Vec::new(alloc);
         for word in line.split_whitespace() {
             match word.parse::<i64>() {
                 Ok(value) => values.push(value)?,
-                Err(_) => return Ok(None),
+                Err(_) => return Ok(Numbers::none(alloc)),
             }
         }
-        Ok(Some(Numbers { values, next: 0 }))
+        Ok(Numbers { values, next: 0 })
+    }
+
+    fn none(alloc: Global) -> Numbers {
+        Numbers {
+            values: Vec::new(alloc),
+            next: 0,
+        }
     }
 
     /// The next number.

@@ -7,21 +7,21 @@ ghost use Rattle.zoning.specs.Stays.{course_of};
 
 use legs::Leg;
 use timebase::{Ms, Period};
-use zones::{Course, CoursePlace};
+use zones::{CoursePlace, Segment};
 
 /// A leg's course, and the first and last place of it that is asked for.
 #[derive(Clone, Copy)]
 pub(crate) struct Asked {
-    pub(crate) course: Course,
+    pub(crate) course: Segment,
     pub(crate) first: CoursePlace,
     pub(crate) last: CoursePlace,
 }
 
 /// The course of a leg.
-pub(crate) fn course_of(leg: &Leg) -> Course
+pub(crate) fn course_of(leg: &Leg) -> Segment
     ensures { result ≡ course_of leg.now }
 {
-    Course {
+    Segment {
         x0: leg.x0.units(),
         y0: leg.y0.units(),
         x1: leg.x1.units(),

@@ -10,7 +10,7 @@ use std::alloc::{AllocError, Global};
 use std::marker::Model;
 use timebase::Period;
 use zone_windows::Windows;
-use zones::{Course, Gate, Position, Ring};
+use zones::{Gate, GridPoint, Ring, Segment};
 
 /// A zone made ready for legs: its rings in windows, and its least box.
 #[derive(Drop)]
@@ -39,7 +39,7 @@ struct Bounds {
 }
 
 impl Bounds {
-    fn with(self, position: &Position) -> Bounds {
+    fn with(self, position: &GridPoint) -> Bounds {
         Bounds {
             x_min: self.x_min.min(position.x),
             y_min: self.y_min.min(position.y),
@@ -75,11 +75,11 @@ fn bounds_of(rings: &[Ring]) -> Option<Rect> {
 }
 
 /// The course of a leg.
-fn way_of(leg: &Leg) -> Course
+fn way_of(leg: &Leg) -> Segment
     ensures course { result ≡ course_of leg.now }
     ensures rises { leg.now.t0 <ℤ leg.now.t1 }
 {
-    Course {
+    Segment {
         x0: leg.x0.units(),
         y0: leg.y0.units(),
         x1: leg.x1.units(),

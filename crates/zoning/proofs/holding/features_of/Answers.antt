@@ -2,13 +2,13 @@ use Rattle.std.proofs.Common.{ℕ, rules, ◌≡◌, ◌∙◌, ◌++◌, [], ap
 use Rattle.std.proofs.lemmas.List.{append-nil}
 use Rattle.std.specs.BTreeMap.{get}
 use Rattle.std.specs.Ordering.{nat_cmp}
-use Rattle.legs.specs.Sieves.{leaves_none}
 use Rattle.predicates.specs.declared.Predicate.{Predicate}
 use Rattle.zoning.specs.Holding.{AreHolding, IsOutside, held}
 use Rattle.zoning.specs.Stays.{IsInZone}
 use Rattle.zoning.specs.declared.holding.Tally.{Tally}
 use Rattle.zoning.proofs.FeatureLemmas.{are_holding, ever_holding}
 use Rattle.zoning.proofs.holding.features_of.Goals as goal
+use Rattle.legs.proofs.SieveLaws.{leaves_none}
 
 pub returns : goal.returns
 returns c =
