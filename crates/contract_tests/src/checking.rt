@@ -15,7 +15,8 @@ pub fn check<S: PageStore>(
     rows: u64,
     begun: bool,
 ) -> Result<(), IndexFault>
-    ensures sound { OnOk result (IsTrue index.old.cache.store.is_faithful → IsSoundIndex index.new) }
+    ensures sound { OnOk result (IsTrue index.old.cache.store.is_faithful
+        → IsSoundIndex index.new) }
 {
     treecheck::check(index, tracks, rows, begun)
 }

@@ -1,7 +1,7 @@
 //! How the program ended where it did what it was asked to do.
 
 /// How the program ended where it did what it was asked to do.
-#[derive(Clone, Copy, PartialEq, Eq, Debug)]
+#[derive(Clone, Copy)]
 pub(crate) enum Outcome {
     /// Nothing is to be said of it.
     Done,

@@ -29,12 +29,12 @@ fn done<'a>(ended: Result<(), Fault<'a>>) -> Result<Outcome, Fault<'a>> {
     }
 }
 
-/// Does what the program is asked to do. The output is given back.
+/// Does what the program is asked to do.
 fn perform<
     'a,
     R: rt::Files<File = File> + rt::Clock + Eprint + AllocGlobal + RandomSource,
     O: Output + Drop,
->(rt: &R, task: &Task<'a>, mut out: O, is_terminal: bool) -> (O, Result<Outcome, Fault<'a>>) {
+>(rt: &R, task: &Task<'a>, mut out: O, is_terminal: bool) -> Result<Outcome, Fault<'a>> {
     let ended = match task {
         Task::Run(task) => return run(rt, task, out, is_terminal),
         Task::Check(task) => check(rt, task, &mut out),
@@ -42,19 +42,11 @@ fn perform<
         Task::Part(task) => print_part(rt, task, &mut out),
         Task::Parts(task) => write_parts(rt, task),
         Task::Moments(task) => print_moments(rt, task, &mut out, is_terminal),
-        Task::Zones(task) => {
-            let ended = print_zones(rt, task, &mut out, is_terminal);
-            return (out, ended);
-        }
+        Task::Zones(task) => return print_zones(rt, task, &mut out, is_terminal),
         Task::Gaps(task) => print_gaps(rt, task, &mut out),
         Task::Info(task) => print_info(rt, task, &mut out),
     };
-    (out, done(ended))
-}
-
-/// Whether one of the words is `--strict`.
-fn has_strict(words: &[String]) -> bool {
-    words.iter().any(|word| word.as_str() == "--strict")
+    done(ended)
 }
 
 /// Says of the first word, where it is that of a line of a script, how a script is run.
@@ -92,13 +84,14 @@ fn answer_words<W: Write, V: Write>(
     }
 }
 
-/// The exit status of a task that ended so, where `--strict` is among the words or not.
-fn status_of(ended: &Result<Outcome, Fault<'_>>, is_strict: bool) -> u8 {
+/// The exit status of a task that ended so: of one that failed 2 where its words are wrong, else 1.
+fn status_of(ended: &Result<Outcome, Fault<'_>>) -> u8 {
     match ended {
-        Ok(Outcome::Refused) if is_strict => 3,
+        Ok(Outcome::Done) => 0,
+        Ok(Outcome::Refused) => 3,
         Ok(Outcome::ZonesRefused) => 2,
-        Ok(_) => 0,
-        Err(fault) => fault.status(),
+        Err(Fault::NoPart(..) | Fault::OtherLimits(..) | Fault::Bounds(_) | Fault::Rects(..)) => 2,
+        Err(_) => 1,
     }
 }
 
@@ -107,14 +100,14 @@ fn answer_task<
     R: rt::Files<File = File> + rt::Clock + Eprint + AllocGlobal + RandomSource,
     W: Write,
     V: Write,
->(rt: &R, task: &Task<'_>, words: &[String], out: &mut W, faults: &mut V, is_terminal: bool) -> u8 {
+>(rt: &R, task: &Task<'_>, out: &mut W, faults: &mut V, is_terminal: bool) -> u8 {
     let before = Before::new(rt, task, is_terminal);
-    let (_out, ended) = perform(rt, task, CountedOutput::new(out), is_terminal);
+    let ended = perform(rt, task, CountedOutput::new(out), is_terminal);
     if let Err(fault) = &ended {
         let _ = writeln!(faults, "mftb: {fault}");
         before.tell(rt, task, fault);
     }
-    status_of(&ended, has_strict(words))
+    status_of(&ended)
 }
 
 /// Runs the program, and answers its exit status: that of the task for which the words ask, and
@@ -133,7 +126,7 @@ pub fn start<
     V: Write,
 >(rt: &R, words: &[String], out: &mut W, faults: &mut V, is_terminal: bool) -> u8 {
     match read_words(rt.alloc(), words) {
-        Ok(task) => answer_task(rt, &task, words, out, faults, is_terminal),
+        Ok(task) => answer_task(rt, &task, out, faults, is_terminal),
         Err(error) => answer_words(&error, words, out, faults),
     }
 }

@@ -3,7 +3,7 @@ use reasons::Refusal;
 use std::str;
 
 /// What an answer is.
-#[derive(Clone, Copy, PartialEq, Eq, Debug)]
+#[derive(Clone, Copy)]
 pub enum Answer {
     /// A line or a file was refused.
     Refused(Refusal),

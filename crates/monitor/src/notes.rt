@@ -69,7 +69,7 @@ pub struct Notes {
 
 /// What an answer to a command is worth a note for, be it that of a store without legs.
 fn doubt_in(command: &Command, answer: Answer, is_empty: bool) -> Option<What> {
-    let is_none = answer == Answer::Nothing;
+    let is_none = matches!(answer, Answer::Nothing);
     match command {
         Command::Load(_) | Command::Write => None,
         _ if is_empty => Some(What::NoLegs),

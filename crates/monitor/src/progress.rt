@@ -16,7 +16,7 @@ const LONG: u64 = 1000;
 const AGAIN: u64 = 200;
 
 /// When a run says what it is doing.
-#[derive(Clone, Copy, PartialEq, Eq)]
+#[derive(Clone, Copy)]
 pub enum Told {
     /// Where a load is long, by a line that renews itself.
     Loads,
@@ -227,7 +227,7 @@ impl<'a, R: Clock + Eprint> Progress<'a, R> {
             self.loads.set(self.loads.get().saturating_add(1));
             self.legs.set(self.legs.get().saturating_add(legs));
         }
-        if self.told == Told::Lines {
+        if matches!(self.told, Told::Lines) {
             let said = self.said(self.millis());
             let _ = eprintln!(self.rt; "{said}");
         }

@@ -2,7 +2,7 @@
 use std::fmt;
 
 /// The code of a refusal: of a file, as `F18`, or of a line of a script, as `Q4`.
-#[derive(Clone, Copy, PartialEq, Eq, Debug)]
+#[derive(Clone, Copy)]
 pub enum Code {
     /// A field is not UTF-8.
     F1,

@@ -37,11 +37,11 @@ fn corner_place(line: &str) -> usize
     if command_of(line) == "box" { 1 } else { 2 }
 }
 
-/// The words that a command takes, and how many these are.
-fn form_of(command: &str) -> (&'static str, usize) {
+/// The words that a question takes, and how many these are.
+fn form_of(command: &str) -> &'static str {
     match command {
-        "box" => ("X1 Y1 X2 Y2 T1 T2", 6),
-        _ => ("PRED X1 Y1 X2 Y2 T1 T2", 7),
+        "box" => "6 words, X1 Y1 X2 Y2 T1 T2",
+        _ => "7 words, PRED X1 Y1 X2 Y2 T1 T2",
     }
 }
 
@@ -65,8 +65,8 @@ fn wrong_words(alloc: Global, line: &str) -> Result<String, AllocError> {
             format!(in alloc; "{command} takes no word behind it, found {found}")
         }
         _ => {
-            let (form, wanted) = form_of(command);
-            format!(in alloc; "{command} takes {wanted} words, {form}, found {found}")
+            let form = form_of(command);
+            format!(in alloc; "{command} takes {form}, found {found}")
         }
     }
 }

@@ -41,7 +41,7 @@ fn range_of(alloc: Global, least: i64, most: i64) -> Result<String, AllocError> 
 }
 
 /// What a question asks of.
-#[derive(Clone, Copy, PartialEq, Eq, Debug)]
+#[derive(Clone, Copy)]
 pub enum Area {
     /// A rectangle.
     Rectangle,
@@ -79,28 +79,33 @@ impl Area {
     }
 }
 
+/// The moments between which a store has legs.
+#[derive(Clone, Copy)]
+struct Span {
+    begin: Ms,
+    end: Ms,
+}
+
 /// From one moment to another one, as they are printed.
-fn period_of(alloc: Global, begin: Ms, end: Ms) -> Result<String, AllocError> {
-    let begin = instant_of(alloc, begin)?;
+fn period_of(alloc: Global, span: Span) -> Result<String, AllocError> {
+    let begin = instant_of(alloc, span.begin)?;
     let begin = begin.as_str();
-    let end = beside(alloc, end, begin)?;
+    let end = beside(alloc, span.end, begin)?;
     let end = end.as_str();
     format!(in alloc; "{begin} to {end}")
 }
 
 /// Why a period meets no leg.
-fn off_in_time(alloc: Global, begin: Ms, end: Ms) -> Result<String, AllocError> {
-    let period = period_of(alloc, begin, end)?;
+fn off_in_time(alloc: Global, span: Span) -> Result<String, AllocError> {
+    let period = period_of(alloc, span)?;
     let period = period.as_str();
     format!(in alloc; "the period does not meet {period}, when the store has legs")
 }
 
 /// The moments between which a store has legs.
-fn period_in(reach: &Box3) -> Option<(Ms, Ms)> {
-    match (Ms::new(reach.t_min), Ms::new(reach.t_max)) {
-        (Some(begin), Some(end)) => Some((begin, end)),
-        _ => None,
-    }
+fn span_of(reach: &Box3) -> Option<Span> {
+    let (begin, end) = (Ms::new(reach.t_min)?, Ms::new(reach.t_max)?);
+    Some(Span { begin, end })
 }
 
 /// Why an area of that box and a period meet no leg of a store whose legs all lie in that other box; `None` where the
@@ -115,8 +120,8 @@ pub fn reach_words(
         return Ok(Some(area.off_in_plane(alloc, asked, reach)?));
     }
     if !meet(asked.t_min, asked.t_max, reach.t_min, reach.t_max) {
-        return match period_in(reach) {
-            Some((begin, end)) => Ok(Some(off_in_time(alloc, begin, end)?)),
+        return match span_of(reach) {
+            Some(span) => Ok(Some(off_in_time(alloc, span)?)),
             None => Ok(None),
         };
     }

@@ -144,8 +144,17 @@ pub(crate) fn short_duration(alloc: Global, found: &Found) -> Result<String, All
     }
 }
 
-/// Of a record whose feature's last leg ends too late: its start, and that end, if it is known.
-fn overlap_of(records: &[Record], number: u64, known: &Known) -> Option<(Ms, Option<Ms>)> {
+/// A record whose feature's last leg ends too late.
+#[derive(Clone, Copy)]
+struct Overlap {
+    /// When it begins.
+    start: Ms,
+    /// When that leg ends, if it is known.
+    last: Option<Ms>,
+}
+
+/// The record of that number, whose feature's last leg ends too late.
+fn overlap_of(records: &[Record], number: u64, known: &Known) -> Option<Overlap> {
     let late = records.iter().find(|record| record.number == number)?;
     let name = late.mfidref.as_str();
     let before = records
@@ -153,15 +162,18 @@ fn overlap_of(records: &[Record], number: u64, known: &Known) -> Option<(Ms, Opt
         .take_while(|record| record.number < number)
         .filter(|record| record.mfidref.as_str() == name)
         .last();
-    let end = match before {
+    let last = match before {
         Some(record) => Some(record.t1),
         None => known.last_end(name),
     };
-    Some((late.t0, end))
+    Some(Overlap {
+        start: late.t0,
+        last,
+    })
 }
 
 /// The same, of a file's bytes; none where it cannot be read.
-fn overlap_in(alloc: Global, bytes: &[u8], number: u64, known: &Known) -> Option<(Ms, Option<Ms>)> {
+fn overlap_in(alloc: Global, bytes: &[u8], number: u64, known: &Known) -> Option<Overlap> {
     match read_file(alloc, bytes) {
         Ok(file) => overlap_of(file.records.as_slice(), number, known),
         Err(_) => None,
@@ -169,7 +181,8 @@ fn overlap_in(alloc: Global, bytes: &[u8], number: u64, known: &Known) -> Option
 }
 
 /// A start before that end of the feature's last leg.
-fn early_words(alloc: Global, start: Ms, last: Option<Ms>) -> Result<String, AllocError> {
+fn early_words(alloc: Global, overlap: Overlap) -> Result<String, AllocError> {
+    let Overlap { start, last } = overlap;
     let start_text = instant_of(alloc, start)?;
     let start_text = start_text.as_str();
     match last {
@@ -190,7 +203,7 @@ pub(crate) fn early_start(
     known: &Known,
 ) -> Result<String, AllocError> {
     match overlap_in(alloc, bytes, number, known) {
-        Some((start, last)) => early_words(alloc, start, last),
+        Some(overlap) => early_words(alloc, overlap),
         None => String::from_str(alloc, Code::F18.rule()),
     }
 }

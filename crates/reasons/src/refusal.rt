@@ -3,7 +3,7 @@ use crate::codes::Code;
 use std::str;
 
 /// A refusal, as it is answered: `refused Q5`, or of a file `refused F18 at 3`.
-#[derive(Clone, Copy, PartialEq, Eq, Debug)]
+#[derive(Clone, Copy)]
 pub struct Refusal {
     pub code: Code,
     /// The number of the file's record, from 1; 0 for the whole file, and for a line of a script.

@@ -1,6 +1,6 @@
 //! The texts of gaps: records of CSV, and the line that names their fields.
+use crate::formatting::push_text;
 use crate::moments_text::{position_fields, push_name, push_position, push_word};
-use crate::pushed::push_text;
 use fixedpoint::{Offset, push_offset};
 use mfcsv::Dimension;
 use moments::Gap;

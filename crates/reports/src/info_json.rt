@@ -1,6 +1,6 @@
 //! What a store holds, as JSON for programs.
+use crate::formatting::{push_corners, push_hex, push_moment, push_number, push_text};
 use crate::info_text::{StoreReport, bytes_of, places};
-use crate::pushed::{push_corners, push_hex, push_moment, push_number, push_text};
 use legs::{BookHead, Box3};
 use mfcsv::Column;
 use trajdb::RunFault;

@@ -1,5 +1,5 @@
 //! What a store holds, as lines for people.
-use crate::pushed::{push_corners, push_hex, push_moment, push_number, push_text};
+use crate::formatting::{push_corners, push_hex, push_moment, push_number, push_text};
 use legs::{BookHead, Box3, Limits};
 use mfcsv::{Column, Dimension};
 use reasons::is_seen;

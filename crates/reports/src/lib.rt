@@ -1,11 +1,11 @@
 //! What the program prints of a store and of moments: as records, as lines for people, and as JSON.
 #![tactic(auto)]
 
+mod formatting;
 mod gaps_text;
 mod info_json;
 mod info_text;
 mod moments_text;
-mod pushed;
 mod values_text;
 mod wide_number;
 mod zones_text;

@@ -9,7 +9,7 @@ ghost use Rattle.trajdb.specs.declared.RunFault.{RunFault};
 ghost use Rattle.reports.specs.Printing.{IsPrintFault};
 ghost use Rattle.reports.specs.StayTexts.{dwell_fields, dwell_text, dwells_text, ends_text, fields_text, fraction_text, label_text, micros_text, name_text, next_field, position_fields, position_text, quoted_text, seconds_text, stay_text, stays_text, three_digits, times_text, visit_text, visits_text, without_last};
 
-use crate::pushed::{push_number, push_signed};
+use crate::formatting::{push_number, push_signed};
 use fixedpoint::{Coord, push_coord};
 use mfcsv::{Dimension, Position};
 use moments::{Dwell, End, Moment, Stay, Visit};

@@ -1,10 +1,10 @@
 //! The texts of stays, visits and dwells in zones: records of CSV.
 ghost use Rattle.std.specs.Prelude.{◌<◌, ◌^◌, unsigned_abs};
 
+use crate::formatting::push_signed;
 use crate::moments_text::{
     Frame, push_count, push_labelled, push_micros, push_position, push_seconds, push_word,
 };
-use crate::pushed::push_signed;
 use crate::values_text::push_values;
 use crate::wide_number::push_wide;
 use mfcsv::Position;

@@ -1,6 +1,6 @@
 -- What a run of the program sends, and what its store then holds.
 use Rattle.std.proofs.lemmas.Int.{clamps}
-use Rattle.std.proofs.Common.{arith, ◌≡◌, ◌≤◌, ◌⊎◌, ◌∙◌, sym, inl, inr, true, false, IsTrue, Some, Result, Ok, Err, subst}
+use Rattle.std.proofs.Common.{arith, ◌≡◌, ◌≤◌, ◌⊎◌, ◌∙◌, ap, sym, inl, inr, true, false, IsTrue, Some, Result, Ok, Err, subst}
 use Rattle.std.specs.Prelude.{IfErr, IfOk, OnErr, OnOk}
 use Rattle.legs.specs.Book.{Book, empty_book}
 use Rattle.legs.specs.Costs.{ShapeView}
@@ -11,6 +11,7 @@ use Rattle.catalogue.specs.Holding.{HoldsBook, HoldsButFirst, IsUnfinishedStore}
 use Rattle.catalogue.specs.Beginning.{IsLeftOver}
 use Rattle.register.specs.Saving.{IsSavingStop}
 use Rattle.trajdb.specs.Calls.{IsLoadFault}
+use Rattle.trajdb.specs.Database.{fresh}
 use Rattle.trajdb.specs.Db.{DbView, HasPages, IsSoundDb}
 use Rattle.trajdb.specs.Lasting.{HasBook, IsClosingFault, IsFaultless, IsIdle}
 use Rattle.register.specs.declared.fault.CatalogueFault.{CatalogueFault}
@@ -39,10 +40,10 @@ more_known P Q (Ok x) f h = f x h
 more_known P Q (Err e) f h = tt
 
 -- a new database has the empty book
-pub created : {E : Type 0} (r : Result DbView E) (shape : ShapeView) (limits : LimitsView) (faithful : Type 0) → IfOk r (λ db. words.plan db.index ≡ Some shape) → IfOk r (λ db. faithful → IsSoundDb db) → IfOk r (λ db. db.book ≡ empty_book) → IfOk r (λ db. db.limits ≡ limits)
+pub created : {E : Type 0} (r : Result DbView E) (shape : ShapeView) (limits : LimitsView) (faithful : Type 0) → IfOk r (λ db. words.plan db.index ≡ Some shape) → IfOk r (λ db. faithful → IsSoundDb db) → IfOk r (λ db. db ≡ fresh limits db.index true)
     → IfOk r (λ db. faithful → HasBook shape limits empty_book db)
-created (Ok db) shape limits faithful plan sound book is = λ f. record { sound = sound f; shape_is = the_same db.index.tree.shape shape plan; book_is = book; limits_are = is }
-created (Err e) shape limits faithful plan sound book is = tt
+created (Ok db) shape limits faithful plan sound made = λ f. record { sound = sound f; shape_is = the_same db.index.tree.shape shape plan; book_is = ap (λ (d : DbView). d.book) made; limits_are = ap (λ (d : DbView). d.limits) made }
+created (Err e) shape limits faithful plan sound made = tt
 
 -- an answer that is given only where another one is
 pub given : {E F : Type 0} (P : Type 0) (r : Result (Unit {0}) E) (s : Result (Unit {0}) F) → OnOk r (s ≡ Ok tt) → OnOk s P → OnOk r P

@@ -2,7 +2,7 @@
 use Rattle.std.proofs.Common.{ap, ℕ, ◌≡◌, ◌⊎◌, ◌∙◌, refl, sym, subst, inl, inr, [], ◌∷◌, true, false, Bool, IsTrue, List, Option, Some, None, Result, Ok, Err}
 use Rattle.std.proofs.KnownBytes.{Appends-nil}
 use Rattle.std.specs.Io.KnownBytes.{Appends}
-use Rattle.std.specs.Prelude.{length, take, IfErr, IfOk, IfSome, OnOk}
+use Rattle.std.specs.Prelude.{length, IfErr, IfOk, IfSome, OnOk}
 use Rattle.legs.specs.Book.{Book, empty_book}
 use Rattle.legs.specs.Costs.{ShapeView}
 use Rattle.legs.specs.Limits.{LimitsView}
@@ -14,11 +14,11 @@ use Rattle.header.specs.Fields.{header_payload}
 use Rattle.pages.specs.declared.unsynced.Unsynced.TheVariants.{Others}
 use Rattle.catalogue.specs.Holding.{HoldsBook}
 use Rattle.register.specs.Saving.{IsSavingStop}
+use Rattle.trajdb.specs.Database.{fresh}
 use Rattle.trajdb.specs.Db.{capacity_of, shape_of, store_of, DbView, HasPages, IsCaused}
 use Rattle.trajdb.specs.Lasting.{HasBook, IsIdle}
 use Rattle.trajdb.proofs.SafeLemmas.{apart}
 use Rattle.trajdb.specs.Calls.{IsLoadFault}
-use Rattle.trajdb.specs.Run.{run_book}
 use Rattle.register.specs.declared.fault.CatalogueFault.{CatalogueFault}
 use Rattle.trajdb.specs.declared.RunFault.{RunFault}
 use Rattle.trajdb.specs.declared.RunFault.TheVariants as run
@@ -65,20 +65,20 @@ begun_with (Ok db) first past same is_new given shape limits book faithful new k
 pub unsent_lines : (limits : LimitsView) (book : Book) (files : List (List ℕ × List ℕ)) (sent sent' : Option (List ℕ)) (lines : List (List ℕ)) (ran : Result (Unit {0}) Fault) (fault : Fault) → ran ≡ Err fault → sent' ≡ sent
     → SendsLines (Run run.Output) limits book files sent sent' lines ran
 unsent_lines limits book files sent sent' lines ran fault is same = record {
-  part = record { front = []; sends = subst (λ k. Appends sent k []) (sym same) (Appends-nil sent); done = 0; text = []; answers = refl; is_front = ([], refl) };
+  part = record { front = []; sends = subst (λ k. Appends sent k []) (sym same) (Appends-nil sent); done = 0; text = []; after = book; answers = (refl, refl); is_front = ([], refl) };
   whole = subst (λ r. OnOk r (0 ≡ length lines)) (sym is) tt;
   all = λ n. refl;
-  cut = λ o. ([], refl, ([], refl));
+  cut = λ o. ([], book, (refl, refl), ([], refl));
 }
 
 -- a database is made, or it is not, of a store without pages
 pub made_or_not : {S : Type 0} (seen : S → Store) (limits : LimitsView) (pages : ℕ) (r : Result DbView (S × CatalogueFault)) (s : Store)
-    → IfOk r (λ db. IsTrue s.is_faithful → HasBook new_shape limits empty_book db) → IfOk r (λ db. db.book ≡ empty_book) → IfOk r (λ db. db.limits ≡ limits) → IfOk r (λ db. shape_of db ≡ new_shape) → IfOk r (λ db. IsTrue s.is_faithful → HasPages db) → IfOk r (λ db. db.begun ≡ true)
-    → IfOk r (λ db. db.failed ≡ false) → IfOk r (λ db. capacity_of db ≡ pages) → IfOk r (λ db. Writes 0 (sealed 0 (header_payload new_shape limits)) s (store_of db)) → IfOk r (λ db. IsSynced (store_of db))
+    → IfOk r (λ db. IsTrue s.is_faithful → HasBook new_shape limits empty_book db) → IfOk r (λ db. db ≡ fresh limits db.index true) → IfOk r (λ db. shape_of db ≡ new_shape) → IfOk r (λ db. IsTrue s.is_faithful → HasPages db)
+    → IfOk r (λ db. capacity_of db ≡ pages) → IfOk r (λ db. Writes 0 (sealed 0 (header_payload new_shape limits)) s (store_of db)) → IfOk r (λ db. IsSynced (store_of db))
     → IfErr r (λ back. IsTrue s.is_faithful → IsSavingStop back.1) → IfErr r (λ back. IsCaused s (seen back.0) back.1) → IfErr r (λ back. Keeps s (seen back.0)) → IfErr r (λ back. IsLeft new_shape limits s (seen back.0))
     → Makes seen s limits pages r
-made_or_not seen given most (Ok db) s new book limits shape pages begun lives capacity writes synced made caused keeps left = (λ f. (new f, pages f), book, limits, shape, begun, lives, capacity, writes, synced)
-made_or_not seen given most (Err back) s new book limits shape pages begun lives capacity writes synced made caused keeps left = (made, caused, keeps, left)
+made_or_not seen given most (Ok db) s new is shape pages capacity writes synced made caused keeps left = (λ f. (new f, pages f), is, shape, capacity, writes, synced)
+made_or_not seen given most (Err back) s new is shape pages capacity writes synced made caused keeps left = (made, caused, keeps, left)
 
 -- one that is made has the empty book
 pub made_empty : {S : Type 0} (seen : S → Store) (is_new : Bool) (limits : LimitsView) (pages : ℕ) (r : Result DbView (S × CatalogueFault)) (s : Store) → OpensOrMakes seen s is_new limits pages r
@@ -97,7 +97,7 @@ module _ (files : List (List ℕ × List ℕ)) (sent sent' : Option (List ℕ)) 
   output_first : (ran closed : Result (Unit {0}) RunFault) → Ends db files sent sent' lines ran closed s → said ran closed ≡ Err (Run run.Output) → ran ≡ Err run.Output
   output_first (Ok x) (Ok y) e is = absurd (cc is)
   output_first (Ok x) (Err f) e is = by_left e.left where
-    by_left : ClosesAfter db files lines e.sends.part.done (Err f) s ⊎ FailsToLoad db files lines e.sends.part.done (Ok x) (Err f) s → Ok x ≡ Err run.Output
+    by_left : ClosesAfter db files lines e.sends.part.done e.sends.part.after (Err f) s ⊎ FailsToLoad db files lines e.sends.part.done (Ok x) (Err f) s → Ok x ≡ Err run.Output
     by_left (inl h) = let o : f ≡ run.Output = cc is in absurd (subst IsLoadFault o h.0.0)
     by_left (inr h) = let w = h.ran_is in absurd (cc w)
   output_first (Err f) closed e is = cc is
@@ -110,24 +110,24 @@ module _ (files : List (List ℕ × List ℕ)) (sent sent' : Option (List ℕ)) 
     cut = λ o. e.sends.cut (output_first ran closed e o);
   }
 
-  kept_end : (ran closed : Result (Unit {0}) RunFault) (e : Ends db files sent sent' lines ran closed s) → OnOk (said (Ok tt) closed) (HoldsBook s (shape_of db) db.limits (run_book db.limits files db.book (take e.sends.part.done lines)))
+  kept_end : (ran closed : Result (Unit {0}) RunFault) (e : Ends db files sent sent' lines ran closed s) → OnOk (said (Ok tt) closed) (HoldsBook s (shape_of db) db.limits e.sends.part.after)
   kept_end ran (Err f) e = tt
   kept_end ran (Ok y) e = by_left e.left where
-    by_left : ClosesAfter db files lines e.sends.part.done (Ok y) s ⊎ FailsToLoad db files lines e.sends.part.done ran (Ok y) s → HoldsBook s (shape_of db) db.limits (run_book db.limits files db.book (take e.sends.part.done lines))
+    by_left : ClosesAfter db files lines e.sends.part.done e.sends.part.after (Ok y) s ⊎ FailsToLoad db files lines e.sends.part.done ran (Ok y) s → HoldsBook s (shape_of db) db.limits e.sends.part.after
     by_left (inl h) = h.0
     by_left (inr h) = let w = h.closed_is in absurd (cc w)
 
   dropped_end : (ran closed : Result (Unit {0}) RunFault) → Ends db files sent sent' lines ran closed s → IfErr (said (Ok tt) closed) (IsDropped files sent sent' lines (said ran closed))
   dropped_end ran (Ok y) e = tt
   dropped_end ran (Err f) e = by_left e.left where
-    by_left : ClosesAfter db files lines e.sends.part.done (Err f) s ⊎ FailsToLoad db files lines e.sends.part.done ran (Err f) s → IsDropped files sent sent' lines (said ran (Err f)) (Run f)
+    by_left : ClosesAfter db files lines e.sends.part.done e.sends.part.after (Err f) s ⊎ FailsToLoad db files lines e.sends.part.done ran (Err f) s → IsDropped files sent sent' lines (said ran (Err f)) (Run f)
     by_left (inl h) = inr (inr (f, refl, h.0.0))
     by_left (inr h) = let w = h.closed_is in inr (inl (cc w, e.sends.part.done, h.at))
 
   refused_end : (ran closed : Result (Unit {0}) RunFault) → Ends db files sent sent' lines ran closed s → IfErr (said ran closed) (IsRefusedBeside sent sent')
   refused_end (Ok x) (Ok y) e = tt
   refused_end (Ok x) (Err f) e = by_left e.left where
-    by_left : ClosesAfter db files lines e.sends.part.done (Err f) s ⊎ FailsToLoad db files lines e.sends.part.done (Ok x) (Err f) s → IsRefusedBeside sent sent' (Run f)
+    by_left : ClosesAfter db files lines e.sends.part.done e.sends.part.after (Err f) s ⊎ FailsToLoad db files lines e.sends.part.done (Ok x) (Err f) s → IsRefusedBeside sent sent' (Run f)
     by_left (inl h) = inr (f, refl, λ n. h.0.0)
     by_left (inr h) = let w = h.ran_is in absurd (cc w)
   refused_end (Err f) closed e = inr (f, refl, λ n. (e.stopped n).0)
@@ -192,9 +192,8 @@ module _ (held : Option History) (is_new : Bool) (given : LimitsView) where
 pub beside : (files : List (List ℕ × List ℕ)) (sent sent' : Option (List ℕ)) (lines : List (List ℕ)) (ran kept : Result (Unit {0}) Fault) (store : Store) (was is : Option History) → kept ≡ Ok tt → NameIsKept store was is
     → (shape : ShapeView) (limits : LimitsView) (book : Book) → LeavesCopy files sent sent' lines ran kept store shape limits book → RunsBeside shape limits book files sent sent' lines ran was is
 beside files sent sent' lines ran kept store was is ok name shape limits book left =
-    let after = run_book limits files book (take left.sends.part.done lines) in
-    let holds = subst (λ r. OnOk r (HoldsBook store shape limits after)) ok left.holds in
-    record { sends = left.sends; store = store; holds = holds; kept = name; held = held_now store shape limits after was is holds name }
+    let holds = subst (λ r. OnOk r (HoldsBook store shape limits left.sends.part.after)) ok left.holds in
+    record { sends = left.sends; store = store; holds = holds; kept = name; held = held_now store shape limits left.sends.part.after was is holds name }
 
 -- what follows from what is said of an answer
 pub map_ok : {T E : Type 0} (P Q : Type 0) (r : Result T E) → (P → Q) → OnOk r P → OnOk r Q

@@ -1,5 +1,5 @@
 -- What a run and its closing leave, whatever they answer.
-use Rattle.std.proofs.Common.{arith, ℕ, ◌≡◌, ◌<◌, ◌⊎◌, ◌∙◌, refl, sym, inl, inr, [], append-nil, length, take, true, false, Bool, List, Result, Ok, Err, subst}
+use Rattle.std.proofs.Common.{arith, ℕ, ◌≡◌, ◌<◌, ◌≤◌, ◌⊎◌, ◌∙◌, ◌++◌, refl, sym, inl, inr, [], append-nil, length, take, true, false, Bool, List, Result, Ok, Err, subst}
 use Rattle.std.proofs.lemmas.List.{take_all}
 use Rattle.std.specs.Prelude.{IfErr, OnErr, OnOk}
 use Rattle.legs.specs.Book.{Book}
@@ -11,9 +11,10 @@ use Rattle.trajdb.specs.Db.{DbView, HasPages, IsSoundDb}
 use Rattle.trajdb.specs.Lasting.{IsClosingFault, IsIdle}
 use Rattle.trajdb.specs.Faults.{IsNotOutput}
 use Rattle.trajdb.specs.Promises.{CloseCall, KeepsStore, RunCall}
-use Rattle.trajdb.specs.Run.{run_book, AcceptsSome, BeginsIn, HasCutRun, HasStopped, IsRunText, Runs}
+use Rattle.trajdb.specs.Run.{AcceptsSome, AnswersLine, BeginsIn, CutsBy, DoesAll, HasStopped, Runs}
 use Rattle.trajdb.specs.declared.RunFault.{RunFault}
 use Rattle.trajdb.specs.declared.RunFault.TheVariants as run
+use Rattle.trajdb.proofs.StepLemmas.{cut_all}
 use Rattle.sessions.specs.Answers.{said, Answers, ClosesAfter, ClosesWith, Ends, FailsToLoad, HasWritten, SendsFront}
 use Rattle.sessions.specs.declared.fault.Fault.{Fault}
 use Rattle.sessions.proofs.AnswerLemmas.{the_same}
@@ -45,20 +46,29 @@ module _ {O : Type 0} (shown : O → OutputView) (old new : DbView) (files : Lis
     sends = r.sends;
     done = length lines;
     text = r.text;
-    answers = subst (λ l. IsRunText old.limits files old.book l r.text) (sym (take_all (length lines) lines (omega arith))) r.answers;
+    after = new.book;
+    answers = subst (λ l. DoesAll (AnswersLine old.limits files) old.book new.book l r.text) (sym (take_all (length lines) lines (omega arith))) r.does;
     is_front = ([], sym (append-nil r.text));
   }
 
   abbrev front_stopped : (k : ℕ) → HasStopped old.limits files (shown out).contents (shown out').contents old.book new.book new.failed lines k → Front
-  front_stopped k st = record { front = st.text; sends = st.sends; done = k; text = st.text; answers = st.answers; is_front = ([], sym (append-nil st.text)) }
+  front_stopped k st = record { front = st.run.text; sends = st.run.sends; done = k; text = st.run.text; after = st.before; answers = st.run.does; is_front = ([], sym (append-nil st.run.text)) }
 
-  abbrev front_cut : (k : ℕ) → HasCutRun old.limits files (shown out).contents (shown out').contents old.book new.book lines k → Front
-  front_cut k c = record { front = c.written; sends = c.sends; done = k; text = c.all; answers = c.answers; is_front = c.prefix }
+  abbrev front_cut : CutsBy (AnswersLine old.limits files) (shown out).contents (shown out').contents old.book new.book lines → Front
+  front_cut c = record {
+    front = c.written;
+    sends = c.sends;
+    done = c.k;
+    text = c.before ++ c.text;
+    after = new.book;
+    answers = cut_all (AnswersLine old.limits files) (shown out).contents (shown out').contents old.book new.book lines c;
+    is_front = c.prefix;
+  }
 
   -- whatever is answered
   pub sends_front : (ran : Result (Unit {0}) RunFault) → OnOk ran Done → Called ran → IsSoundDb old → old.failed ≡ false → Front
   sends_front (Ok x) ok call sound lives = front_done (ok sound)
-  sends_front (Err run.Output) ok call sound lives = let c = call.output refl sound in front_cut c.0 c.1
+  sends_front (Err run.Output) ok call sound lives = front_cut (call.output refl sound).0
   sends_front (Err _) ok call sound lives = let st = call.refused tt lives sound in front_stopped st.0 st.1
 
   module _ (s : Store) (store : KeepsStore old new) where
@@ -83,18 +93,15 @@ module _ {O : Type 0} (shown : O → OutputView) (old new : DbView) (files : Lis
     answered_both (Ok x) (Ok y) ok call close = λ was pages idle. record {
       after = new.book;
       run = ok was;
-      holds = closed_with (Ok y) close call.later call.pages new.book call.lives was (call.sound was) pages idle refl;
+      holds = closed_with (Ok y) close call.later call.pages new.book call.lives was (call.kept call.lives was) pages idle refl;
     }
 
     module _ (closed : Result (Unit {0}) RunFault) (close : CloseCall new s closed) (was : IsSoundDb old) (pages : HasPages old) (idle : IsIdle old) (alive : old.failed ≡ false) where
       abbrev Ended : Result (Unit {0}) RunFault → Type 0
       Ended ran = Ends old files (shown out).contents (shown out').contents lines ran closed s
 
-      abbrev Left : (ran : Result (Unit {0}) RunFault) → ℕ → Type 0
-      Left ran k = ClosesAfter old files lines k closed s ⊎ FailsToLoad old files lines k ran closed s
-
-      abbrev after : ℕ → Book
-      after k = run_book old.limits files old.book (take k lines)
+      abbrev Left : (ran : Result (Unit {0}) RunFault) → ℕ → Book → Type 0
+      Left ran k after = ClosesAfter old files lines k after closed s ⊎ FailsToLoad old files lines k ran closed s
 
       -- where there is a fault, one of these lines began it
       accepted : (k : ℕ) → BeginsIn files old new (take k lines) → new.failed ≡ false → old.begun ≡ false → (r : Result (Unit {0}) RunFault) → r ≡ closed → OnErr r (AcceptsSome old.limits files old.book (take k lines))
@@ -108,9 +115,9 @@ module _ {O : Type 0} (shown : O → OutputView) (old new : DbView) (files : Lis
         by_begun true is = of_sum (begun is)
         by_begun false is = absurd (cc (same ∙ (close.idle lives is).0))
 
-      left_with : (ran : Result (Unit {0}) RunFault) → Called ran → (k : ℕ) → BeginsIn files old new (take k lines) → new.failed ≡ false → IsSoundDb new → new.book ≡ after k → Left ran k
-      left_with ran call k begun lives sound book =
-          inl (closed_with closed close call.later call.pages (after k) lives was sound pages idle book, λ not. accepted k begun lives not closed refl)
+      left_with : (ran : Result (Unit {0}) RunFault) → Called ran → (k : ℕ) (after : Book) → BeginsIn files old new (take k lines) → new.failed ≡ false → IsSoundDb new → new.book ≡ after → Left ran k after
+      left_with ran call k after begun lives sound book =
+          inl (closed_with closed close call.later call.pages after lives was sound pages idle book, λ not. accepted k begun lives not closed refl)
 
       full : closed ≡ Err run.StoreFull → s.count ≡ s.most
       full is = closing_full new s closed close.caused is
@@ -120,16 +127,14 @@ module _ {O : Type 0} (shown : O → OutputView) (old new : DbView) (files : Lis
 
       -- all lines were done
       all_done : Runs files (shown out).contents (shown out').contents old new lines → Called (Ok tt) → Ended (Ok tt)
-      all_done r call =
-          let all : take (length lines) lines ≡ lines = take_all (length lines) lines (omega arith) in
-          record {
-            sends = record { part = front_done r; whole = refl; all = λ n. refl; cut = λ o. cc o };
-            stopped = tt;
-            full = λ o. cc o;
-            closed_full = full;
-            left = left_with (Ok tt) call (length lines) (subst (λ x. BeginsIn files old new x) (sym all) (call.only was)) call.lives (call.sound was) (subst (λ l. new.book ≡ run_book old.limits files old.book l) (sym all) r.book);
-            lasts = lasts (Ok tt) call;
-          }
+      all_done r call = record {
+        sends = record { part = front_done r; whole = refl; all = λ n. refl; cut = λ o. cc o };
+        stopped = tt;
+        full = λ o. cc o;
+        closed_full = full;
+        left = left_with (Ok tt) call (length lines) new.book (subst (λ x. BeginsIn files old new x) (sym (take_all (length lines) lines (omega arith))) (call.only was)) call.lives (call.kept call.lives was) refl;
+        lasts = lasts (Ok tt) call;
+      }
 
       -- it stopped at a line
       stopped_at : (e : RunFault) → IsNotOutput e → IsLoadFault e → (call : Called (Err e)) (k : ℕ) → HasStopped old.limits files (shown out).contents (shown out').contents old.book new.book new.failed lines k → (new.failed ≡ false → BeginsIn files old new (take k lines))
@@ -160,9 +165,9 @@ module _ {O : Type 0} (shown : O → OutputView) (old new : DbView) (files : Lis
           safe = λ first safe. close.safe is first (store.safe first was pages safe);
         }
 
-        by_state : (b : Bool) → new.failed ≡ b → Left (Err e) k
+        by_state : (b : Bool) → new.failed ≡ b → Left (Err e) k st.before
         by_state true is = inr (fails_at is)
-        by_state false is = left_with (Err e) call k (begun is) is (call.kept inside is was) (st.book is)
+        by_state false is = left_with (Err e) call k st.before (begun is) is (call.kept is was) (st.book is)
 
       -- its output failed
       cut_at : (call : Called (Err run.Output)) → Ended (Err run.Output)
@@ -170,15 +175,15 @@ module _ {O : Type 0} (shown : O → OutputView) (old new : DbView) (files : Lis
           let c = call.output refl was in
           record {
             sends = record {
-              part = front_cut c.0 c.1;
+              part = front_cut c.0;
               whole = tt;
               all = λ n. absurd (n refl);
-              cut = λ o. (c.1.before, c.1.earlier, c.1.whole);
+              cut = λ o. (c.0.before, c.0.mid, c.0.earlier, c.0.whole);
             };
             stopped = λ n. absurd n;
             full = λ o. cc o;
             closed_full = full;
-            left = left_with (Err run.Output) call c.0 c.2 (call.cut_lives refl) (call.cut_sound refl was) c.1.book;
+            left = left_with (Err run.Output) call c.0.k new.book c.1 (call.cut_lives refl) (call.kept (call.cut_lives refl) was) refl;
             lasts = lasts (Err run.Output) call;
           }
 

@@ -15,7 +15,7 @@ use Rattle.trajdb.specs.Db.{page_count_of, shape_of, DbView, HasPages, IsSoundDb
 use Rattle.trajdb.specs.Faults.{IsNotOutput}
 use Rattle.trajdb.specs.Lasting.{IsFaultless, IsIdle, IsSafe, IsSafeStore}
 use Rattle.trajdb.specs.Promises.{CheckCall, CloseCall, KeepsStore, RunCall}
-use Rattle.trajdb.specs.Run.{run_book, AcceptsSome, HasRun, IsPrefixOf, IsRunText, Runs}
+use Rattle.trajdb.specs.Run.{AcceptsSome, AnswersLine, DoesAll, IsPrefixOf, Runs, RunsBy}
 use Rattle.register.specs.declared.fault.CatalogueFault.{CatalogueFault}
 use Rattle.register.specs.declared.fault.CatalogueFault.TheVariants as opening
 use Rattle.trajdb.specs.declared.Report.{Report}
@@ -34,7 +34,7 @@ pub record Answers (shape : ShapeView) (limits : LimitsView) (book : Book)
     (files : List (List ℕ × List ℕ)) (sent sent' : Option (List ℕ)) (lines : List (List ℕ))
     (store : Store) : Type 0 where
   pub after : Book
-  pub run : HasRun limits files sent sent' book after lines
+  pub run : RunsBy (AnswersLine limits files) sent sent' book after lines
   pub holds : HoldsBook store shape limits after
 
 -- what was sent is the front of the answers to the first lines, each over the book after the lines before
@@ -44,7 +44,8 @@ pub record SendsFront (limits : LimitsView) (book : Book) (files : List (List �
   pub sends : Appends sent sent' front
   pub done : ℕ
   pub text : List ℕ
-  pub answers : IsRunText limits files book (take done lines) text
+  pub after : Book
+  pub answers : DoesAll (AnswersLine limits files) book after (take done lines) text
   pub is_front : IsPrefixOf front text
 
 -- what was sent of a run that ended so: the answers to some first lines, and to all lines where it was brought to its end;
@@ -56,7 +57,8 @@ pub record SendsLines {E : Type 0} (output : E) (limits : LimitsView) (book : Bo
   pub whole : OnOk ran (part.done ≡ length lines)
   pub all : ran ≢ Err output → part.front ≡ part.text
   pub cut : ran ≡ Err output
-      → (before : List ℕ) × IsRunText limits files book (take (part.done - 1) lines) before
+      → (before : List ℕ) × (mid : Book)
+      × DoesAll (AnswersLine limits files) book mid (take (part.done - 1) lines) before
       × IsPrefixOf before part.front
 
 -- what the closing of a database with a book leaves, by what it answered: the store holds the book, or where memory ran
@@ -93,11 +95,10 @@ HasWritten db store = take (page_count_of db) store.pages ≡ written db.index
 
 -- a database is closed with the book after so many lines; and without a fault where it had not begun and none of these
 -- lines is a `load` that is accepted
-abbrev pub ClosesAfter : DbView → List (List ℕ × List ℕ) → List (List ℕ) → ℕ
+abbrev pub ClosesAfter : DbView → List (List ℕ × List ℕ) → List (List ℕ) → ℕ → (after : Book)
     → (closed : Result (Unit {0}) RunFault) → Store → Type 0
-ClosesAfter db files lines done closed store =
-    ClosesWith (shape_of db) db.limits (run_book db.limits files db.book (take done lines))
-    closed store
+ClosesAfter db files lines done after closed store =
+    ClosesWith (shape_of db) db.limits after closed store
     × (db.begun ≡ false → OnErr closed (AcceptsSome db.limits files db.book (take done lines)))
 
 -- what a run over a database and its closing leave, whatever they answer, beside what was sent. The database was closed
@@ -113,7 +114,7 @@ pub record Ends (db : DbView) (files : List (List ℕ × List ℕ)) (sent sent' 
   pub full : ran ≡ Err run.StoreFull
       → FailsToLoad db files lines sends.part.done ran closed store
   pub closed_full : closed ≡ Err run.StoreFull → store.count ≡ store.most
-  pub left : ClosesAfter db files lines sends.part.done closed store
+  pub left : ClosesAfter db files lines sends.part.done sends.part.after closed store
       ⊎ FailsToLoad db files lines sends.part.done ran closed store
   pub lasts : OnOk closed (IsSynced store ⊎ HasWritten db store)
 

@@ -1,5 +1,5 @@
 -- What the name of a store stands for, from moment to moment, and what a run makes of it.
-use Rattle.std.specs.Prelude.{ℕ, ◌≡◌, ◌<◌, ◌⊎◌, ◌^◌, ◌+◌, ◌-◌, min, List, [], ◌∷◌, length, take, Bool, Option, Some, None, IfErr, IfSome, IsTrue, OnOk, Err, Ok, Result, false, true, ⊤}
+use Rattle.std.specs.Prelude.{ℕ, ◌≡◌, ◌<◌, ◌⊎◌, ◌^◌, ◌+◌, ◌-◌, min, List, [], ◌∷◌, length, Bool, Option, Some, None, IfErr, IfSome, IsTrue, OnOk, Err, Ok, Result, false, true, ⊤}
 use Rattle.legs.specs.Book.{Book, empty_book}
 use Rattle.legs.specs.Costs.{ShapeView}
 use Rattle.legs.specs.Limits.{LimitsView}
@@ -12,10 +12,10 @@ use Rattle.header.specs.Fields.{header_payload}
 use Rattle.register.specs.Saving.{IsSavingStop}
 use Rattle.trajdb.specs.Calls.{IsLoadFault}
 use Rattle.trajdb.specs.Db.{capacity_of, shape_of, store_of, DbView, HasPages, IsCaused}
+use Rattle.trajdb.specs.Database.{fresh}
 use Rattle.trajdb.specs.Faults.{IsNotOutput}
 use Rattle.trajdb.specs.Lasting.{HasBook}
 use Rattle.trajdb.specs.Promises.{OpenCall}
-use Rattle.trajdb.specs.Run.{run_book}
 use Rattle.register.specs.declared.fault.CatalogueFault.{CatalogueFault}
 use Rattle.trajdb.specs.declared.RunFault.{RunFault}
 use Rattle.trajdb.specs.declared.RunFault.TheVariants.{Failed, Memory, Output, Store as StoreFailed}
@@ -161,8 +161,7 @@ pub record LeavesCopy (files : List (List ℕ × List ℕ)) (sent sent' : Option
     (lines : List (List ℕ)) (ran kept : Result (Unit {0}) Fault) (store : Store)
     (shape : ShapeView) (limits : LimitsView) (book : Book) : Type 0 where
   pub sends : SendsLines (Run Output) limits book files sent sent' lines ran
-  pub holds : OnOk kept (HoldsBook store shape limits
-      (run_book limits files book (take sends.part.done lines)))
+  pub holds : OnOk kept (HoldsBook store shape limits sends.part.after)
   pub dropped : IfErr kept (IsDropped files sent sent' lines ran)
   pub refused : IfErr ran (IsRefusedBeside sent sent')
 
@@ -173,9 +172,9 @@ pub record RunsBeside (shape : ShapeView) (limits : LimitsView) (book : Book)
     (ran : Result (Unit {0}) Fault) (old new : Option History) : Type 0 where
   pub sends : SendsLines (Run Output) limits book files sent sent' lines ran
   pub store : Store
-  pub holds : HoldsBook store shape limits (run_book limits files book (take sends.part.done lines))
+  pub holds : HoldsBook store shape limits sends.part.after
   pub kept : NameIsKept store old new
-  pub held : HoldsNow shape limits (run_book limits files book (take sends.part.done lines)) new
+  pub held : HoldsNow shape limits sends.part.after new
 
 -- of a store without pages a database is made under these limits with the empty book that has begun and not failed, with a cache of so many
 -- pages: its store has page 0 alone, which of a faithful one is its header, and is synced; over a faithful one it is sound,
@@ -185,8 +184,7 @@ abbrev pub Makes : {S : Type 0} (seen : S → Store) (store : Store) (limits : L
     → Result DbView (S × CatalogueFault) → Type 0
 Makes seen store limits cache_pages (Ok db) =
     (IsTrue store.is_faithful → HasBook new_shape limits empty_book db × HasPages db)
-    × (db.book ≡ empty_book) × (db.limits ≡ limits) × (shape_of db ≡ new_shape)
-    × (db.begun ≡ true) × (db.failed ≡ false) × (capacity_of db ≡ cache_pages)
+    × (db ≡ fresh limits db.index true) × (shape_of db ≡ new_shape) × (capacity_of db ≡ cache_pages)
     × Writes 0 (sealed 0 (header_payload new_shape limits)) store (store_of db)
     × IsSynced (store_of db)
 Makes seen store limits cache_pages (Err back) =

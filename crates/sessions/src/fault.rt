@@ -2,12 +2,26 @@
 ghost use Rattle.std.specs.Prelude.{◌≡◌};
 
 use crate::cause::Cause;
-use crate::rects_fault::{RectsFault, rects_text};
 use querylang::LineCode;
 use std::alloc::AllocError;
 use std::fmt;
 use std::fmt::{Display, Formatter};
 use trajdb::{OpenFault, RunFault};
+
+/// Why a file of rectangles is refused.
+#[derive(Clone, Copy, PartialEq, Eq, Debug)]
+pub enum RectsFault {
+    /// A field is not UTF-8.
+    NotUtf8,
+    /// The first line does not name the columns.
+    NoColumns,
+    /// A name is empty, or has more than 255 bytes.
+    Name,
+    /// A name stands a second time.
+    Twice,
+    /// A corner is refused, as a line of a script would be.
+    Corner(LineCode),
+}
 
 /// Why the program failed.
 #[derive(Clone, Copy, PartialEq, Eq, Debug)]
@@ -39,14 +53,6 @@ pub enum Fault<'a> {
 }
 
 impl Fault<'_> {
-    /// The exit status of the program: 2 where its words are wrong, else 1.
-    pub fn status(&self) -> u8 {
-        match self {
-            Fault::NoPart(..) | Fault::OtherLimits(..) | Fault::Bounds(_) | Fault::Rects(..) => 2,
-            _ => 1,
-        }
-    }
-
     /// Whether a store that failed is the fault.
     pub fn is_of_store(&self) -> bool {
         match self {
@@ -142,5 +148,16 @@ impl Display for Fault<'_> {
                 write!(f, "record {record} of the rectangles: {why}")
             }
         }
+    }
+}
+
+/// Why a file of rectangles is refused, in words.
+fn rects_text(fault: RectsFault) -> &'static str {
+    match fault {
+        RectsFault::NotUtf8 => "a field is not UTF-8",
+        RectsFault::NoColumns => "there are no columns name, x1, y1, x2 and y2",
+        RectsFault::Name => "the name is empty, or has more than 255 bytes",
+        RectsFault::Twice => "the name stands a second time",
+        RectsFault::Corner(code) => bounds_text(code),
     }
 }

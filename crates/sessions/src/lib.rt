@@ -4,7 +4,6 @@
 #![tactic(auto)]
 
 mod answering;
-mod beside;
 mod cause;
 mod checking;
 mod ended;
@@ -12,27 +11,26 @@ mod fault;
 mod folder;
 mod folder_refusals;
 mod migrating;
+mod on_copy;
 mod part;
-mod part_files;
+mod part_folder;
 mod read_only;
-mod reading;
-mod rects_fault;
 mod session;
+mod whole_files;
 
 pub use answering::send_all;
-pub use beside::run_on_copy;
 pub use cause::Cause;
 pub use checking::check_and_close;
 pub use ended::Ended;
-pub use fault::Fault;
+pub use fault::{Fault, RectsFault};
 pub use folder::Folder;
 pub use folder_refusals::FolderRefusals;
 pub use migrating::migrate_and_close;
+pub use on_copy::run_on_copy;
 pub use part::send_part;
-pub use part_files::{PartFolder, put_parts};
+pub use part_folder::{PartFolder, put_parts};
 pub use read_only::ReadOnly;
-pub use reading::{MOST_BYTES, read_named};
-pub use rects_fault::RectsFault;
 pub use session::{
     CACHE_PAGES, MOST_FEATURES, MOST_LEGS, Opening, answer, database, run_and_close,
 };
+pub use whole_files::{MOST_BYTES, read_named};

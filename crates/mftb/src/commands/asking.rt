@@ -1,20 +1,19 @@
 //! Databases that are only asked.
 ghost use Rattle.std.specs.Prelude.{◌<◌};
 
-use crate::system::file::HeldFile;
-use crate::system::names::Names;
-use crate::system::opening::{absence_of, open_asked, sweep};
-use pages::{FileStore, PageStore};
-use sessions::{Fault, ReadOnly};
+use crate::system::opening::{AskedStore, absence_of, open_asked, sweep};
+use crate::system::store_names::Names;
+use mfcsv::Dimension;
+use pages::PageStore;
+use reports::Frame;
+use sessions::Fault;
 use std::alloc::Global;
 use std::fs::File;
 use std::hash::RandomState;
 use std::random::RandomSource;
 use std::rt::Files;
+use timebase::Ms;
 use trajdb::{Db, RunFault};
-
-/// The store of a file that is read alone.
-pub(crate) type AskedStore = ReadOnly<FileStore<HeldFile<'static, File>>>;
 
 /// The store of a file that is there, opened to be read alone; none is made.
 pub(crate) fn store_to_ask<'a, R: Files<File = File> + AllocGlobal>(
@@ -43,15 +42,21 @@ pub(crate) fn cached_pages(asked: u32) -> u32
     }
 }
 
+/// What names are hashed with: a stranger who chooses the names of a file is not to know it.
+pub(crate) fn keys_of<'a, R: RandomSource>(rt: &R) -> Result<RandomState, Fault<'a>> {
+    match RandomState::new(rt) {
+        Ok(keys) => Ok(keys),
+        Err(_) => Err(Fault::Run(RunFault::Memory)),
+    }
+}
+
 /// The database of a store.
 pub(crate) fn database_to_ask<'a, R: AllocGlobal + RandomSource, S: PageStore + Drop>(
     rt: &R,
     store: S,
     cache_pages: u32,
 ) -> Result<Db<S>, Fault<'a>> {
-    let Ok(keys) = RandomState::new(rt) else {
-        return Err(Fault::Run(RunFault::Memory));
-    };
+    let keys = keys_of(rt)?;
     match Db::open(rt.alloc(), keys, store, cached_pages(cache_pages) as usize) {
         Ok(database) => Ok(database),
         Err((_store, fault)) => Err(Fault::Open(fault)),
@@ -68,4 +73,23 @@ pub(crate) fn close_asked<'a, S: PageStore + Drop, T: Drop>(
     let told = told?;
     closed?;
     Ok(told)
+}
+
+/// How a database's records are written, behind a label.
+pub(crate) fn frame_of<'l, S: PageStore>(database: &Db<S>, label: &'l [u8]) -> Frame<'l> {
+    match database.head() {
+        Some(head) => Frame {
+            base: head.base,
+            dimension: head.dimension,
+            label,
+        },
+        None => match Ms::new(0) {
+            Some(base) => Frame {
+                base,
+                dimension: Dimension::Two,
+                label,
+            },
+            None => unreachable!(),
+        },
+    }
 }

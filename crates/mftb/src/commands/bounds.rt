@@ -7,13 +7,33 @@ use sessions::Fault;
 use timebase::{Ms, Period, TimeFault, read_instant};
 use trajdb::RunFault;
 
+/// The greatest coordinate, in units of 10^-7.
+const MOST: i64 = 1_000_000_000_000_000;
+
+/// The first and the last moment that there are, in milliseconds since 1970-01-01T00:00:00Z.
+const FIRST: i64 = -62_135_596_800_000;
+
+const LAST: i64 = 253_370_764_799_999;
+
+/// The rectangle in which each leg is.
+pub(crate) fn plane() -> Option<Rect> {
+    let (least, most) = (Coord::new(-MOST)?, Coord::new(MOST)?);
+    Rect::new(least, least, most, most)
+}
+
+/// The period in which each leg is.
+pub(crate) fn always() -> Option<Period> {
+    Period::new(Ms::new(FIRST)?, Ms::new(LAST)?)
+}
+
 /// Whether what was written is one word of a line.
 pub(crate) fn is_word(text: &str) -> bool {
+    for byte in text.as_bytes() {
+        if byte.is_ascii_whitespace() {
+            return false;
+        }
+    }
     !text.is_empty()
-        && !text
-            .as_bytes()
-            .iter()
-            .any(|byte| byte.is_ascii_whitespace())
 }
 
 /// Refuses coordinates of which one is no word.
@@ -46,8 +66,10 @@ fn coord_of(word: &str) -> Result<Coord, LineCode> {
 
 /// The rectangle of X1, Y1, X2 and Y2, refused as the line of a script is.
 pub(crate) fn rect_of(corners: &Corners<'_>) -> Result<Rect, LineCode> {
-    let (x1, y1) = (coord_of(corners.x1)?, coord_of(corners.y1)?);
-    let (x2, y2) = (coord_of(corners.x2)?, coord_of(corners.y2)?);
+    let x1 = coord_of(corners.x1)?;
+    let y1 = coord_of(corners.y1)?;
+    let x2 = coord_of(corners.x2)?;
+    let y2 = coord_of(corners.y2)?;
     match Rect::new(x1, y1, x2, y2) {
         Some(rect) => Ok(rect),
         None => Err(LineCode::Q6),
@@ -65,8 +87,10 @@ fn moment_of<'a>(word: &str) -> Result<Ms, Fault<'a>> {
 
 /// The period of T1 and T2, refused likewise.
 pub(crate) fn period_of<'a>(times: [&str; 2]) -> Result<Period, Fault<'a>> {
+    hold_times(times)?;
     let [t1, t2] = times;
-    let (t1, t2) = (moment_of(t1)?, moment_of(t2)?);
+    let t1 = moment_of(t1)?;
+    let t2 = moment_of(t2)?;
     match Period::new(t1, t2) {
         Some(period) => Ok(period),
         None => Err(Fault::Bounds(LineCode::Q8)),

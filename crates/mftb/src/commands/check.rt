@@ -1,7 +1,7 @@
 //! `mftb check`: whether the pages of a file hold one database.
-use crate::commands::asking::{AskedStore, database_to_ask};
-use crate::system::names::Names;
-use crate::system::opening::{open_asked, sweep};
+use crate::commands::asking::database_to_ask;
+use crate::system::opening::{AskedStore, open_asked, sweep};
+use crate::system::store_names::Names;
 use arguments::Check;
 use outputs::Output;
 use pages::PageStore;

@@ -1,36 +1,50 @@
 //! `mftb gaps`: times without a position, by feature.
-use crate::commands::asking::{close_asked, database_to_ask, store_to_ask};
-use crate::commands::bounds::{hold_times, period_of};
+use crate::commands::asking::{close_asked, database_to_ask, frame_of, store_to_ask};
+use crate::commands::bounds::{always, period_of, plane};
 use arguments::Gaps;
-use fixedpoint::Coord;
-use legs::Rect;
-use mfcsv::Dimension;
-use moments::gaps_of;
+use moments::{Gap, gaps_of};
 use outputs::Output;
 use pages::PageStore;
 use predicates::Predicate;
-use reports::{push_gap, push_gap_fields};
+use reports::{Frame, push_gap, push_gap_fields};
 use sessions::{Fault, send_all};
 use std::alloc::Global;
 use std::fs::File;
 use std::random::RandomSource;
 use std::rt::Files;
-use timebase::{Ms, Period};
+use timebase::Period;
 use trajdb::{Db, RunFault};
 
-/// The greatest coordinate, in units of 10^-7.
-const MOST: i64 = 1_000_000_000_000_000;
+/// The gaps of a database's features in a period.
+fn gaps_in<S: PageStore>(
+    alloc: Global,
+    database: &mut Db<S>,
+    period: &Period,
+) -> Result<Vec<Gap>, RunFault> {
+    let (Some(plane), Some(always)) = (plane(), always()) else {
+        return Err(RunFault::Failed);
+    };
+    let legs = database.legs(alloc, Predicate::Ever, &plane, &always)?;
+    Ok(gaps_of(alloc, &legs, period)?)
+}
 
-/// The first and the last moment that there are, in milliseconds since 1970-01-01T00:00:00Z.
-const FIRST: i64 = -62_135_596_800_000;
-
-const LAST: i64 = 253_370_764_799_999;
-
-/// The rectangle and the period in which each leg is.
-pub(crate) fn everywhere() -> Option<(Rect, Period)> {
-    let (least, most) = (Coord::new(-MOST)?, Coord::new(MOST)?);
-    let rect = Rect::new(least, least, most, most)?;
-    Some((rect, Period::new(Ms::new(FIRST)?, Ms::new(LAST)?)?))
+/// Appends the records of gaps, below the line that names their fields.
+fn push_gaps<S: PageStore>(
+    alloc: Global,
+    text: &mut Vec<u8>,
+    database: &Db<S>,
+    gaps: &[Gap],
+) -> Result<(), RunFault> {
+    let Frame {
+        base,
+        dimension,
+        ..
+    } = frame_of(database, b"");
+    push_gap_fields(text, dimension)?;
+    for gap in gaps {
+        push_gap(alloc, text, database, base, dimension, gap)?;
+    }
+    Ok(())
 }
 
 /// The text of a database's gaps in a period.
@@ -39,22 +53,12 @@ fn text_of<S: PageStore>(
     database: &mut Db<S>,
     period: &Period,
 ) -> Result<Vec<u8>, RunFault> {
-    let Some((rect, always)) = everywhere() else {
-        return Err(RunFault::Failed);
-    };
-    let legs = database.legs(alloc, Predicate::Ever, &rect, &always)?;
-    let gaps = gaps_of(alloc, &legs, period)?;
+    let gaps = gaps_in(alloc, database, period)?;
     let mut text = Vec::new(alloc);
-    let Some(head) = database.head() else {
-        push_gap_fields(&mut text, Dimension::Two)?;
-        return Ok(text);
-    };
-    let (base, dimension) = (head.base, head.dimension);
-    push_gap_fields(&mut text, dimension)?;
-    for gap in &gaps {
-        push_gap(alloc, &mut text, database, base, dimension, gap)?;
+    match push_gaps(alloc, &mut text, database, &gaps) {
+        Ok(()) => Ok(text),
+        Err(fault) => Err(fault),
     }
-    Ok(text)
 }
 
 /// The text of the gaps of a store's database in a period.
@@ -75,7 +79,6 @@ pub(crate) fn print_gaps<'a, R: Files<File = File> + AllocGlobal + RandomSource,
     task: &Gaps<'a>,
     out: &mut O,
 ) -> Result<(), Fault<'a>> {
-    hold_times(task.times)?;
     let period = period_of(task.times)?;
     let store = store_to_ask(rt, task.store)?;
     let told = told_of(rt, store, task.cache_pages, &period)?;

@@ -1,8 +1,7 @@
 //! `mftb info`: what a store holds.
 use crate::commands::asking::store_to_ask;
-use crate::system::page_zero::{Header, read_extent, read_header};
+use crate::system::stored::{Seen, look};
 use arguments::{Info, InfoForm};
-use legs::Box3;
 use outputs::Output;
 use pagecache::PageCache;
 use pages::PageStore;
@@ -14,27 +13,6 @@ use std::fs::File;
 use std::rt::Files;
 use trajdb::{OpenFault, RunFault};
 
-/// What is seen of the pages of a store.
-#[derive(Clone, Copy)]
-struct Seen {
-    /// How many there are.
-    pages: u32,
-    /// What page 0 says.
-    header: Header,
-    /// The box over all legs.
-    extent: Option<Box3>,
-}
-
-/// What is seen of a store. Of the tree the root alone is read.
-fn look<'a, S: PageStore>(store: &mut S) -> Result<Seen, Fault<'a>> {
-    let header = read_header(store)?;
-    Ok(Seen {
-        pages: store.len(),
-        header,
-        extent: read_extent(store, &header)?,
-    })
-}
-
 /// What a store says of its database without its rows.
 fn summary_of<'a, S: PageStore + Drop>(alloc: Global, store: S) -> Result<Summary, Fault<'a>> {
     let Ok(mut cache) = PageCache::new(alloc, store, CACHE_PAGES as usize) else {
@@ -43,6 +21,14 @@ fn summary_of<'a, S: PageStore + Drop>(alloc: Global, store: S) -> Result<Summar
     match summarize(alloc, &mut cache) {
         Ok(summary) => Ok(summary),
         Err(fault) => Err(Fault::Open(fault)),
+    }
+}
+
+/// Appends a report in a form.
+fn push(text: &mut Vec<u8>, said: &StoreReport<'_>, form: InfoForm) -> Result<(), RunFault> {
+    match form {
+        InfoForm::Json => push_json(text, said),
+        InfoForm::Lines => push_lines(text, said),
     }
 }
 
@@ -63,11 +49,22 @@ fn text_of(
         extent: seen.extent,
     };
     let mut text = Vec::new(alloc);
-    match form {
-        InfoForm::Json => push_json(&mut text, &said)?,
-        InfoForm::Lines => push_lines(&mut text, &said)?,
+    match push(&mut text, &said, form) {
+        Ok(()) => Ok(text),
+        Err(fault) => Err(fault),
     }
-    Ok(text)
+}
+
+/// Prints what a store says of its database, and what was seen of its pages.
+fn print_report<'a, O: Output>(
+    alloc: Global,
+    summary: &Summary,
+    seen: &Seen,
+    form: InfoForm,
+    out: &mut O,
+) -> Result<(), Fault<'a>> {
+    let text = text_of(alloc, summary, seen, form)?;
+    send_all(out, &text)
 }
 
 /// Opens the store to be read alone, and prints what it holds. Why it says nothing of a database comes first.
@@ -79,8 +76,5 @@ pub(crate) fn print_info<'a, R: Files<File = File> + AllocGlobal, O: Output>(
     let mut store = store_to_ask(rt, task.store)?;
     let seen = look(&mut store);
     let summary = summary_of(rt.alloc(), store)?;
-    match text_of(rt.alloc(), &summary, &seen?, task.form) {
-        Ok(text) => send_all(out, &text),
-        Err(fault) => Err(Fault::Run(fault)),
-    }
+    print_report(rt.alloc(), &summary, &seen?, task.form, out)
 }

@@ -1,6 +1,7 @@
 //! `mftb migrate`: a store of version 1 is brought over into a new one.
-use crate::system::names::Names;
+use crate::commands::asking::keys_of;
 use crate::system::opening::{is_absent, open_asked, open_in_place};
+use crate::system::store_names::Names;
 use arguments::Migrate;
 use outputs::Output;
 use pages::{FileStore, PageStore};
@@ -34,6 +35,31 @@ fn bring<'a, S: PageStore + Drop, T: PageStore + Drop>(
     brought
 }
 
+/// Brings a store of version 1 over into the new file of these names.
+fn bring_into<'a, R: Files<File = File> + AllocGlobal, S: PageStore + Drop>(
+    rt: &R,
+    keys: RandomState,
+    old: S,
+    names: &Names,
+) -> Result<(), Fault<'a>> {
+    let new = open_in_place(rt, names)?;
+    bring(rt.alloc(), keys, old, new)
+}
+
+/// Brings a store of version 1 over into the new file of that name.
+fn bring_over<'a, R: Files<File = File> + AllocGlobal, S: PageStore + Drop>(
+    rt: &R,
+    keys: RandomState,
+    old: S,
+    new: &str,
+) -> Result<(), Fault<'a>> {
+    let names = Names::new(rt, new)?;
+    match bring_into(rt, keys, old, &names) {
+        Ok(()) => Ok(()),
+        Err(fault) => Err(names.caused(fault)),
+    }
+}
+
 /// Brings a store of version 1, which is opened to be read alone, over into a new file. Where the old
 /// one is absent or has no bytes, no file is made.
 pub(crate) fn migrate<'a, R: Files<File = File> + AllocGlobal + RandomSource, O: Output>(
@@ -47,14 +73,8 @@ pub(crate) fn migrate<'a, R: Files<File = File> + AllocGlobal + RandomSource, O:
     if is_absent(rt, migrate.old) {
         return Err(Fault::Open(OpenFault::Malformed));
     }
-    let Ok(keys) = RandomState::new(rt) else {
-        return Err(Fault::Run(RunFault::Memory));
-    };
+    let keys = keys_of(rt)?;
     let old = open_asked(rt, &Names::new(rt, migrate.old)?)?;
-    let names = Names::new(rt, migrate.new)?;
-    let new = open_in_place(rt, &names)?;
-    match bring(rt.alloc(), keys, old, new) {
-        Ok(()) => send_all(out, "ok 0\n".as_bytes()),
-        Err(fault) => Err(names.caused(fault)),
-    }
+    bring_over(rt, keys, old, migrate.new)?;
+    send_all(out, "ok 0\n".as_bytes())
 }

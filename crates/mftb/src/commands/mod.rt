@@ -8,7 +8,7 @@ pub(crate) mod migrate;
 pub(crate) mod moments_command;
 pub(crate) mod part;
 pub(crate) mod parts_command;
-pub(crate) mod reading;
 pub(crate) mod rectangles;
 pub(crate) mod run;
+pub(crate) mod run_files;
 pub(crate) mod zones_command;

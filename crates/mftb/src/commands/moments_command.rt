@@ -1,16 +1,15 @@
 //! `mftb moments`: when legs are inside rectangles in a period.
-use crate::commands::asking::{close_asked, database_to_ask, store_to_ask};
+use crate::commands::asking::{close_asked, database_to_ask, frame_of, store_to_ask};
 use crate::commands::bounds::{hold_times, period_of};
 use crate::commands::rectangles::{NamedRect, rects_of};
 use crate::explain::elsewhere::tell_elsewhere;
 use arguments::{Moments, RowKind, ValueMode, Where};
-use mfcsv::Dimension;
-use moments::{Stay, dwells_of, stays, visits_of};
+use moments::{Stay, Visit, dwells_of, stays, visits_of};
 use outputs::Output;
 use pages::PageStore;
 use reasons::Area;
 use reports::{
-    Frame, push_columns, push_dwell_fields, push_dwells, push_fields, push_label, push_stays,
+    push_columns, push_dwell_fields, push_dwells, push_fields, push_label, push_stays,
     push_valued_stays, push_visits,
 };
 use sessions::{Fault, send_all};
@@ -19,27 +18,8 @@ use std::fs::File;
 use std::io::Eprint;
 use std::random::RandomSource;
 use std::rt::Files;
-use timebase::{Ms, Period};
+use timebase::Period;
 use trajdb::{Db, RunFault};
-
-/// How a database's stays are written, behind a label.
-pub(crate) fn frame_of<'l, S: PageStore>(database: &Db<S>, label: &'l [u8]) -> Frame<'l> {
-    match database.head() {
-        Some(head) => Frame {
-            base: head.base,
-            dimension: head.dimension,
-            label,
-        },
-        None => match Ms::new(0) {
-            Some(base) => Frame {
-                base,
-                dimension: Dimension::Two,
-                label,
-            },
-            None => unreachable!(),
-        },
-    }
-}
 
 /// The fields of what begins and what ends a stay or a visit.
 const ENDS: &str = "enters_by,leaves_by,edge_in,edge_out";
@@ -61,30 +41,42 @@ struct Asked {
 #[derive(Drop)]
 struct Told {
     text: Vec<u8>,
-    /// Whether no leg is inside one of the rectangles, and which that are.
+    /// In which rectangles no leg is.
     empty: Vec<usize>,
 }
 
+impl Told {
+    /// Nothing yet.
+    fn new(alloc: Global) -> Told {
+        Told {
+            text: Vec::new(alloc),
+            empty: Vec::new(alloc),
+        }
+    }
+}
+
 impl Asked {
-    /// The text of the line that names the fields.
-    fn heading<S: PageStore>(&self, database: &Db<S>) -> Result<Vec<u8>, RunFault> {
+    /// Appends the line that names the fields.
+    fn push_heading<S: PageStore>(
+        &self,
+        text: &mut Vec<u8>,
+        database: &Db<S>,
+    ) -> Result<(), RunFault> {
         let dimension = frame_of(database, b"").dimension;
-        let mut text = Vec::new(self.alloc);
         let first = if self.is_named {
             "rectangle,feature"
         } else {
             "feature"
         };
         match self.rows {
-            RowKind::Legs(ValueMode::Without) => push_fields(&mut text, first, dimension, ENDS)?,
+            RowKind::Legs(ValueMode::Without) => Ok(push_fields(text, first, dimension, ENDS)?),
             RowKind::Legs(ValueMode::With) => {
-                push_fields(&mut text, first, dimension, ENDS)?;
-                push_columns(self.alloc, &mut text, database)?;
+                push_fields(text, first, dimension, ENDS)?;
+                push_columns(self.alloc, text, database)
             }
-            RowKind::Visits => push_fields(&mut text, first, dimension, VISIT_ENDS)?,
-            RowKind::Dwell => push_dwell_fields(&mut text, first)?,
+            RowKind::Visits => Ok(push_fields(text, first, dimension, VISIT_ENDS)?),
+            RowKind::Dwell => Ok(push_dwell_fields(text, first)?),
         }
-        Ok(text)
     }
 
     /// What stands before each record of a rectangle.
@@ -96,6 +88,34 @@ impl Asked {
         Ok(label)
     }
 
+    /// Appends the records of visits.
+    fn push_visits<S: PageStore>(
+        &self,
+        text: &mut Vec<u8>,
+        database: &Db<S>,
+        label: &[u8],
+        visits: &[Visit],
+    ) -> Result<(), RunFault> {
+        match self.rows {
+            RowKind::Dwell => {
+                push_dwells(
+                    self.alloc,
+                    text,
+                    database,
+                    label,
+                    &dwells_of(self.alloc, visits)?,
+                )
+            }
+            _ => push_visits(
+                self.alloc,
+                text,
+                database,
+                &frame_of(database, label),
+                visits,
+            ),
+        }
+    }
+
     /// Appends the records of stays.
     fn push<S: PageStore>(
         &self,
@@ -104,39 +124,58 @@ impl Asked {
         label: &[u8],
         stays: &[Stay],
     ) -> Result<(), RunFault> {
-        let (alloc, frame) = (self.alloc, frame_of(database, label));
+        let alloc = self.alloc;
         match self.rows {
-            RowKind::Legs(ValueMode::Without) => push_stays(alloc, text, database, &frame, stays),
+            RowKind::Legs(ValueMode::Without) => {
+                push_stays(alloc, text, database, &frame_of(database, label), stays)
+            }
             RowKind::Legs(ValueMode::With) => {
-                push_valued_stays(alloc, text, database, &frame, stays)
+                push_valued_stays(alloc, text, database, &frame_of(database, label), stays)
             }
-            RowKind::Visits => {
-                push_visits(alloc, text, database, &frame, &visits_of(alloc, stays)?)
-            }
-            RowKind::Dwell => {
-                let visits = visits_of(alloc, stays)?;
-                push_dwells(alloc, text, database, label, &dwells_of(alloc, &visits)?)
-            }
+            _ => self.push_visits(text, database, label, &visits_of(alloc, stays)?),
         }
+    }
+
+    /// Appends the records of a rectangle, and says whether there are any stays.
+    fn push_rect<S: PageStore>(
+        &self,
+        text: &mut Vec<u8>,
+        database: &mut Db<S>,
+        asked: &NamedRect,
+    ) -> Result<bool, RunFault> {
+        let stays = stays(database, self.alloc, &asked.rect, &self.period)?;
+        let label = self.label(asked.name.as_str())?;
+        self.push(text, database, &label, &stays)?;
+        Ok(!stays.is_empty())
     }
 
     /// Asks a database of each rectangle, one after another.
     fn ask<S: PageStore>(
         &self,
+        told: &mut Told,
+        database: &mut Db<S>,
+        rects: &[NamedRect],
+    ) -> Result<(), RunFault> {
+        self.push_heading(&mut told.text, database)?;
+        for place in 0..rects.len() {
+            if !self.push_rect(&mut told.text, database, &rects[place])? {
+                told.empty.push(place)?;
+            }
+        }
+        Ok(())
+    }
+
+    /// What a database answers of each rectangle.
+    fn told<S: PageStore>(
+        &self,
         database: &mut Db<S>,
         rects: &[NamedRect],
     ) -> Result<Told, RunFault> {
-        let (mut text, mut empty) = (self.heading(database)?, Vec::new(self.alloc));
-        for place in 0..rects.len() {
-            let asked = &rects[place];
-            let label = self.label(asked.name.as_str())?;
-            let stays = stays(database, self.alloc, &asked.rect, &self.period)?;
-            self.push(&mut text, database, &label, &stays)?;
-            if stays.is_empty() {
-                empty.push(place)?;
-            }
+        let mut told = Told::new(self.alloc);
+        match self.ask(&mut told, database, rects) {
+            Ok(()) => Ok(told),
+            Err(fault) => Err(fault),
         }
-        Ok(Told { text, empty })
     }
 }
 
@@ -149,8 +188,42 @@ fn told_of<'a, R: AllocGlobal + RandomSource, S: PageStore + Drop>(
     rects: &[NamedRect],
 ) -> Result<Told, Fault<'a>> {
     let mut database = database_to_ask(rt, store, cache_pages)?;
-    let answer = asked.ask(&mut database, rects);
+    let answer = asked.told(&mut database, rects);
     close_asked(rt.alloc(), database, answer)
+}
+
+/// Opens the store to be read alone, and asks its database of the rectangles.
+fn answer_of<'a, R: Files<File = File> + AllocGlobal + RandomSource>(
+    rt: &R,
+    task: &Moments<'a>,
+    asked: &Asked,
+    rects: &[NamedRect],
+) -> Result<Told, Fault<'a>> {
+    let store = store_to_ask(rt, task.store)?;
+    told_of(rt, store, task.cache_pages, asked, rects)
+}
+
+/// Prints when legs of the store's database are inside these rectangles in the period.
+fn print_answer<'a, R: Files<File = File> + Eprint + AllocGlobal + RandomSource, O: Output>(
+    rt: &R,
+    task: &Moments<'a>,
+    rects: &[NamedRect],
+    out: &mut O,
+    is_terminal: bool,
+) -> Result<(), Fault<'a>> {
+    let period = period_of(task.times)?;
+    let asked = Asked {
+        alloc: rt.alloc(),
+        period,
+        rows: task.rows,
+        is_named: matches!(task.place, Where::Rects(_)),
+    };
+    let told = answer_of(rt, task, &asked, rects)?;
+    send_all(out, &told.text)?;
+    if task.telling.is_told(is_terminal) {
+        tell_elsewhere(rt, task.store, Area::Rectangle, &period, rects, &told.empty);
+    }
+    Ok(())
 }
 
 /// Opens the store to be read alone, and prints when legs of its database are inside the rectangles in the period.
@@ -161,24 +234,5 @@ pub(crate) fn print_moments<
 >(rt: &R, task: &Moments<'a>, out: &mut O, is_terminal: bool) -> Result<(), Fault<'a>> {
     hold_times(task.times)?;
     let rects = rects_of(rt, &task.place)?;
-    let asked = Asked {
-        alloc: rt.alloc(),
-        period: period_of(task.times)?,
-        rows: task.rows,
-        is_named: matches!(task.place, Where::Rects(_)),
-    };
-    let store = store_to_ask(rt, task.store)?;
-    let told = told_of(rt, store, task.cache_pages, &asked, &rects)?;
-    send_all(out, &told.text)?;
-    if task.telling.is_told(is_terminal) {
-        tell_elsewhere(
-            rt,
-            task.store,
-            Area::Rectangle,
-            &asked.period,
-            &rects,
-            &told.empty,
-        );
-    }
-    Ok(())
+    print_answer(rt, task, &rects, out, is_terminal)
 }

@@ -26,6 +26,17 @@ fn write_file<R: Files<File = File>>(rt: &R, name: &str, bytes: &[u8]) -> io::Re
     file.write_all(bytes)
 }
 
+/// Gives a name, in one step, to a new file of those bytes, which is made beside it.
+fn put_file<R: Files<File = File>>(
+    rt: &R,
+    name: &str,
+    beside: &str,
+    bytes: &[u8],
+) -> io::Result<()> {
+    write_file(rt, beside, bytes)?;
+    fs::rename(rt, beside, name)
+}
+
 /// The name of the file of a part in a folder.
 fn name_of(alloc: Global, folder: &str, part: u64) -> Result<String, AllocError> {
     format!(in alloc; "{folder}/part-{part}.csv")
@@ -41,13 +52,11 @@ impl<'a, R: Files<File = File> + AllocGlobal> PartFolder for SystemParts<'a, R> 
         let name = name_of(alloc, self.folder, part)?;
         let beside = format!(in alloc; "{name}.new")?;
         let (name, beside) = (name.as_str(), beside.as_str());
-        if write_file(self.rt, beside, text).is_err()
-            || fs::rename(self.rt, beside, name).is_err()
-        {
-            let _ = fs::remove_file(self.rt, beside);
-            return self.refusals.count(Err(RunFault::Output));
+        if put_file(self.rt, name, beside, text).is_ok() {
+            return Ok(());
         }
-        Ok(())
+        let _ = fs::remove_file(self.rt, beside);
+        self.refusals.count(Err(RunFault::Output))
     }
 }
 

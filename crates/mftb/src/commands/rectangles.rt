@@ -1,7 +1,7 @@
 //! Rectangles, one of the command line or those of a file.
 use crate::commands::bounds::{hold_words, rect_of};
 use arguments::{Corners, Where};
-use csv::{ByteRecord, ReaderBuilder};
+use csv::{ByteRecord, Reader, ReaderBuilder};
 use legs::Rect;
 use mfcsv::without_marks;
 use sessions::{Fault, MOST_BYTES, RectsFault, read_named};
@@ -103,49 +103,83 @@ impl Rects {
         }
     }
 
-    /// Takes a rectangle of a name in.
-    fn add(&mut self, name: &str, rect: Rect) -> Result<bool, AllocError> {
-        if self.names.contains_key(name) {
-            return Ok(false);
-        }
+    /// Takes a name in.
+    fn add_name(&mut self, name: &str) -> Result<(), AllocError> {
         self.names.insert(String::from_str(self.alloc, name)?, ())?;
-        let name = String::from_str(self.alloc, name)?;
-        self.rects.push(NamedRect { name, rect })?;
-        Ok(true)
+        Ok(())
     }
 
-    /// Takes the record of that number in: the first one names the columns.
+    /// Takes a rectangle of a name in.
+    fn add(&mut self, name: &str, rect: Rect) -> Result<(), AllocError> {
+        self.add_name(name)?;
+        let name = String::from_str(self.alloc, name)?;
+        Ok(self.rects.push(NamedRect { name, rect })?)
+    }
+
+    /// Whether a rectangle has that name.
+    fn has_name(&self, name: &str) -> bool {
+        self.names.contains_key(name)
+    }
+
+    /// Takes the first record in, which names the columns.
+    fn take_columns(&mut self, record: &ByteRecord) -> Result<(), RectsFault> {
+        self.columns = Some(columns_of(record)?);
+        Ok(())
+    }
+
+    /// Takes the record of that number in.
     fn take<'a>(&mut self, number: u64, record: &ByteRecord) -> Result<(), Fault<'a>> {
-        let refused = |why: RectsFault| Fault::Rects(number, why);
         let Some(columns) = self.columns else {
-            self.columns = Some(columns_of(record).map_err(refused)?);
-            return Ok(());
+            return match self.take_columns(record) {
+                Ok(()) => Ok(()),
+                Err(why) => Err(Fault::Rects(number, why)),
+            };
         };
-        let name = name_in(record, &columns).map_err(refused)?;
-        let rect = rect_in(record, &columns).map_err(refused)?;
-        if self.add(name, rect)? {
-            Ok(())
-        } else {
-            Err(refused(RectsFault::Twice))
+        let name = match name_in(record, &columns) {
+            Ok(name) => name,
+            Err(why) => return Err(Fault::Rects(number, why)),
+        };
+        let rect = match rect_in(record, &columns) {
+            Ok(rect) => rect,
+            Err(why) => return Err(Fault::Rects(number, why)),
+        };
+        if self.has_name(name) {
+            return Err(Fault::Rects(number, RectsFault::Twice));
         }
+        Ok(self.add(name, rect)?)
+    }
+
+    /// Takes the records of a reader in, numbered from 1, the one that names the columns included.
+    fn take_each<'a>(
+        &mut self,
+        reader: &mut Reader<&[u8]>,
+        record: &mut ByteRecord,
+    ) -> Result<(), Fault<'a>> {
+        for number in 1..u64::MAX {
+            match reader.read_byte_record(record) {
+                Ok(true) => self.take(number, record)?,
+                Ok(false) => break,
+                Err(_) => return Err(Fault::Run(RunFault::Memory)),
+            }
+        }
+        Ok(())
+    }
+
+    /// Takes the records of a file in.
+    fn take_all<'a>(&mut self, bytes: &[u8]) -> Result<(), Fault<'a>> {
+        let mut reader = ReaderBuilder::new()
+            .has_headers(false)
+            .flexible(true)
+            .from_reader(self.alloc, without_marks(bytes));
+        let mut record = ByteRecord::new(self.alloc);
+        self.take_each(&mut reader, &mut record)
     }
 }
 
-/// The rectangles of a file, in its order. Its records are numbered from 1, the one that names the columns included.
+/// The rectangles of a file, in its order.
 fn rects_in<'a>(alloc: Global, bytes: &[u8]) -> Result<Vec<NamedRect>, Fault<'a>> {
-    let mut reader = ReaderBuilder::new()
-        .has_headers(false)
-        .flexible(true)
-        .from_reader(alloc, without_marks(bytes));
-    let mut record = ByteRecord::new(alloc);
     let mut rects = Rects::new(alloc);
-    for number in 1..u64::MAX {
-        match reader.read_byte_record(&mut record) {
-            Ok(true) => rects.take(number, &record)?,
-            Ok(false) => break,
-            Err(_) => return Err(Fault::Run(RunFault::Memory)),
-        }
-    }
+    rects.take_all(bytes)?;
     match rects.columns {
         Some(_) => Ok(rects.rects),
         None => Err(Fault::Rects(1, RectsFault::NoColumns)),
@@ -160,21 +194,22 @@ fn alone(alloc: Global, rect: Rect) -> Result<Vec<NamedRect>, AllocError> {
     Ok(rects)
 }
 
+/// The rectangle of the words of the command line.
+fn rect_of_words<'a>(corners: &Corners<'_>) -> Result<Rect, Fault<'a>> {
+    hold_words(&[corners.x1, corners.y1, corners.x2, corners.y2])?;
+    match rect_of(corners) {
+        Ok(rect) => Ok(rect),
+        Err(code) => Err(Fault::Bounds(code)),
+    }
+}
+
 /// The rectangles that are asked of.
 pub(crate) fn rects_of<'a, R: rt::Files + AllocGlobal>(
     rt: &R,
     place: &Where<'a>,
 ) -> Result<Vec<NamedRect>, Fault<'a>> {
-    let alloc = rt.alloc();
     match place {
-        Where::Rects(file) => rects_in(alloc, &read_named(rt, *file, MOST_BYTES)?),
-        Where::Rect(corners) => {
-            hold_words(&[corners.x1, corners.y1, corners.x2, corners.y2])?;
-            let rect = match rect_of(corners) {
-                Ok(rect) => rect,
-                Err(code) => return Err(Fault::Bounds(code)),
-            };
-            Ok(alone(alloc, rect)?)
-        }
+        Where::Rects(file) => rects_in(rt.alloc(), &read_named(rt, *file, MOST_BYTES)?),
+        Where::Rect(corners) => Ok(alone(rt.alloc(), rect_of_words(corners)?)?),
     }
 }

@@ -1,16 +1,15 @@
 //! `mftb run`: a script over the database that a file keeps.
 ghost use Rattle.std.specs.Prelude.{◌<◌, ◌≤◌, ◌^◌};
 
-use crate::commands::asking::cached_pages;
-use crate::commands::reading::read_files;
+use crate::commands::asking::{cached_pages, keys_of};
+use crate::commands::run_files::read_files;
 use crate::explain::notes::{Given, tell, tell_made, tell_sources};
-use crate::explain::reach::{Reach, reach_of};
 use crate::outcome::Outcome;
 use crate::system::folder::SystemFolder;
-use crate::system::locks::hold_name;
-use crate::system::names::Names;
+use crate::system::locks::{give_back, hold_name};
 use crate::system::opening::{is_absent, is_special, open_asked, open_in_place, sweep};
-use crate::system::page_zero::{plain_store, read_header};
+use crate::system::store_names::Names;
+use crate::system::stored::{Header, header_of};
 use arguments::{Run, StoreMode, Telling, WriteMode};
 use legs::Limits;
 use monitor::{Followed, Noted, Notes, Progress, Told};
@@ -21,19 +20,20 @@ use sessions::{
     run_on_copy,
 };
 use std::fs::File;
-use std::hash::RandomState;
 use std::io::Eprint;
 use std::random::RandomSource;
 use std::{fs, rt};
 use trajdb::{Files, RunFault, has_load};
 
 /// What a run works on.
-#[derive(Drop)]
-struct Work {
-    script: Vec<u8>,
-    files: Files,
-    names: Names,
+#[derive(Clone, Copy)]
+struct Work<'w> {
+    script: &'w [u8],
+    files: &'w Files,
+    names: &'w Names,
     how: Opening,
+    /// Whether the store has no legs.
+    is_empty: bool,
     ghost cached: { 0 < how.cache_pages },
 }
 
@@ -64,7 +64,7 @@ fn unsaid<'a>(ended: Ended<'a>) -> Option<Fault<'a>> {
 /// Runs the script over a store that was opened, as `sessions::answer` does; or is refused as that was.
 fn run_over<'a, S: PageStore + Drop, R: rt::Clock + Eprint, O: Output>(
     opened: Result<S, Fault<'a>>,
-    work: &Work,
+    work: &Work<'_>,
     progress: &Progress<'_, R>,
     out: &mut O,
 ) -> Ended<'a> {
@@ -74,30 +74,30 @@ fn run_over<'a, S: PageStore + Drop, R: rt::Clock + Eprint, O: Output>(
     };
     let how = &work.how;
     let opened = database(how, Noted::new(store, progress));
-    let (_store, ended) = answer(how.alloc, opened, &work.script, &work.files, out);
+    let (_store, ended) = answer(how.alloc, opened, work.script, work.files, out);
     ended
 }
 
 /// Runs a script that only asks over a store that is there. It is opened to be read alone.
 fn ask<'a, R: rt::Files<File = File> + rt::Clock + Eprint, O: Output>(
     rt: &R,
-    work: &Work,
+    work: &Work<'_>,
     progress: &Progress<'_, R>,
     out: &mut O,
 ) -> Ended<'a> {
-    sweep(rt, &work.names);
-    run_over(open_asked(rt, &work.names), work, progress, out)
+    sweep(rt, work.names);
+    run_over(open_asked(rt, work.names), work, progress, out)
 }
 
 /// Runs a script that may write over the store as it lies there. Where the folder may not be written,
 /// the lock of the store's file alone keeps others out.
 fn run_in_place<'a, R: rt::Files<File = File> + rt::Clock + Eprint, O: Output>(
     rt: &R,
-    work: &Work,
+    work: &Work<'_>,
     progress: &Progress<'_, R>,
     out: &mut O,
 ) -> Ended<'a> {
-    let names = &work.names;
+    let names = work.names;
     let lock = match hold_name(rt, names.lock.as_str()) {
         Err(Fault::InUse) => return refused(Fault::InUse),
         held => held.ok(),
@@ -107,7 +107,7 @@ fn run_in_place<'a, R: rt::Files<File = File> + rt::Clock + Eprint, O: Output>(
         if lock.is_locked {
             let _ = fs::remove_file(rt, names.copy.as_str());
         }
-        let _ = fs::remove_file(rt, names.lock.as_str());
+        give_back(rt, names.lock.as_str());
     }
     ended
 }
@@ -115,15 +115,15 @@ fn run_in_place<'a, R: rt::Files<File = File> + rt::Clock + Eprint, O: Output>(
 /// Runs a script that may write over a copy of the store.
 fn run_beside<'a, R: rt::Files<File = File> + rt::Clock + Eprint, O: Output>(
     rt: &R,
-    work: &Work,
+    work: &Work<'_>,
     progress: &Progress<'_, R>,
     out: &mut O,
 ) -> Ended<'a> {
-    let mut folder = match SystemFolder::take(rt, &work.names, progress) {
+    let mut folder = match SystemFolder::take(rt, work.names, progress) {
         Ok(folder) => folder,
         Err(fault) => return refused(fault),
     };
-    let ended = run_on_copy(&mut folder, &work.how, &work.script, &work.files, out);
+    let ended = run_on_copy(&mut folder, &work.how, work.script, work.files, out);
     folder.give_back();
     ended
 }
@@ -141,27 +141,22 @@ fn outcome_of(is_strict: bool, refused: u64) -> Outcome {
 fn run_as_asked<'a, R: rt::Files<File = File> + rt::Clock + Eprint, O: Output>(
     rt: &R,
     mode: WriteMode,
-    work: &Work,
+    work: &Work<'_>,
     progress: &Progress<'_, R>,
     out: &mut O,
 ) -> Ended<'a> {
     let how = &work.how;
-    let loads = match has_load(how.alloc, &work.script) {
+    let loads = match has_load(how.alloc, work.script) {
         Ok(loads) => loads,
         Err(fault) => return refused(Fault::Run(fault)),
     };
     if !how.is_new && !loads {
         ask(rt, work, progress, out)
-    } else if mode == WriteMode::InPlace || is_special(rt, work.names.store.as_str()) {
+    } else if matches!(mode, WriteMode::InPlace) || is_special(rt, work.names.store.as_str()) {
         run_in_place(rt, work, progress, out)
     } else {
         run_beside(rt, work, progress, out)
     }
-}
-
-/// Whether the store of that name has no legs, where that is to be known.
-fn is_without_legs<R: rt::Files<File = File>>(rt: &R, name: &str, is_told: bool) -> bool {
-    is_told && reach_of(rt, name) == Reach::Nowhere
 }
 
 /// A limit, from 1 to 2^31, as it is read from the words.
@@ -202,71 +197,77 @@ fn asks_for_others(run: &Run<'_>, limits: Limits) -> bool {
         || is_other(run.most_features, u64::from(limits.features()))
 }
 
-/// How much the store of that name may hold, where its page 0 says it.
-fn limits_of<R: rt::Files<File = File>>(rt: &R, name: &str) -> Option<Limits> {
-    let mut store = plain_store(rt, name)?;
-    match read_header(&mut store) {
-        Ok(header) => header.limits,
-        Err(_) => None,
-    }
-}
-
-/// Refuses a store that is there, where a run asks for other limits than it has.
-fn hold_limits<'a, R: rt::Files<File = File>>(
-    rt: &R,
-    run: &Run<'_>,
-    store: &str,
-) -> Result<(), Fault<'a>> {
-    match limits_of(rt, store) {
-        Some(limits) if asks_for_others(run, limits) => {
+/// Refuses a store whose page 0 says so, where a run asks for other limits than it has.
+fn hold_limits<'a>(run: &Run<'_>, header: Option<Header>) -> Result<(), Fault<'a>> {
+    match header {
+        Some(
+            Header {
+                limits: Some(limits),
+                ..
+            },
+        ) if asks_for_others(run, limits) => {
             Err(Fault::OtherLimits(limits.legs(), limits.features()))
         }
         _ => Ok(()),
     }
 }
 
-/// Reads all that is named, and looks whether the store is there.
-fn read_work<'a, R: rt::Files<File = File> + AllocGlobal + RandomSource>(
-    rt: &R,
-    run: &Run<'a>,
-) -> Result<Work, Fault<'a>> {
-    let script = read_named(rt, run.script, MOST_BYTES)?;
-    let files = read_files(rt, &run.files)?;
-    let Ok(keys) = RandomState::new(rt) else {
-        return Err(Fault::Run(RunFault::Memory));
-    };
-    let names = Names::new(rt, run.store)?;
-    let how = Opening {
-        alloc: rt.alloc(),
-        keys,
-        is_new: is_absent(rt, names.store.as_str()),
-        limits: limits(run),
-        cache_pages: cached_pages(run.cache_pages),
-    };
-    if how.is_new && run.store_mode == StoreMode::Existing {
-        return Err(Fault::NoSuchStore);
+/// Whether page 0 of a store says that there is no leg.
+fn has_no_legs(header: Option<Header>) -> bool {
+    match header {
+        Some(header) => header.root == 0,
+        None => false,
     }
-    hold_limits(rt, run, names.store.as_str())?;
-    Ok(Work {
-        script,
-        files,
-        names,
-        how,
-    })
 }
 
-/// Says what a run has done that its answers do not say, and how it ended.
+/// Refuses a store that is not there, where none is to be made.
+fn hold_store<'a>(run: &Run<'_>, is_new: bool) -> Result<(), Fault<'a>> {
+    match run.store_mode {
+        StoreMode::Existing if is_new => Err(Fault::NoSuchStore),
+        _ => Ok(()),
+    }
+}
+
+/// Says why what a run did is not kept, where its own fault does not say so.
+fn tell_unsaid<R: Eprint>(rt: &R, work: &Work<'_>, ended: Ended<'_>) {
+    if let Some(fault) = unsaid(ended) {
+        let fault = work.names.caused(fault);
+        let _ = eprintln!(rt; "mftb: {fault}");
+    }
+}
+
+/// Says that a store was made without a load, and which files are of another form, where it is not said why lines and
+/// files were refused.
+fn tell_hints<R: Eprint + AllocGlobal>(
+    rt: &R,
+    run: &Run<'_>,
+    work: &Work<'_>,
+    is_made: bool,
+    is_hinted: bool,
+) {
+    if matches!(run.telling, Telling::Never) {
+        return;
+    }
+    if is_made {
+        tell_made(rt, run.store);
+    }
+    if is_hinted {
+        tell_sources(rt, &run.files, work.files);
+    }
+}
+
+/// Says what is noted of a run, and how it ended.
 fn told<'a, R: rt::Files<File = File> + Eprint + AllocGlobal + RandomSource>(
     rt: &R,
     run: &Run<'a>,
-    work: &Work,
+    work: &Work<'_>,
     notes: &Notes,
     ended: Result<(), Fault<'a>>,
 ) -> Result<Outcome, Fault<'a>> {
     let given = Given {
         name: run.script,
-        script: &work.script,
-        files: &work.files,
+        script: work.script,
+        files: work.files,
     };
     tell(rt, run.store, &given, notes);
     match ended {
@@ -275,36 +276,70 @@ fn told<'a, R: rt::Files<File = File> + Eprint + AllocGlobal + RandomSource>(
     }
 }
 
-/// Reads all that is named, opens the store, and then runs the script. The output is given back.
+/// Runs the script over the store, and says what its answers do not say.
+fn run_work<
+    'a,
+    R: rt::Files<File = File> + rt::Clock + Eprint + AllocGlobal + RandomSource,
+    O: Output + Drop,
+>(rt: &R, run: &Run<'a>, work: &Work<'_>, out: O, is_terminal: bool) -> Result<Outcome, Fault<'a>> {
+    let is_shown = is_terminal && !matches!(run.telling, Telling::Never);
+    let progress = Progress::new(rt, Told::new(run.progress, is_shown), work.script);
+    let is_told = run.telling.is_told(is_terminal);
+    let notes = Notes::new(work.how.alloc, is_told, work.is_empty);
+    let mut out = Followed::new(out, &progress, notes);
+    let ended = run_as_asked(rt, run.write_mode, work, &progress, &mut out);
+    progress.clear();
+    let (_out, notes) = out.into_parts();
+    tell_unsaid(rt, work, ended);
+    let ended = said(ended);
+    let is_made = ended.is_ok() && work.how.is_new && progress.loads() == 0;
+    tell_hints(rt, run, work, is_made, !is_told && notes.refused() > 0);
+    told(rt, run, work, &notes, ended)
+}
+
+/// Opens the store, and runs a script that was read.
+fn run_script<
+    'a,
+    R: rt::Files<File = File> + rt::Clock + Eprint + AllocGlobal + RandomSource,
+    O: Output + Drop,
+>(
+    rt: &R,
+    run: &Run<'a>,
+    script: &[u8],
+    files: &Files,
+    out: O,
+    is_terminal: bool,
+) -> Result<Outcome, Fault<'a>> {
+    let keys = keys_of(rt)?;
+    let names = Names::new(rt, run.store)?;
+    let is_new = is_absent(rt, names.store.as_str());
+    hold_store(run, is_new)?;
+    let header = header_of(rt, names.store.as_str());
+    hold_limits(run, header)?;
+    let how = Opening {
+        alloc: rt.alloc(),
+        keys,
+        is_new,
+        limits: limits(run),
+        cache_pages: cached_pages(run.cache_pages),
+    };
+    let work = Work {
+        script,
+        files,
+        names: &names,
+        how,
+        is_empty: is_new || has_no_legs(header),
+    };
+    run_work(rt, run, &work, out, is_terminal)
+}
+
+/// Reads all that is named, opens the store, and then runs the script.
 pub(crate) fn run<
     'a,
     R: rt::Files<File = File> + rt::Clock + Eprint + AllocGlobal + RandomSource,
     O: Output + Drop,
->(rt: &R, run: &Run<'a>, out: O, is_terminal: bool) -> (O, Result<Outcome, Fault<'a>>) {
-    let work = match read_work(rt, run) {
-        Ok(work) => work,
-        Err(fault) => return (out, Err(fault)),
-    };
-    let how = &work.how;
-    let is_quiet = run.telling == Telling::Never;
-    let is_shown = is_terminal && !is_quiet;
-    let progress = Progress::new(rt, Told::new(run.progress, is_shown), &work.script);
-    let is_told = run.telling.is_told(is_terminal);
-    let is_empty = how.is_new || is_without_legs(rt, work.names.store.as_str(), is_told);
-    let mut out = Followed::new(out, &progress, Notes::new(how.alloc, is_told, is_empty));
-    let ended = run_as_asked(rt, run.write_mode, &work, &progress, &mut out);
-    progress.clear();
-    if let Some(fault) = unsaid(ended) {
-        let fault = work.names.caused(fault);
-        let _ = eprintln!(rt; "mftb: {fault}");
-    }
-    let ended = said(ended);
-    let (out, notes) = out.into_parts();
-    if !is_quiet && ended.is_ok() && how.is_new && progress.loads() == 0 {
-        tell_made(rt, run.store);
-    }
-    if !is_quiet && !is_told && notes.refused() > 0 {
-        tell_sources(rt, &run.files, &work.files);
-    }
-    (out, told(rt, run, &work, &notes, ended))
+>(rt: &R, run: &Run<'a>, out: O, is_terminal: bool) -> Result<Outcome, Fault<'a>> {
+    let script = read_named(rt, run.script, MOST_BYTES)?;
+    let files = read_files(rt, &run.files)?;
+    run_script(rt, run, &script, &files, out, is_terminal)
 }

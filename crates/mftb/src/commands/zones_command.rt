@@ -1,8 +1,6 @@
 //! `mftb zones`: who is in which zone of a file, from when to when.
-use crate::commands::asking::{close_asked, database_to_ask, store_to_ask};
-use crate::commands::bounds::{hold_times, period_of};
-use crate::commands::gaps::everywhere;
-use crate::commands::moments_command::frame_of;
+use crate::commands::asking::{close_asked, database_to_ask, frame_of, store_to_ask};
+use crate::commands::bounds::{period_of, plane};
 use crate::commands::rectangles::NamedRect;
 use crate::explain::elsewhere::tell_elsewhere;
 use crate::explain::misplaced::tell_form;
@@ -27,7 +25,7 @@ use std::rt::Files;
 use timebase::Period;
 use trajdb::{Db, RunFault};
 use zone_files::{Shape, Zone, ZoneFault, ZoneFile, read_zones};
-use zoning::{Courses, Site, Stay, Tallies, dwells_of, features_of, visits_of};
+use zoning::{Courses, Site, Stay, Tallies, Visit, dwells_of, features_of, visits_of};
 
 /// The first fields of each record.
 const FIRST: &str = "zone,feature";
@@ -55,33 +53,35 @@ struct Asked {
 }
 
 impl Asked {
-    /// The text of the line that names the fields.
-    fn heading<S: PageStore>(&self, database: &Db<S>) -> Result<Vec<u8>, RunFault> {
+    /// Appends the line that names the fields.
+    fn push_heading<S: PageStore>(
+        &self,
+        text: &mut Vec<u8>,
+        database: &Db<S>,
+    ) -> Result<(), RunFault> {
         let dimension = frame_of(database, b"").dimension;
-        let mut text = Vec::new(self.alloc);
         match self.rows {
-            ZoneRowKind::Visits => push_fields(&mut text, FIRST, dimension, VISIT_ENDS)?,
+            ZoneRowKind::Visits => Ok(push_fields(text, FIRST, dimension, VISIT_ENDS)?),
             ZoneRowKind::Legs(ValueMode::Without) => {
-                push_fields(&mut text, FIRST, dimension, ENDS)?;
+                Ok(push_fields(text, FIRST, dimension, ENDS)?)
             }
             ZoneRowKind::Legs(ValueMode::With) => {
-                push_fields(&mut text, FIRST, dimension, ENDS)?;
-                push_columns(self.alloc, &mut text, database)?;
+                push_fields(text, FIRST, dimension, ENDS)?;
+                push_columns(self.alloc, text, database)
             }
-            ZoneRowKind::Dwell => push_dwell_fields(&mut text, FIRST)?,
+            ZoneRowKind::Dwell => Ok(push_dwell_fields(text, FIRST)?),
             ZoneRowKind::Features(_) => {
                 text.extend_from_slice(FIRST.as_bytes())?;
-                text.push(b'\n')?;
+                Ok(text.push(b'\n')?)
             }
         }
-        Ok(text)
     }
 
     /// The legs that have a moment in the period, where the stays in a zone are not enough for an answer.
     fn legs<S: PageStore>(&self, database: &mut Db<S>) -> Result<Vec<Leg>, RunFault> {
         match self.rows {
             ZoneRowKind::Features(predicate) if predicate != Predicate::Ever => {
-                let Some((plane, _)) = everywhere() else {
+                let Some(plane) = plane() else {
                     return Err(RunFault::Failed);
                 };
                 database.legs(self.alloc, Predicate::Ever, &plane, &self.period)
@@ -98,20 +98,36 @@ impl Asked {
         }
     }
 
+    /// The features of legs in the period, with their legs, where the answer needs them.
+    fn tallies<S: PageStore>(&self, database: &mut Db<S>) -> Result<Tallies, RunFault> {
+        let legs = self.legs(database)?;
+        Ok(Tallies::of(self.alloc, &legs)?)
+    }
+
+    /// Appends the stays of a leg in a zone.
+    fn add_stays(&self, stays: &mut Vec<Stay>, site: &Site, leg: &Leg) -> Result<(), AllocError> {
+        let more = site.stays_of(self.alloc, leg, &self.period)?;
+        stays.extend_from_slice(more.as_slice())
+    }
+
     /// The stays of legs in a zone.
     fn stays(&self, site: &Site, legs: &[Leg]) -> Result<Vec<Stay>, AllocError> {
         let mut stays = Vec::new(self.alloc);
         for leg in legs {
-            for stay in &site.stays_of(self.alloc, leg, &self.period)? {
-                stays.push(*stay)?;
-            }
+            self.add_stays(&mut stays, site, leg)?;
         }
         Ok(stays)
+    }
+
+    /// The name of a zone, as it stands before each record.
+    fn label(&self, name: &str) -> Result<Vec<u8>, RunFault> {
+        let mut label = Vec::new(self.alloc);
+        push_label(self.alloc, &mut label, name)?;
+        Ok(label)
     }
 }
 
 /// What a database answers, zone by zone.
-#[derive(Drop)]
 struct Told {
     asked: Asked,
     /// Of each feature its legs in the period, where the answer needs them.
@@ -122,17 +138,47 @@ struct Told {
     empty: Vec<usize>,
 }
 
-impl Told {
-    /// The line of names, and no zone yet.
-    fn new<S: PageStore>(database: &mut Db<S>, asked: Asked) -> Result<Told, RunFault> {
-        let legs = asked.legs(database)?;
-        Ok(Told {
+// In one place, and not at each end of what owns it.
+impl Drop for Told {
+    fn drop(self) {
+        let Told {
             asked,
-            tallies: Tallies::of(asked.alloc, &legs)?,
-            text: asked.heading(database)?,
-            boxes: Vec::new(asked.alloc),
-            empty: Vec::new(asked.alloc),
-        })
+            tallies,
+            text,
+            boxes,
+            empty,
+        } = self;
+    }
+}
+
+impl Told {
+    /// No zone yet.
+    fn new(asked: Asked, tallies: Tallies) -> Told {
+        let alloc = asked.alloc;
+        Told {
+            asked,
+            tallies,
+            text: Vec::new(alloc),
+            boxes: Vec::new(alloc),
+            empty: Vec::new(alloc),
+        }
+    }
+
+    /// Appends the records of visits in a zone.
+    fn push_visits<S: PageStore>(
+        &mut self,
+        database: &Db<S>,
+        zone: &ZoneFrame<'_>,
+        visits: &[Visit],
+    ) -> Result<(), RunFault> {
+        let (alloc, text) = (self.asked.alloc, &mut self.text);
+        match self.asked.rows {
+            ZoneRowKind::Dwell => {
+                let label = zone.frame.label;
+                push_zone_dwells(alloc, text, database, label, &dwells_of(alloc, visits)?)
+            }
+            _ => push_zone_visits(alloc, text, database, zone, visits),
+        }
     }
 
     /// Appends the records of stays in a zone.
@@ -142,20 +188,15 @@ impl Told {
         zone: &ZoneFrame<'_>,
         stays: &[Stay],
     ) -> Result<(), RunFault> {
-        let (alloc, label) = (self.asked.alloc, zone.frame.label);
-        let text = &mut self.text;
+        let alloc = self.asked.alloc;
         match self.asked.rows {
             ZoneRowKind::Legs(ValueMode::Without) => {
-                push_zone_stays(alloc, text, database, zone, stays)
+                push_zone_stays(alloc, &mut self.text, database, zone, stays)
             }
             ZoneRowKind::Legs(ValueMode::With) => {
-                push_valued_zone_stays(alloc, text, database, zone, stays)
+                push_valued_zone_stays(alloc, &mut self.text, database, zone, stays)
             }
-            ZoneRowKind::Dwell => {
-                let visits = visits_of(alloc, stays)?;
-                push_zone_dwells(alloc, text, database, label, &dwells_of(alloc, &visits)?)
-            }
-            _ => push_zone_visits(alloc, text, database, zone, &visits_of(alloc, stays)?),
+            _ => self.push_visits(database, zone, &visits_of(alloc, stays)?),
         }
     }
 
@@ -175,6 +216,19 @@ impl Told {
         }
     }
 
+    /// Appends the features of which a predicate holds with a zone.
+    fn push_features<S: PageStore>(
+        &mut self,
+        database: &Db<S>,
+        label: &[u8],
+        predicate: Predicate,
+        near: &[Leg],
+        courses: &Courses,
+    ) -> Result<(), RunFault> {
+        let features = self.holding(predicate, near, courses)?;
+        push_zone_features(self.asked.alloc, &mut self.text, database, label, &features)
+    }
+
     /// Appends the records of a zone, and says whether a leg is in it.
     fn push_all<S: PageStore>(
         &mut self,
@@ -183,56 +237,77 @@ impl Told {
         site: &Site,
         near: &[Leg],
     ) -> Result<bool, RunFault> {
-        let Asked {
-            alloc,
-            period,
-            rows,
-        } = self.asked;
-        match rows {
+        let asked = self.asked;
+        match asked.rows {
             ZoneRowKind::Features(predicate) => {
-                let courses = Courses::of(alloc, site, near, &period)?;
-                let features = self.holding(predicate, near, &courses)?;
-                let label = zone.frame.label;
-                push_zone_features(alloc, &mut self.text, database, label, &features)?;
+                let courses = Courses::of(asked.alloc, site, near, &asked.period)?;
+                self.push_features(database, zone.frame.label, predicate, near, &courses)?;
                 Ok(courses.is_ever())
             }
             _ => {
-                let stays = self.asked.stays(site, near)?;
+                let stays = asked.stays(site, near)?;
                 self.push(database, zone, &stays)?;
                 Ok(!stays.is_empty())
             }
         }
     }
 
+    /// Appends the records of a zone of that name, and says whether a leg is in it.
+    fn push_site<S: PageStore>(
+        &mut self,
+        database: &mut Db<S>,
+        name: &str,
+        site: &Site,
+    ) -> Result<bool, RunFault> {
+        let near = self.asked.near(database, site)?;
+        let label = self.asked.label(name)?;
+        let zone = ZoneFrame {
+            frame: frame_of(database, &label),
+            is_gate: site.is_gate(),
+        };
+        self.push_all(database, &zone, site, &near)
+    }
+
+    /// Keeps the least box of a zone, and notes whether no leg is in it.
+    fn keep(&mut self, zone: NamedRect, is_entered: bool) -> Result<(), AllocError> {
+        if !is_entered {
+            self.empty.push(self.boxes.len())?;
+        }
+        Ok(self.boxes.push(zone)?)
+    }
+
     /// Appends the records of a zone.
     fn add<S: PageStore>(&mut self, database: &mut Db<S>, zone: Zone) -> Result<(), RunFault> {
         let Zone { name, shape } = zone;
         let site = site_of(self.asked.alloc, shape)?;
-        let near = self.asked.near(database, &site)?;
-        let mut label = Vec::new(self.asked.alloc);
-        push_label(self.asked.alloc, &mut label, name.as_str())?;
-        let frame = ZoneFrame {
-            frame: frame_of(database, &label),
-            is_gate: site.is_gate(),
-        };
-        let is_entered = self.push_all(database, &frame, &site, &near)?;
-        if let Some(rect) = site.bounds() {
-            if !is_entered {
-                self.empty.push(self.boxes.len())?;
-            }
-            self.boxes.push(NamedRect { name, rect })?;
+        let is_entered = self.push_site(database, name.as_str(), &site)?;
+        match site.bounds() {
+            Some(rect) => Ok(self.keep(NamedRect { name, rect }, is_entered)?),
+            None => Ok(()),
+        }
+    }
+
+    /// Asks a database of each zone of a file, one after another.
+    fn add_all<S: PageStore>(
+        &mut self,
+        database: &mut Db<S>,
+        file: ZoneFile,
+    ) -> Result<(), RunFault> {
+        self.asked.push_heading(&mut self.text, database)?;
+        for zone in file.zones {
+            self.add(database, zone)?;
         }
         Ok(())
     }
 }
 
-/// Asks a database of each zone of a file, one after another.
+/// What a database answers of each zone of a file.
 fn ask<S: PageStore>(database: &mut Db<S>, asked: Asked, file: ZoneFile) -> Result<Told, RunFault> {
-    let mut told = Told::new(database, asked)?;
-    for zone in file.zones {
-        told.add(database, zone)?;
+    let mut told = Told::new(asked, asked.tallies(database)?);
+    match told.add_all(database, file) {
+        Ok(()) => Ok(told),
+        Err(fault) => Err(fault),
     }
-    Ok(told)
 }
 
 /// What the database of a store answers.
@@ -248,34 +323,71 @@ fn told_of<'a, R: AllocGlobal + RandomSource, S: PageStore + Drop>(
     close_asked(rt.alloc(), database, answer)
 }
 
-/// Opens the store to be read alone, and prints who is in which of the zones.
+/// Opens the store to be read alone, and asks its database of the zones of a file.
+fn answer_of<'a, R: Files<File = File> + AllocGlobal + RandomSource>(
+    rt: &R,
+    task: &Zones<'a>,
+    asked: Asked,
+    file: ZoneFile,
+) -> Result<Told, Fault<'a>> {
+    let store = store_to_ask(rt, task.store)?;
+    told_of(rt, store, task.cache_pages, asked, file)
+}
+
+/// Prints who is in which of the zones.
 fn print_answer<'a, R: Files<File = File> + Eprint + AllocGlobal + RandomSource, O: Output>(
     rt: &R,
     task: &Zones<'a>,
-    period: Period,
+    asked: Asked,
     file: ZoneFile,
     out: &mut O,
     is_terminal: bool,
-) -> Result<(), Fault<'a>> {
-    let asked = Asked {
-        alloc: rt.alloc(),
-        period,
-        rows: task.rows,
-    };
-    let store = store_to_ask(rt, task.store)?;
-    let told = told_of(rt, store, task.cache_pages, asked, file)?;
+) -> Result<Outcome, Fault<'a>> {
+    let told = answer_of(rt, task, asked, file)?;
     send_all(out, &told.text)?;
     if task.telling.is_told(is_terminal) {
         tell_elsewhere(
             rt,
             task.store,
             Area::Zone,
-            &period,
+            &asked.period,
             &told.boxes,
             &told.empty,
         );
     }
-    Ok(())
+    Ok(Outcome::Done)
+}
+
+/// Says why a zone file is refused, and what it plainly is.
+fn tell_refused<R: Files<File = File> + Eprint + AllocGlobal>(
+    rt: &R,
+    task: &Zones<'_>,
+    refused: &ZoneFault,
+    bytes: &[u8],
+) {
+    let _ = eprintln!(rt; "mftb: {refused}");
+    if !matches!(task.telling, Telling::Never) {
+        tell_form(rt, task, bytes);
+    }
+}
+
+/// Prints who is in which of the zones of a file of those bytes, unless it is refused.
+fn print_of<'a, R: Files<File = File> + Eprint + AllocGlobal + RandomSource, O: Output>(
+    rt: &R,
+    task: &Zones<'a>,
+    asked: Asked,
+    bytes: &[u8],
+    out: &mut O,
+    is_terminal: bool,
+) -> Result<Outcome, Fault<'a>> {
+    match read_zones(rt.alloc(), bytes) {
+        Ok(file) => print_answer(rt, task, asked, file, out, is_terminal),
+        Err(ZoneFault::Memory) => Err(Fault::Run(RunFault::Memory)),
+        Err(refused) => {
+            tell_refused(rt, task, &refused, bytes);
+            Ok(Outcome::ZonesRefused)
+        }
+    }
 }
 
 /// Reads the zone file, opens the store to be read alone, and prints who is in which zone in the period. A zone file
@@ -285,21 +397,11 @@ pub(crate) fn print_zones<
     R: Files<File = File> + Eprint + AllocGlobal + RandomSource,
     O: Output,
 >(rt: &R, task: &Zones<'a>, out: &mut O, is_terminal: bool) -> Result<Outcome, Fault<'a>> {
-    hold_times(task.times)?;
-    let period = period_of(task.times)?;
+    let asked = Asked {
+        alloc: rt.alloc(),
+        period: period_of(task.times)?,
+        rows: task.rows,
+    };
     let bytes = read_named(rt, task.zones, MOST_BYTES)?;
-    match read_zones(rt.alloc(), without_marks(&bytes)) {
-        Ok(file) => {
-            print_answer(rt, task, period, file, out, is_terminal)?;
-            Ok(Outcome::Done)
-        }
-        Err(ZoneFault::Memory) => Err(Fault::Run(RunFault::Memory)),
-        Err(refused) => {
-            let _ = eprintln!(rt; "mftb: {refused}");
-            if task.telling != Telling::Never {
-                tell_form(rt, task, without_marks(&bytes));
-            }
-            Ok(Outcome::ZonesRefused)
-        }
-    }
+    print_of(rt, task, asked, without_marks(&bytes), out, is_terminal)
 }

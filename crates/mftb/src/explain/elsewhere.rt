@@ -1,6 +1,6 @@
 //! What is said of rectangles and zones in which no leg is.
 use crate::commands::rectangles::NamedRect;
-use crate::explain::reach::{Reach, reach_of};
+use crate::system::stored::look_at;
 use legs::Box3;
 use reasons::{Area, Shown, reach_words};
 use std::fs::File;
@@ -27,6 +27,22 @@ fn tell_area<R: Eprint + AllocGlobal>(
     }
 }
 
+/// Says of the areas at these places why no leg is inside.
+fn tell_areas<R: Eprint + AllocGlobal>(
+    rt: &R,
+    area: Area,
+    period: &Period,
+    rects: &[NamedRect],
+    places: &[usize],
+    reach: &Box3,
+) {
+    for place in places {
+        if let Some(asked) = rects.get(*place) {
+            tell_area(rt, area, period, asked, reach);
+        }
+    }
+}
+
 /// Says why no leg is inside those of the rectangles, or of the zones with these least boxes, in a period, where the
 /// store has none there.
 pub(crate) fn tell_elsewhere<R: rt::Files<File = File> + Eprint + AllocGlobal>(
@@ -40,17 +56,12 @@ pub(crate) fn tell_elsewhere<R: rt::Files<File = File> + Eprint + AllocGlobal>(
     if empty.is_empty() {
         return;
     }
-    match reach_of(rt, store) {
-        Reach::Nowhere => {
-            let _ = eprintln!(rt; "mftb: the store has no legs");
-        }
-        Reach::Within(reach) => {
-            for place in empty {
-                if let Some(asked) = rects.get(*place) {
-                    tell_area(rt, area, period, asked, &reach);
-                }
-            }
-        }
-        Reach::Unknown => {}
+    let Some(seen) = look_at(rt, store) else {
+        return;
+    };
+    if seen.header.root == 0 {
+        let _ = eprintln!(rt; "mftb: the store has no legs");
+    } else if let Some(reach) = seen.extent {
+        tell_areas(rt, area, period, rects, empty, &reach);
     }
 }

@@ -11,19 +11,30 @@ use std::io::Eprint;
 use std::{fs, rt};
 use trajdb::OpenFault;
 
-/// The store that the program is to work on, and when it is said why it could not. Where a store is brought
-/// over, it is the new one.
-fn store_of<'a>(task: &Task<'a>) -> (&'a str, Telling) {
+/// The store that the program is to work on. Where a store is brought over, it is the new one.
+fn store_of<'a>(task: &Task<'a>) -> &'a str {
     match task {
-        Task::Run(run) => (run.store, run.telling),
-        Task::Check(check) => (check.store, check.telling),
-        Task::Migrate(migrate) => (migrate.new, Telling::OnTerminal),
-        Task::Part(part) => (part.file, Telling::OnTerminal),
-        Task::Parts(parts) => (parts.file, Telling::OnTerminal),
-        Task::Moments(moments) => (moments.store, moments.telling),
-        Task::Zones(zones) => (zones.store, zones.telling),
-        Task::Gaps(gaps) => (gaps.store, gaps.telling),
-        Task::Info(info) => (info.store, Telling::OnTerminal),
+        Task::Run(run) => run.store,
+        Task::Check(check) => check.store,
+        Task::Migrate(migrate) => migrate.new,
+        Task::Part(part) => part.file,
+        Task::Parts(parts) => parts.file,
+        Task::Moments(moments) => moments.store,
+        Task::Zones(zones) => zones.store,
+        Task::Gaps(gaps) => gaps.store,
+        Task::Info(info) => info.store,
+    }
+}
+
+/// When it is said why the program could not do what it is to do.
+fn telling_of(task: &Task<'_>) -> Telling {
+    match task {
+        Task::Run(run) => run.telling,
+        Task::Check(check) => check.telling,
+        Task::Moments(moments) => moments.telling,
+        Task::Zones(zones) => zones.telling,
+        Task::Gaps(gaps) => gaps.telling,
+        _ => Telling::OnTerminal,
     }
 }
 
@@ -31,7 +42,7 @@ fn store_of<'a>(task: &Task<'a>) -> (&'a str, Telling) {
 fn failed_store<'a, R: rt::Files<File = File>>(rt: &R, task: &Task<'a>) -> &'a str {
     match task {
         Task::Migrate(migrate) if File::open(rt, migrate.old).is_err() => migrate.old,
-        _ => store_of(task).0,
+        _ => store_of(task),
     }
 }
 
@@ -86,39 +97,77 @@ fn line_of(alloc: Global, corners: Corners<'_>, times: [&str; 2]) -> Result<Stri
     format!(in alloc; "box {x1} {y1} {x2} {y2} {t1} {t2}")
 }
 
+/// Why a time of that name is no word; `None` where it is one.
+fn blank_word(alloc: Global, name: &str, text: &str) -> Option<String> {
+    if is_word(text) {
+        return None;
+    }
+    let (text, why) = (Shown(text), "is no instant: it is empty, or has a blank");
+    format!(in alloc; "{name} '{text}' {why}").ok()
+}
+
 /// Which of two times is no word, and why.
 fn blank_words(alloc: Global, times: [&str; 2]) -> Option<String> {
     let [t1, t2] = times;
-    for (name, text) in [("T1", t1), ("T2", t2)] {
-        if !is_word(text) {
-            let (text, why) = (Shown(text), "is no instant: it is empty, or has a blank");
-            return format!(in alloc; "{name} '{text}' {why}").ok();
-        }
+    match blank_word(alloc, "T1", t1) {
+        Some(words) => Some(words),
+        None => blank_word(alloc, "T2", t2),
     }
-    None
 }
 
-/// Which word of a rectangle and a period is refused, and why.
-fn bounds_words(alloc: Global, task: &Task<'_>, code: LineCode) -> Option<String> {
-    let (corners, times) = match task {
-        Task::Moments(task) => match task.place {
-            Where::Rect(corners) => (corners, task.times),
-            Where::Rects(_) => (ORIGIN, task.times),
-        },
-        Task::Zones(task) => (ORIGIN, task.times),
-        Task::Gaps(task) => (ORIGIN, task.times),
-        _ => return None,
-    };
-    if code == LineCode::Q3 {
-        // That is said of the line of a script.
+/// Which of these words is refused, and why. That there are too few words is said of the line of a script alone.
+fn words_of(
+    alloc: Global,
+    corners: Corners<'_>,
+    times: [&str; 2],
+    code: LineCode,
+) -> Option<String> {
+    if matches!(code, LineCode::Q3) {
         return None;
     }
     if let Some(words) = blank_words(alloc, times) {
         return Some(words);
     }
-    let line = line_of(alloc, corners, times).ok()?;
     let code = Code::read(code.as_str())?;
+    let line = line_of(alloc, corners, times).ok()?;
     line_words(alloc, line.as_bytes(), code).ok()
+}
+
+/// The corners that are words of the command line.
+fn corners_of<'a>(place: Where<'a>) -> Corners<'a> {
+    match place {
+        Where::Rect(corners) => corners,
+        Where::Rects(_) => ORIGIN,
+    }
+}
+
+/// Which word of a rectangle and a period is refused, and why.
+fn bounds_words(alloc: Global, task: &Task<'_>, code: LineCode) -> Option<String> {
+    match task {
+        Task::Moments(task) => words_of(alloc, corners_of(task.place), task.times, code),
+        Task::Zones(task) => words_of(alloc, ORIGIN, task.times, code),
+        Task::Gaps(task) => words_of(alloc, ORIGIN, task.times, code),
+        _ => None,
+    }
+}
+
+/// Says which word of a rectangle and a period is refused, and why.
+fn tell_bounds<R: Eprint + AllocGlobal>(rt: &R, task: &Task<'_>, code: LineCode) {
+    if let Some(words) = bounds_words(rt.alloc(), task, code) {
+        let words = words.as_str();
+        let _ = eprintln!(rt; "mftb: {words}");
+    }
+    if let Task::Zones(task) = task {
+        tell_instants(rt, task);
+    }
+}
+
+/// Says why a store was not opened, beyond what the fault's line says.
+fn tell_opening<R: Eprint>(rt: &R, store: &str, fault: &Fault) {
+    if let Some(words) = opening_words(fault) {
+        let name = Shown(store);
+        let _ = eprintln!(rt; "mftb: {name}: {words}");
+    }
 }
 
 /// Says why a fault is so, where that is known.
@@ -133,15 +182,7 @@ fn tell_cause<R: rt::Files<File = File> + Eprint + AllocGlobal>(
             let name = Shown(name);
             let _ = eprintln!(rt; "mftb: {name}: {cause}");
         }
-        Fault::Bounds(code) => {
-            if let Some(words) = bounds_words(rt.alloc(), task, *code) {
-                let words = words.as_str();
-                let _ = eprintln!(rt; "mftb: {words}");
-            }
-            if let Task::Zones(task) = task {
-                tell_instants(rt, task);
-            }
-        }
+        Fault::Bounds(code) => tell_bounds(rt, task, *code),
         fault if fault.is_of_store() => {
             let cause = match fault {
                 Fault::NoStore(cause) => *cause,
@@ -150,12 +191,7 @@ fn tell_cause<R: rt::Files<File = File> + Eprint + AllocGlobal>(
             let (name, cause) = (Shown(store), cause_of_store(rt, store, cause));
             let _ = eprintln!(rt; "mftb: {name}: {cause}");
         }
-        fault => {
-            if let Some(words) = opening_words(fault) {
-                let name = Shown(store);
-                let _ = eprintln!(rt; "mftb: {name}: {words}");
-            }
-        }
+        fault => tell_opening(rt, store, fault),
     }
 }
 
@@ -170,10 +206,9 @@ pub(crate) struct Before {
 impl Before {
     /// What is known of what the program is to do.
     pub(crate) fn new<R: rt::Files<File = File>>(rt: &R, task: &Task, is_terminal: bool) -> Before {
-        let (store, telling) = store_of(task);
         Before {
-            is_told: telling.is_told(is_terminal),
-            is_absent: matches!(task, Task::Check(_)) && is_missing(rt, store),
+            is_told: telling_of(task).is_told(is_terminal),
+            is_absent: matches!(task, Task::Check(_)) && is_missing(rt, store_of(task)),
         }
     }
 

@@ -1,7 +1,5 @@
 //! What is said in words on standard error.
-pub(crate) mod catalogued;
 pub(crate) mod elsewhere;
 pub(crate) mod faults;
 pub(crate) mod misplaced;
 pub(crate) mod notes;
-pub(crate) mod reach;

@@ -1,10 +1,9 @@
 //! What is said of the lines of a run.
-use crate::explain::catalogued::catalogue_of;
-use crate::explain::reach::{Reach, reach_of};
+use crate::system::stored::{catalogue_of, look_at};
 use catalogue::Catalogue;
 use legs::Box3;
 use monitor::{LineSpan, Note, Notes, What};
-use querylang::{Command, parse_line};
+use querylang::{Command, Name, parse_line};
 use reasons::{
     Area, Code, Known, Refusal, Shown, file_words, line_words, reach_words, source_words,
 };
@@ -16,10 +15,10 @@ use std::rt;
 use trajdb::Files;
 
 /// The name in a command.
-fn name_in(command: &Command) -> &str {
+fn name_in(command: Command) -> Option<Name> {
     match command {
-        Command::Load(name) | Command::Trajectory(name) => name.as_str(),
-        _ => "",
+        Command::Load(name) | Command::Trajectory(name) => Some(name),
+        _ => None,
     }
 }
 
@@ -45,8 +44,8 @@ pub(crate) struct Given<'a> {
 /// What is known of the store of a run when it has ended.
 #[derive(Drop)]
 struct Ground {
-    /// How far its legs reach.
-    reach: Reach,
+    /// The box over its legs, where that is known.
+    reach: Option<Box3>,
     /// What it keeps beside its legs, where it is to be known.
     catalogue: Option<Catalogue>,
 }
@@ -58,10 +57,9 @@ impl Ground {
         store: &str,
         notes: &[Note],
     ) -> Ground {
-        let is_joined = notes.iter().any(|note| is_of_joining(note.what));
         Ground {
             reach: reach_of(rt, store),
-            catalogue: if is_joined {
+            catalogue: if has_joining(notes) {
                 catalogue_of(rt, store)
             } else {
                 None
@@ -88,6 +86,11 @@ impl Ground {
     }
 }
 
+/// The box over the legs of the store of that name, where that is known.
+fn reach_of<R: rt::Files<File = File>>(rt: &R, store: &str) -> Option<Box3> {
+    look_at(rt, store)?.extent
+}
+
 /// Whether a note is of a file that was refused for what the store has.
 fn is_of_joining(what: What) -> bool {
     match what {
@@ -99,11 +102,60 @@ fn is_of_joining(what: What) -> bool {
     }
 }
 
+/// Whether one of the notes is so.
+fn has_joining(notes: &[Note]) -> bool {
+    for note in notes {
+        if is_of_joining(note.what) {
+            return true;
+        }
+    }
+    false
+}
+
 impl Given<'_> {
+    /// The command of a line of the script; `None` where it is refused.
+    fn command_at(&self, alloc: Global, place: LineSpan) -> Option<Command> {
+        match parse_line(alloc, place.text_in(self.script)) {
+            Ok(command) => command,
+            Err(_) => None,
+        }
+    }
+
+    /// The name in a line of the script.
+    fn name_at(&self, alloc: Global, place: LineSpan) -> Option<Name> {
+        name_in(self.command_at(alloc, place)?)
+    }
+
     /// What is said of a line of the script.
     fn at_line(&self, alloc: Global, place: LineSpan, words: &str) -> Result<String, AllocError> {
         let (script, line) = (Shown(self.name), place.line);
         format!(in alloc; "{script} line {line}: {words}")
+    }
+
+    /// What is said of a line that was refused.
+    fn line_refusal(
+        &self,
+        alloc: Global,
+        place: LineSpan,
+        code: Code,
+    ) -> Result<String, AllocError> {
+        let words = line_words(alloc, place.text_in(self.script), code)?;
+        self.at_line(alloc, place, words.as_str())
+    }
+
+    /// What is said of a line of that name that was refused, or of the file that it loads.
+    fn named_refusal(
+        &self,
+        alloc: Global,
+        place: LineSpan,
+        name: &str,
+        refusal: Refusal,
+        ground: &Ground,
+    ) -> Result<String, AllocError> {
+        match self.files.get(name) {
+            Some(bytes) => file_words(alloc, name, bytes, refusal, &ground.known()),
+            None => self.line_refusal(alloc, place, refusal.code),
+        }
     }
 
     /// What is said of a line that was refused, or of the file that it loads.
@@ -114,27 +166,30 @@ impl Given<'_> {
         refusal: Refusal,
         ground: &Ground,
     ) -> Result<String, AllocError> {
-        let text = place.text_in(self.script);
-        if let Ok(Some(command)) = parse_line(alloc, text) {
-            let name = name_in(&command);
-            if let Some(bytes) = self.files.get(name) {
-                return file_words(alloc, name, bytes, refusal, &ground.known());
-            }
+        match self.name_at(alloc, place) {
+            Some(name) => self.named_refusal(alloc, place, name.as_str(), refusal, ground),
+            None => self.line_refusal(alloc, place, refusal.code),
         }
-        let words = line_words(alloc, text, refusal.code)?;
+    }
+
+    /// What is said of a feature of that name, which the store does not have.
+    fn missing_words(
+        &self,
+        alloc: Global,
+        place: LineSpan,
+        name: &str,
+    ) -> Result<String, AllocError> {
+        let name = Shown(name);
+        let words = format!(in alloc; "the store has no feature '{name}'")?;
         self.at_line(alloc, place, words.as_str())
     }
 
     /// What is said of a feature that the store does not have.
     fn feature_words(&self, alloc: Global, place: LineSpan) -> Result<String, AllocError> {
-        let words = match parse_line(alloc, place.text_in(self.script)) {
-            Ok(Some(command)) => {
-                let name = Shown(name_in(&command));
-                format!(in alloc; "the store has no feature '{name}'")?
-            }
-            _ => String::from_str(alloc, "the store has no feature of that name")?,
-        };
-        self.at_line(alloc, place, words.as_str())
+        match self.name_at(alloc, place) {
+            Some(name) => self.missing_words(alloc, place, name.as_str()),
+            None => self.at_line(alloc, place, "the store has no feature of that name"),
+        }
     }
 
     /// What is said of a question, if it is asked of where the store has no legs.
@@ -144,19 +199,21 @@ impl Given<'_> {
         place: LineSpan,
         ground: &Ground,
     ) -> Result<Option<String>, AllocError> {
-        let Reach::Within(reach) = &ground.reach else {
+        let Some(reach) = ground.reach else {
             return Ok(None);
         };
-        let Ok(Some(command)) = parse_line(alloc, place.text_in(self.script)) else {
+        let Some(asked) = self.box_at(alloc, place) else {
             return Ok(None);
         };
-        let Some(asked) = box_in(&command) else {
-            return Ok(None);
-        };
-        match reach_words(alloc, Area::Rectangle, &asked, reach)? {
+        match reach_words(alloc, Area::Rectangle, &asked, &reach)? {
             Some(words) => Ok(Some(self.at_line(alloc, place, words.as_str())?)),
             None => Ok(None),
         }
+    }
+
+    /// The box that a line of the script asks of.
+    fn box_at(&self, alloc: Global, place: LineSpan) -> Option<Box3> {
+        box_in(&self.command_at(alloc, place)?)
     }
 
     /// What is said of an answer.
@@ -178,6 +235,14 @@ impl Given<'_> {
     }
 }
 
+/// Says what a note says.
+fn tell_note<R: Eprint + AllocGlobal>(rt: &R, given: &Given, note: &Note, ground: &Ground) {
+    if let Ok(Some(words)) = given.words(rt.alloc(), note, ground) {
+        let words = words.as_str();
+        let _ = eprintln!(rt; "mftb: {words}");
+    }
+}
+
 /// Says what is noted of a run over that store, a line each.
 pub(crate) fn tell<R: rt::Files<File = File> + Eprint + AllocGlobal + RandomSource>(
     rt: &R,
@@ -191,10 +256,7 @@ pub(crate) fn tell<R: rt::Files<File = File> + Eprint + AllocGlobal + RandomSour
     }
     let ground = Ground::new(rt, store, kept);
     for note in kept {
-        if let Ok(Some(words)) = given.words(rt.alloc(), note, &ground) {
-            let words = words.as_str();
-            let _ = eprintln!(rt; "mftb: {words}");
-        }
+        tell_note(rt, given, note, &ground);
     }
     if missed > 0 {
         let _ = eprintln!(rt; "mftb: and {missed} more of these");
@@ -207,13 +269,17 @@ pub(crate) fn tell_made<R: Eprint>(rt: &R, store: &str) {
     let _ = eprintln!(rt; "mftb: there was no store {store}: an empty one was made");
 }
 
+/// Says of a file of another form what makes a file to load of it.
+fn tell_source<R: Eprint + AllocGlobal>(rt: &R, name: &str, bytes: &[u8]) {
+    if let Ok(Some(words)) = source_words(rt.alloc(), name, bytes) {
+        let words = words.as_str();
+        let _ = eprintln!(rt; "mftb: {words}");
+    }
+}
+
 /// Says of each of these files that is of another form what makes a file to load of it.
 pub(crate) fn tell_sources<R: Eprint + AllocGlobal>(rt: &R, names: &[&str], files: &Files) {
     for name in names {
-        let bytes = files.get(*name).unwrap_or(b"".as_slice());
-        if let Ok(Some(words)) = source_words(rt.alloc(), *name, bytes) {
-            let words = words.as_str();
-            let _ = eprintln!(rt; "mftb: {words}");
-        }
+        tell_source(rt, *name, files.get(*name).unwrap_or(b"".as_slice()));
     }
 }

@@ -8,29 +8,21 @@ use std::fs::{File, OpenFile};
 use std::io;
 use std::os::unix::fs::FileExt;
 
-/// A file of the system that is open, by its handle. No contract says which bytes it holds, nor
-/// that `sync` puts them on the disk: that it does is trusted.
+/// A file of the system that is open, by its handle, and that notes why a call on it failed. No contract says which
+/// bytes it holds, nor that `sync` puts them on the disk: that it does is trusted.
 #[derive(Drop)]
 pub(crate) struct HeldFile<'a, F = File> {
     file: SystemFile<F>,
-    /// Why a call on it failed last, where that is to be known.
-    cause: Option<&'a Cell<Option<Cause>>>,
+    /// Why a call on it failed last.
+    cause: &'a Cell<Option<Cause>>,
 }
 
 impl<'a, F: FileExt + OpenFile> HeldFile<'a, F> {
     /// The file of a handle, which is open for what it is to be asked for.
-    pub(crate) fn new(file: F) -> HeldFile<'a, F> {
+    pub(crate) fn new(file: F, cause: &'a Cell<Option<Cause>>) -> HeldFile<'a, F> {
         HeldFile {
             file: SystemFile::new(file),
-            cause: None,
-        }
-    }
-
-    /// The same, where it is noted why a call on it failed.
-    pub(crate) fn noted(file: F, cause: &'a Cell<Option<Cause>>) -> HeldFile<'a, F> {
-        HeldFile {
-            file: SystemFile::new(file),
-            cause: Some(cause),
+            cause,
         }
     }
 
@@ -38,8 +30,8 @@ impl<'a, F: FileExt + OpenFile> HeldFile<'a, F> {
     fn note(&self, answer: io::Result<()>) -> io::Result<()>
         ensures { result ≡ answer }
     {
-        if let (Err(error), Some(cause)) = (&answer, self.cause) {
-            cause.set(Some(Cause::from(error.kind())));
+        if let Err(error) = &answer {
+            self.cause.set(Some(Cause::from(error.kind())));
         }
         answer
     }

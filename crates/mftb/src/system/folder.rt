@@ -3,8 +3,8 @@ ghost use Rattle.std.specs.Prelude.{◌≡◌, None, IfErr, IsTrue, OnOk};
 ghost use Rattle.sessions.specs.Folder.{IsOfFolder};
 
 use crate::system::file::HeldFile;
-use crate::system::locks::{Held, Hold, hold_name, is_named, open_held};
-use crate::system::names::Names;
+use crate::system::locks::{Held, Hold, give_back, hold_name, is_named, open_held};
+use crate::system::store_names::Names;
 use monitor::{Noted, Progress};
 use pages::{FileStore, PageStore};
 use sessions::{Cause, Fault, Folder, FolderRefusals};
@@ -160,7 +160,7 @@ impl<'a, 'p, R: Files<File = File> + Clock + Eprint> SystemFolder<'a, 'p, R> {
                 refused: FolderRefusals::nothing(),
             }),
             Err(fault) => {
-                let _ = fs::remove_file(rt, names.lock.as_str());
+                give_back(rt, names.lock.as_str());
                 Err(fault)
             }
         }
@@ -168,7 +168,7 @@ impl<'a, 'p, R: Files<File = File> + Clock + Eprint> SystemFolder<'a, 'p, R> {
 
     /// Gives the folder back to other runs.
     pub(crate) fn give_back(self) {
-        let _ = fs::remove_file(self.rt, self.names.lock.as_str());
+        give_back(self.rt, self.names.lock.as_str());
     }
 
     /// Makes the copy. Where there are no locks, another run may have replaced the store before, whose
@@ -217,7 +217,7 @@ impl<'a, 'p, R: Files<File = File> + Clock + Eprint> Folder for SystemFolder<'a,
             Ok(copy) => copy,
             Err(fault) => return Err(self.refused.note(fault)),
         };
-        match FileStore::new(HeldFile::noted(copy, &self.names.cause)) {
+        match FileStore::new(HeldFile::new(copy, &self.names.cause)) {
             Ok(store) => Ok(Noted::new(store, self.progress)),
             Err(_) => Err(self.refused.note(Fault::NoStore(Cause::Other))),
         }

@@ -9,7 +9,7 @@ use std::{fs, io};
 const MOST_LOOKS: u32 = 1000;
 
 /// How a run holds a file.
-#[derive(Clone, Copy, PartialEq, Eq)]
+#[derive(Clone, Copy)]
 pub(crate) enum Hold {
     /// Alone.
     Alone,
@@ -129,4 +129,10 @@ pub(crate) fn hold_name<'a, R: Files<File = File>>(rt: &R, name: &str) -> Result
         }
     }
     Err(Fault::InUse)
+}
+
+/// Gives the lock of a name back, and takes its file away. The system itself ends a lock when its
+/// file is closed.
+pub(crate) fn give_back<R: Files<File = File>>(rt: &R, name: &str) {
+    let _ = fs::remove_file(rt, name);
 }

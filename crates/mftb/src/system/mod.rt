@@ -2,6 +2,6 @@
 pub(crate) mod file;
 pub(crate) mod folder;
 pub(crate) mod locks;
-pub(crate) mod names;
 pub(crate) mod opening;
-pub(crate) mod page_zero;
+pub(crate) mod store_names;
+pub(crate) mod stored;

@@ -1,8 +1,8 @@
 //! How the file of a store is opened, and held, for what a run does with it.
 use crate::system::file::HeldFile;
-use crate::system::locks::{Hold, open_held};
-use crate::system::names::Names;
-use pages::FileStore;
+use crate::system::locks::{Hold, give_back, open_held};
+use crate::system::store_names::Names;
+use pages::{FileStore, SystemFile};
 use sessions::{Cause, Fault, ReadOnly};
 use std::fs::{File, OpenOptions};
 use std::rt::Files;
@@ -45,7 +45,7 @@ pub(crate) fn sweep<R: Files<File = File>>(rt: &R, names: &Names) {
         && lock.is_locked
     {
         let _ = fs::remove_file(rt, names.copy.as_str());
-        let _ = fs::remove_file(rt, names.lock.as_str());
+        give_back(rt, names.lock.as_str());
     }
 }
 
@@ -67,10 +67,13 @@ fn open_file<'a, R: Files<File = File>>(
     }
 }
 
+/// A store that is read alone.
+pub(crate) type AskedStore = ReadOnly<FileStore<SystemFile<File>>>;
+
 /// The store of a file that is read alone.
-fn store_of<'a>(file: File) -> Result<FileStore<HeldFile<'static, File>>, Fault<'a>> {
-    match FileStore::new(HeldFile::new(file)) {
-        Ok(store) => Ok(store),
+fn store_of<'a>(file: File) -> Result<AskedStore, Fault<'a>> {
+    match FileStore::new(SystemFile::new(file)) {
+        Ok(store) => Ok(ReadOnly::new(store)),
         Err(_) => Err(Fault::NoStore(Cause::Other)),
     }
 }
@@ -80,15 +83,14 @@ fn store_of<'a>(file: File) -> Result<FileStore<HeldFile<'static, File>>, Fault<
 pub(crate) fn open_asked<'a, R: Files<File = File>>(
     rt: &R,
     names: &Names,
-) -> Result<ReadOnly<FileStore<HeldFile<'static, File>>>, Fault<'a>> {
+) -> Result<AskedStore, Fault<'a>> {
     let name = names.store.as_str();
     let mut how = File::options();
     how.read(true);
     if !is_left(rt, name) {
         how.write(true).create(true);
     }
-    let file = open_file(rt, name, &how, Hold::Shared)?;
-    Ok(ReadOnly::new(store_of(file)?))
+    store_of(open_file(rt, name, &how, Hold::Shared)?)
 }
 
 /// Opens a store to be written as it lies there, alone; a file that is absent is made.
@@ -99,7 +101,7 @@ pub(crate) fn open_in_place<'a, 'n, R: Files<File = File>>(
     let mut how = File::options();
     how.read(true).write(true).create(true);
     let file = open_file(rt, names.store.as_str(), &how, Hold::Alone)?;
-    match FileStore::new(HeldFile::noted(file, &names.cause)) {
+    match FileStore::new(HeldFile::new(file, &names.cause)) {
         Ok(store) => Ok(store),
         Err(_) => Err(Fault::NoStore(Cause::Other)),
     }

@@ -1,6 +1,6 @@
 use Rattle.std.proofs.Common.{◌∙◌, ◌+◌, ap, arith, sym, List, length, map}
 use Rattle.sessions.proofs.PutLemmas.{all_more, items_count, puts_none, some_more}
-use Rattle.sessions.proofs.part_files.put_parts.Goals as goal
+use Rattle.sessions.proofs.part_folder.put_parts.Goals as goal
 
 pub loop-done-init : goal.loop-done-init
 loop-done-init g c = record { within = omega arith; puts = sym (puts_none (g.F.PartFolder.seen c.args.folder.now)) }

@@ -1,6 +1,6 @@
-use Rattle.std.proofs.Common.{◌≡◌, ◌+◌, map, take}
+use Rattle.std.proofs.Common.{◌≡◌, ◌≤◌, ◌+◌, map, take}
 use Rattle.sessions.specs.Parts.{numbered, with_puts}
-use Rattle.sessions.proofs.part_files.put_texts.Given as goal
+use Rattle.sessions.proofs.part_folder.put_texts.Given as goal
 
 abbrev pub invariant-loop-text : goal.invariant-loop-text
 invariant-loop-text g l = record {

@@ -1,4 +1,4 @@
-//! The files of all parts of a file.
+//! The texts of all parts of a file, each put into a folder under its number.
 ghost use Rattle.std.specs.Prelude.{◌≡◌, ◌<◌, ◌≤◌, ◌+◌, ◌^◌, ◌∷◌, [], IfErr, OnErr, OnOk, length, map};
 ghost use Rattle.sessions.specs.Parts.{HasFirst, HasFirstTexts, IsNotPut, PartsView, parts_from, numbered, with_puts};
 

@@ -1,6 +1,6 @@
 use Rattle.std.proofs.Common.{◌∙◌, arith, map}
 use Rattle.sessions.proofs.PutLemmas.{items_at, items_length, put_more}
-use Rattle.sessions.proofs.part_files.put_texts.Goals as goal
+use Rattle.sessions.proofs.part_folder.put_texts.Goals as goal
 
 pub loop-text-preserved : goal.loop-text-preserved
 loop-text-preserved g c =

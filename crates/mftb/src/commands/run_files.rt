@@ -1,4 +1,4 @@
-//! What a run reads before it opens a store.
+//! The files that a run may load.
 use sessions::{Fault, MOST_BYTES, read_named};
 use std::rt;
 use trajdb::{Files, RunFault};

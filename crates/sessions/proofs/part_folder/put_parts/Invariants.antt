@@ -1,6 +1,6 @@
 use Rattle.std.proofs.Common.{◌≡◌, ◌≤◌, ◌-◌}
 use Rattle.sessions.specs.Parts.{parts_from, with_puts}
-use Rattle.sessions.proofs.part_files.put_parts.Given as goal
+use Rattle.sessions.proofs.part_folder.put_parts.Given as goal
 
 -- the first parts were put
 abbrev pub invariant-loop-done : goal.invariant-loop-done

@@ -1,6 +1,6 @@
 use Rattle.trajdb.specs.Script.{lines_of}
 use Rattle.sessions.proofs.FolderLemmas.{leaves_copy}
-use Rattle.sessions.proofs.beside.run_over.Goals as goal
+use Rattle.sessions.proofs.on_copy.run_over.Goals as goal
 
 pub returns : goal.returns
 returns g c =

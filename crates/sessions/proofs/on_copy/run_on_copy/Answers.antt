@@ -3,7 +3,7 @@ use Rattle.std.specs.Prelude.{IfErr}
 use Rattle.trajdb.specs.Script.{lines_of}
 use Rattle.sessions.specs.Folder.{FolderView, IsDropped, IsKept, IsRefusedByFolder, NameIsKept, OfEachBook, RunsBeside}
 use Rattle.sessions.proofs.FolderLemmas.{beside, each_book, each_err, every_book, map_ok, unsent_lines}
-use Rattle.sessions.proofs.beside.run_on_copy.Goals as goal
+use Rattle.sessions.proofs.on_copy.run_on_copy.Goals as goal
 
 pub returns-in-Ok-closed-clause-sent : goal.returns-in-Ok-closed-clause-sent
 returns-in-Ok-closed-clause-sent g c =

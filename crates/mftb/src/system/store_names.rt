@@ -8,7 +8,6 @@ use std::{fs, io};
 use trajdb::RunFault;
 
 /// The names of a store's file and of what lies beside it while a run works on a copy.
-#[derive(Drop)]
 pub(crate) struct Names {
     /// The store's file itself, behind links.
     pub(crate) store: String,
@@ -18,6 +17,18 @@ pub(crate) struct Names {
     pub(crate) lock: String,
     /// Why a call on a file failed last that is written.
     pub(crate) cause: Cell<Option<Cause>>,
+}
+
+// In one place, and not at each end of what owns it.
+impl Drop for Names {
+    fn drop(self) {
+        let Names {
+            store,
+            copy,
+            lock,
+            cause,
+        } = self;
+    }
 }
 
 /// The name of a store's file, behind links; as it was given where there is none yet.
