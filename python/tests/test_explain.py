@@ -317,6 +317,18 @@ class Explained(Case):
         self.assertIn("line 1: the line begins with a byte order mark; save the script without one\n", said)
         self.assertIn("line 2: unknown command 'co\ufffdunt'\n", said)
 
+    def test_a_last_leg_that_ended_otherwise_then(self):
+        """Which end refused a file is said where no leg came behind it."""
+        self.put("first.csv", HEAD + "a,0,10,0 0 10 4\n")
+        self.put("late.csv", HEAD + "a,5,11,0 0 1 1\n")
+        self.put("more.csv", HEAD + "a,20,30,0 0 1 1\n")
+        out, said = self.ask("load first.csv\nload late.csv\nload more.csv\n", "first.csv", "late.csv", "more.csv")
+        self.assertEqual(out, "ok 1\n1,1,1\nrefused F18 at 3\nok 1\n1,1,1\n")
+        begun = "mftb: late.csv line 3, record 3, feature a: begins at 2020-01-01T00:00:05Z, before its last leg"
+        self.assertEqual(said, f"{begun} in the store ends (F18)\n")
+        out, said = self.ask("load late.csv\n", "late.csv")
+        self.assertEqual((out, said), ("refused F18 at 3\n", f"{begun} ends at 00:00:30Z (F18)\n"))
+
     def test_the_answers_stay_as_they_are(self):
         """With the words and without, also where the store is a new one; and all of it is silent without."""
         script = b"".join(line + b"\n" for line, _, _ in LINES) + b"load walk.csv\nload walk.csv\ncount\n"

@@ -5,7 +5,6 @@ mod fraction;
 mod parts;
 mod shares;
 mod terms;
-mod tests;
 
 pub use fraction::{Fraction, compare, sign_at};
 pub use shares::{Share, share_of};

@@ -10,3 +10,14 @@ pub(crate) enum Outcome {
     /// The zone file was refused, and that was said.
     ZonesRefused,
 }
+
+impl Outcome {
+    /// How a run ended in which so many lines and files were refused: with `--strict` they count.
+    pub(crate) fn of_run(is_strict: bool, refused: u64) -> Outcome {
+        if is_strict && refused > 0 {
+            Outcome::Refused
+        } else {
+            Outcome::Done
+        }
+    }
+}

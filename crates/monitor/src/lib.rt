@@ -2,13 +2,13 @@
 #![tactic(auto)]
 
 mod answer;
-mod followed;
-mod noted;
-mod notes;
+mod followed_output;
+mod noted_store;
+mod run_notes;
 mod progress;
 
 pub use answer::Answer;
-pub use followed::Followed;
-pub use noted::Noted;
-pub use notes::{LineSpan, Note, Notes, What};
+pub use followed_output::Followed;
+pub use noted_store::Noted;
+pub use run_notes::{LineSpan, Note, Notes, What};
 pub use progress::{Progress, Told};

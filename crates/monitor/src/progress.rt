@@ -1,6 +1,6 @@
 //! What a long run is doing, said on standard error.
 use crate::answer::Answer;
-use crate::notes::LineSpan;
+use crate::run_notes::LineSpan;
 use std::cell::Cell;
 use std::fmt;
 use std::fmt::{Display, Formatter};

@@ -1,18 +1,18 @@
 //! Why a file is refused.
 use crate::codes::Code;
 use crate::fields::field_at;
-use crate::finding::{Found, find, heads_of, is_header};
+use crate::refused_record::{Found, find, heads_of, is_header};
 use crate::header_reasons::{
     early_end, early_record, other_columns, other_reference, second, short_bounds, wrong_columns,
     wrong_dimension, wrong_start, wrong_unit,
 };
-use crate::known::Known;
+use crate::known_of_store::Known;
 use crate::record_reasons::{
     early_start, no_duration, no_text, short_duration, too_many_features, too_many_legs,
     wrong_coordinate, wrong_fields, wrong_name, wrong_positions, wrong_time,
 };
 use crate::refusal::Refusal;
-use crate::shown::Shown;
+use crate::shown_value::Shown;
 use std::alloc::{AllocError, Global};
 
 /// The reason for a code of a record that was found.

@@ -3,7 +3,7 @@ ghost use Rattle.std.specs.Prelude.{◌≤◌};
 
 use crate::codes::Code;
 use crate::fields::{text_of, word_at, word_count};
-use crate::shown::Shown;
+use crate::shown_value::Shown;
 use fixedpoint::{NumberFault, read_coord};
 use std::alloc::{AllocError, Global};
 use timebase::{TimeFault, read_instant};

@@ -1,11 +1,11 @@
 //! Why a data record of a file is refused.
 use crate::codes::Code;
 use crate::fields::{field_at, word_count};
-use crate::finding::{Bounds, Found};
-use crate::known::Known;
+use crate::refused_record::{Bounds, Found};
+use crate::known_of_store::Known;
 use crate::line_reasons::{coordinate_fault, instant_fault};
 use crate::moments::{beside, instant_of};
-use crate::shown::Shown;
+use crate::shown_value::Shown;
 use csv::ByteRecord;
 use mfcsv::{Record, read_file};
 use std::alloc::{AllocError, Global};

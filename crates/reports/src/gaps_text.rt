@@ -1,6 +1,5 @@
-//! The texts of gaps: records of CSV, and the line that names their fields.
-use crate::formatting::push_text;
-use crate::moments_text::{position_fields, push_name, push_position, push_word};
+//! The texts of gaps: records of CSV.
+use crate::moments_text::{push_name, push_position};
 use fixedpoint::{Offset, push_offset};
 use mfcsv::Dimension;
 use moments::Gap;
@@ -22,13 +21,6 @@ fn push_seconds(text: &mut Vec<u8>, millis: i64) -> Result<(), RunFault> {
 fn push_at(text: &mut Vec<u8>, at: Ms) -> Result<(), RunFault> {
     text.push(b',')?;
     Ok(push_instant(text, at)?)
-}
-
-/// Appends the line that names the fields of gaps.
-pub fn push_gap_fields(text: &mut Vec<u8>, dimension: Dimension) -> Result<(), RunFault> {
-    push_text(text, "feature,begins,ends,begins_at,ends_at")?;
-    push_word(text, position_fields(dimension))?;
-    push_text(text, ",seconds\n")
 }
 
 /// Appends the record of a gap, of which times are counted from a base.

@@ -1,4 +1,4 @@
-//! The texts of stays, visits and dwells: records of CSV, and the line that names their fields.
+//! The texts of stays, visits and dwells in rectangles: records of CSV.
 ghost use Rattle.std.specs.Prelude.{◌≡◌, ◌<◌, ◌++◌, pos, All, decimal, IfErr, length, OnOk};
 ghost use Rattle.std.specs.Int.{int_div_euclid};
 ghost use Rattle.fixedpoint.specs.NumberText.{coord_text};
@@ -7,7 +7,7 @@ ghost use Rattle.timebase.specs.InstantText.{instant_text};
 ghost use Rattle.trajdb.specs.Calls.{IsText};
 ghost use Rattle.trajdb.specs.declared.RunFault.{RunFault};
 ghost use Rattle.reports.specs.Printing.{IsPrintFault};
-ghost use Rattle.reports.specs.StayTexts.{dwell_fields, dwell_text, dwells_text, ends_text, fields_text, fraction_text, label_text, micros_text, name_text, next_field, position_fields, position_text, quoted_text, seconds_text, stay_text, stays_text, three_digits, times_text, visit_text, visits_text, without_last};
+ghost use Rattle.reports.specs.StayTexts.{dwell_text, dwells_text, ends_text, fraction_text, label_text, micros_text, name_text, next_field, position_text, quoted_text, seconds_text, stay_text, stays_text, three_digits, times_text, visit_text, visits_text, without_last};
 
 use crate::formatting::{push_number, push_signed};
 use fixedpoint::{Coord, push_coord};
@@ -204,35 +204,6 @@ pub(crate) fn push_position(
     }
 }
 
-/// The names of the fields of two positions.
-pub(crate) fn position_fields(dimension: Dimension) -> &'static str
-    ensures { result.now ≡ position_fields dimension }
-{
-    match dimension {
-        Dimension::Two => "x_in,y_in,x_out,y_out",
-        Dimension::Three => "x_in,y_in,z_in,x_out,y_out,z_out",
-    }
-}
-
-/// Appends the line that names the fields of stays or visits, of which `first` are the first and `others` the last.
-#[tactic(auto, unfolding(crate::specs::StayTexts::fields_text))]
-pub fn push_fields(
-    text: &mut Vec<u8>,
-    first: &str,
-    dimension: Dimension,
-    others: &str,
-) -> Result<(), AllocError>
-    // It appends the first names, those of moments and positions, the last names, and the line's end.
-    ensures text { OnOk result (text.new.items
-        ≡ text.old.items ++ fields_text first.now dimension others.now) }
-{
-    text.extend_from_slice(first.as_bytes())?;
-    text.extend_from_slice(b",enters,leaves,enters_at,leaves_at")?;
-    push_word(text, position_fields(dimension))?;
-    push_word(text, others)?;
-    Ok(text.push(b'\n')?)
-}
-
 /// Appends what a first and a last moment are and the edges that are met there, each behind a comma.
 #[tactic(auto, unfolding(crate::specs::StayTexts::ends_text))]
 fn push_ends(text: &mut Vec<u8>, enters_by: End, leaves_by: End) -> Result<(), AllocError>
@@ -350,16 +321,6 @@ pub(crate) fn push_seconds(text: &mut Vec<u8>, micros: u64) -> Result<(), RunFau
     text.push(b'.')?;
     push_three_digits(text, micros / 1000)?;
     Ok(push_three_digits(text, micros)?)
-}
-
-/// Appends the line that names the fields of dwells, of which `first` are the first.
-#[tactic(auto, unfolding(crate::specs::StayTexts::dwell_fields))]
-pub fn push_dwell_fields(text: &mut Vec<u8>, first: &str) -> Result<(), AllocError>
-    // It appends the first names, those of the count and the times, and the line's end.
-    ensures text { OnOk result (text.new.items ≡ text.old.items ++ dwell_fields first.now) }
-{
-    text.extend_from_slice(first.as_bytes())?;
-    text.extend_from_slice(b",visits,least,most\n")
 }
 
 /// Appends the record of a feature's visits.

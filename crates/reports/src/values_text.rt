@@ -1,11 +1,10 @@
-//! The texts of attributes: the names of their columns, and the values behind the record of a stay.
+//! The texts of attributes: the values behind the record of a stay.
 ghost use Rattle.std.specs.Prelude.{◌≡◌, ◌<◌, ◌++◌, [], IfErr, length, OnOk, slice_index_or};
 ghost use Rattle.trajdb.specs.Calls.{IsText};
 ghost use Rattle.trajdb.specs.declared.RunFault.{RunFault};
 ghost use Rattle.reports.specs.StayTexts.{next_field, shown_value, values_text};
 
 use crate::moments_text::{Frame, drop_last, push_quoted, push_stay};
-use mfcsv::Column;
 use moments::Stay;
 use pages::PageStore;
 use rows::Row;
@@ -25,7 +24,7 @@ fn push_shown(alloc: Global, text: &mut Vec<u8>, said: &str) -> Result<(), RunFa
 }
 
 /// Appends a comma and a text, quoted likewise.
-fn push_next(alloc: Global, text: &mut Vec<u8>, said: &str) -> Result<(), RunFault>
+pub(crate) fn push_next(alloc: Global, text: &mut Vec<u8>, said: &str) -> Result<(), RunFault>
     ensures fault { IfErr result (λ fault. fault ≡ RunFault.Memory) }
     ensures text { OnOk result (text.new.items
         ≡ text.old.items ++ next_field (shown_value said.now)) }
@@ -44,27 +43,6 @@ fn push_row(alloc: Global, text: &mut Vec<u8>, values: &Row<'_>) -> Result<(), R
         push_next(alloc, text, values.value(i))?;
     }
     Ok(())
-}
-
-/// Appends the names of attribute columns to the last line of a text, behind its fields.
-fn push_names(alloc: Global, text: &mut Vec<u8>, columns: &[Column]) -> Result<(), RunFault> {
-    drop_last(text);
-    for column in columns {
-        push_next(alloc, text, column.name.as_str())?;
-    }
-    Ok(text.push(b'\n')?)
-}
-
-/// Appends the names of a database's attribute columns to the line that names the other fields, the last one of a text.
-pub fn push_columns<S: PageStore>(
-    alloc: Global,
-    text: &mut Vec<u8>,
-    database: &Db<S>,
-) -> Result<(), RunFault> {
-    match database.head() {
-        Some(head) => push_names(alloc, text, head.columns.as_slice()),
-        None => Ok(()),
-    }
 }
 
 /// Appends the attribute values of the record of that number, each behind a comma. Refused for want of memory, and with

@@ -1,9 +1,9 @@
-//! The texts of stays, visits and dwells in zones: records of CSV.
+//! The texts of stays and visits in zones, and of features: records of CSV.
 ghost use Rattle.std.specs.Prelude.{◌<◌, ◌^◌, unsigned_abs};
 
 use crate::formatting::push_signed;
 use crate::moments_text::{
-    Frame, push_count, push_labelled, push_micros, push_position, push_seconds, push_word,
+    Frame, push_count, push_labelled, push_micros, push_position, push_word,
 };
 use crate::values_text::push_values;
 use crate::wide_number::push_wide;
@@ -12,7 +12,7 @@ use pages::PageStore;
 use std::alloc::{AllocError, Global};
 use timebase::Ms;
 use trajdb::{Db, RunFault};
-use zoning::{Dwell, Moment, Side, Stay, Visit};
+use zoning::{Moment, Side, Stay, Visit};
 
 /// How the records of a zone are written.
 #[derive(Clone, Copy)]
@@ -167,25 +167,6 @@ pub fn push_zone_visits<S: PageStore>(
 ) -> Result<(), RunFault> {
     for visit in visits {
         push_visit(alloc, text, database, zone, visit)?;
-        text.push(b'\n')?;
-    }
-    Ok(())
-}
-
-/// Appends a record for each feature that visits a zone: how many visits it pays, and for how many seconds it stays at
-/// least and at most. Refused likewise.
-pub fn push_zone_dwells<S: PageStore>(
-    alloc: Global,
-    text: &mut Vec<u8>,
-    database: &Db<S>,
-    label: &[u8],
-    dwells: &[Dwell],
-) -> Result<(), RunFault> {
-    for dwell in dwells {
-        push_labelled(alloc, text, database, label, dwell.feature)?;
-        push_count(text, dwell.visits)?;
-        push_seconds(text, dwell.least)?;
-        push_seconds(text, dwell.most)?;
         text.push(b'\n')?;
     }
     Ok(())

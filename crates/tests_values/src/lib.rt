@@ -1,11 +1,13 @@
 //! Tests of what stands below a store: words, numbers, moments, files, legs, rectangles, predicates,
-//! scripts, answers and the parts of a file.
+//! scripts, answers, the parts of a file, and zones.
 #![tactic(auto)]
 
 #[cfg(test)]
 mod clipping_tests;
 #[cfg(test)]
 mod fixedpoint_tests;
+#[cfg(test)]
+mod fractions_tests;
 #[cfg(test)]
 mod legs_tests;
 #[cfg(test)]
@@ -26,3 +28,5 @@ mod timebase_tests;
 mod words_tests;
 #[cfg(test)]
 mod writer_tests;
+#[cfg(test)]
+mod zones_tests;

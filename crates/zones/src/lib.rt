@@ -8,7 +8,6 @@ mod inside;
 mod leaving;
 mod places;
 mod staying;
-mod tests;
 mod turns;
 
 pub use cuts::{CoursePlace, Cut};

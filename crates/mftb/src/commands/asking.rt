@@ -1,7 +1,8 @@
 //! Databases that are only asked.
 ghost use Rattle.std.specs.Prelude.{◌<◌};
 
-use crate::system::opening::{AskedStore, absence_of, open_asked, sweep};
+use crate::system::leftovers::sweep;
+use crate::system::opening::{AskedStore, absence_of, open_asked};
 use crate::system::store_names::Names;
 use mfcsv::Dimension;
 use pages::PageStore;

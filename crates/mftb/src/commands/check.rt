@@ -1,6 +1,7 @@
 //! `mftb check`: whether the pages of a file hold one database.
 use crate::commands::asking::database_to_ask;
-use crate::system::opening::{AskedStore, open_asked, sweep};
+use crate::system::leftovers::sweep;
+use crate::system::opening::{AskedStore, open_asked};
 use crate::system::store_names::Names;
 use arguments::Check;
 use outputs::Output;

@@ -2,15 +2,15 @@
 use crate::commands::asking::{close_asked, database_to_ask, frame_of, store_to_ask};
 use crate::commands::bounds::{hold_times, period_of};
 use crate::commands::rectangles::{NamedRect, rects_of};
-use crate::explain::elsewhere::tell_elsewhere;
+use crate::explain::empty_areas::tell_elsewhere;
 use arguments::{Moments, RowKind, ValueMode, Where};
 use moments::{Stay, Visit, dwells_of, stays, visits_of};
 use outputs::Output;
 use pages::PageStore;
 use reasons::Area;
 use reports::{
-    push_columns, push_dwell_fields, push_dwells, push_fields, push_label, push_stays,
-    push_valued_stays, push_visits,
+    Heading, OF_FEATURE, OF_RECTANGLE, push_columns, push_dwell_fields, push_dwells, push_heading,
+    push_label, push_stays, push_valued_stays, push_visits,
 };
 use sessions::{Fault, send_all};
 use std::alloc::Global;
@@ -20,12 +20,6 @@ use std::random::RandomSource;
 use std::rt::Files;
 use timebase::Period;
 use trajdb::{Db, RunFault};
-
-/// The fields of what begins and what ends a stay or a visit.
-const ENDS: &str = "enters_by,leaves_by,edge_in,edge_out";
-
-/// The same of a visit, with how many legs it has.
-const VISIT_ENDS: &str = "enters_by,leaves_by,edge_in,edge_out,legs";
 
 /// What is asked of each rectangle.
 #[derive(Clone, Copy)]
@@ -64,17 +58,17 @@ impl Asked {
     ) -> Result<(), RunFault> {
         let dimension = frame_of(database, b"").dimension;
         let first = if self.is_named {
-            "rectangle,feature"
+            OF_RECTANGLE
         } else {
-            "feature"
+            OF_FEATURE
         };
         match self.rows {
-            RowKind::Legs(ValueMode::Without) => Ok(push_fields(text, first, dimension, ENDS)?),
+            RowKind::Legs(ValueMode::Without) => Ok(push_heading(text, first, dimension, Heading::Stays)?),
             RowKind::Legs(ValueMode::With) => {
-                push_fields(text, first, dimension, ENDS)?;
+                push_heading(text, first, dimension, Heading::Stays)?;
                 push_columns(self.alloc, text, database)
             }
-            RowKind::Visits => Ok(push_fields(text, first, dimension, VISIT_ENDS)?),
+            RowKind::Visits => Ok(push_heading(text, first, dimension, Heading::Visits)?),
             RowKind::Dwell => Ok(push_dwell_fields(text, first)?),
         }
     }

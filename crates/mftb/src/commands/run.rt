@@ -6,8 +6,9 @@ use crate::commands::run_files::read_files;
 use crate::explain::notes::{Given, tell, tell_made, tell_sources};
 use crate::outcome::Outcome;
 use crate::system::folder::SystemFolder;
+use crate::system::leftovers::{clear, sweep};
 use crate::system::locks::{give_back, hold_name};
-use crate::system::opening::{is_absent, is_special, open_asked, open_in_place, sweep};
+use crate::system::opening::{is_absent, is_special, open_asked, open_in_place};
 use crate::system::store_names::Names;
 use crate::system::stored::{Header, header_of};
 use arguments::{Run, StoreMode, Telling, WriteMode};
@@ -22,7 +23,7 @@ use sessions::{
 use std::fs::File;
 use std::io::Eprint;
 use std::random::RandomSource;
-use std::{fs, rt};
+use std::rt;
 use trajdb::{Files, RunFault, has_load};
 
 /// What a run works on.
@@ -104,9 +105,7 @@ fn run_in_place<'a, R: rt::Files<File = File> + rt::Clock + Eprint, O: Output>(
     };
     let ended = run_over(open_in_place(rt, names), work, progress, out);
     if let Some(lock) = lock {
-        if lock.is_locked {
-            let _ = fs::remove_file(rt, names.copy.as_str());
-        }
+        let _ = clear(rt, names, &lock);
         give_back(rt, names.lock.as_str());
     }
     ended
@@ -126,15 +125,6 @@ fn run_beside<'a, R: rt::Files<File = File> + rt::Clock + Eprint, O: Output>(
     let ended = run_on_copy(&mut folder, &work.how, work.script, work.files, out);
     folder.give_back();
     ended
-}
-
-/// How a run ended in which so many lines and files were refused.
-fn outcome_of(is_strict: bool, refused: u64) -> Outcome {
-    if is_strict && refused > 0 {
-        Outcome::Refused
-    } else {
-        Outcome::Done
-    }
 }
 
 /// Runs the script over the store, in the way that it asks for.
@@ -256,22 +246,24 @@ fn tell_hints<R: Eprint + AllocGlobal>(
     }
 }
 
-/// Says what is noted of a run, and how it ended.
+/// Says what is noted of a run by which the store has so many legs more, and how it ended.
 fn told<'a, R: rt::Files<File = File> + Eprint + AllocGlobal + RandomSource>(
     rt: &R,
     run: &Run<'a>,
     work: &Work<'_>,
     notes: &Notes,
+    legs: u64,
     ended: Result<(), Fault<'a>>,
 ) -> Result<Outcome, Fault<'a>> {
     let given = Given {
         name: run.script,
         script: work.script,
         files: work.files,
+        legs,
     };
     tell(rt, run.store, &given, notes);
     match ended {
-        Ok(()) => Ok(outcome_of(run.is_strict, notes.refused())),
+        Ok(()) => Ok(Outcome::of_run(run.is_strict, notes.refused())),
         Err(fault) => Err(work.names.caused(fault)),
     }
 }
@@ -291,10 +283,15 @@ fn run_work<
     progress.clear();
     let (_out, notes) = out.into_parts();
     tell_unsaid(rt, work, ended);
+    let legs = if ended.kept.is_ok() {
+        progress.legs()
+    } else {
+        0
+    };
     let ended = said(ended);
     let is_made = ended.is_ok() && work.how.is_new && progress.loads() == 0;
     tell_hints(rt, run, work, is_made, !is_told && notes.refused() > 0);
-    told(rt, run, work, &notes, ended)
+    told(rt, run, work, &notes, legs, ended)
 }
 
 /// Opens the store, and runs a script that was read.

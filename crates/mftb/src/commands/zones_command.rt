@@ -2,8 +2,8 @@
 use crate::commands::asking::{close_asked, database_to_ask, frame_of, store_to_ask};
 use crate::commands::bounds::{period_of, plane};
 use crate::commands::rectangles::NamedRect;
-use crate::explain::elsewhere::tell_elsewhere;
-use crate::explain::misplaced::tell_form;
+use crate::explain::empty_areas::tell_elsewhere;
+use crate::explain::misplaced_words::tell_form;
 use crate::outcome::Outcome;
 use arguments::{Telling, ValueMode, ZoneRowKind, Zones};
 use legs::Leg;
@@ -13,8 +13,9 @@ use pages::PageStore;
 use predicates::Predicate;
 use reasons::Area;
 use reports::{
-    ZoneFrame, push_columns, push_dwell_fields, push_fields, push_label, push_valued_zone_stays,
-    push_zone_dwells, push_zone_features, push_zone_stays, push_zone_visits,
+    Heading, OF_ZONE, ZoneFrame, push_columns, push_dwell_fields, push_dwells, push_feature_fields,
+    push_heading, push_label, push_valued_zone_stays, push_zone_features, push_zone_stays,
+    push_zone_visits,
 };
 use sessions::{Fault, MOST_BYTES, read_named, send_all};
 use std::alloc::{AllocError, Global};
@@ -26,15 +27,6 @@ use timebase::Period;
 use trajdb::{Db, RunFault};
 use zone_files::{Shape, Zone, ZoneFault, ZoneFile, read_zones};
 use zoning::{Courses, Site, Stay, Tallies, Visit, dwells_of, features_of, visits_of};
-
-/// The first fields of each record.
-const FIRST: &str = "zone,feature";
-
-/// The last ones of a stay.
-const ENDS: &str = "enters_by,leaves_by,from,to";
-
-/// The same of a visit, with how many legs it has.
-const VISIT_ENDS: &str = "enters_by,leaves_by,legs,from,to";
 
 /// The site of a shape.
 fn site_of(alloc: Global, shape: Shape) -> Result<Site, AllocError> {
@@ -61,19 +53,18 @@ impl Asked {
     ) -> Result<(), RunFault> {
         let dimension = frame_of(database, b"").dimension;
         match self.rows {
-            ZoneRowKind::Visits => Ok(push_fields(text, FIRST, dimension, VISIT_ENDS)?),
+            ZoneRowKind::Visits => {
+                Ok(push_heading(text, OF_ZONE, dimension, Heading::ZoneVisits)?)
+            }
             ZoneRowKind::Legs(ValueMode::Without) => {
-                Ok(push_fields(text, FIRST, dimension, ENDS)?)
+                Ok(push_heading(text, OF_ZONE, dimension, Heading::ZoneStays)?)
             }
             ZoneRowKind::Legs(ValueMode::With) => {
-                push_fields(text, FIRST, dimension, ENDS)?;
+                push_heading(text, OF_ZONE, dimension, Heading::ZoneStays)?;
                 push_columns(self.alloc, text, database)
             }
-            ZoneRowKind::Dwell => Ok(push_dwell_fields(text, FIRST)?),
-            ZoneRowKind::Features(_) => {
-                text.extend_from_slice(FIRST.as_bytes())?;
-                Ok(text.push(b'\n')?)
-            }
+            ZoneRowKind::Dwell => Ok(push_dwell_fields(text, OF_ZONE)?),
+            ZoneRowKind::Features(_) => Ok(push_feature_fields(text, OF_ZONE)?),
         }
     }
 
@@ -175,7 +166,7 @@ impl Told {
         match self.asked.rows {
             ZoneRowKind::Dwell => {
                 let label = zone.frame.label;
-                push_zone_dwells(alloc, text, database, label, &dwells_of(alloc, visits)?)
+                push_dwells(alloc, text, database, label, &dwells_of(alloc, visits)?)
             }
             _ => push_zone_visits(alloc, text, database, zone, visits),
         }

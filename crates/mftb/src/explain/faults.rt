@@ -1,6 +1,6 @@
 //! Why the program failed, beyond what the line of the fault says.
 use crate::commands::bounds::is_word;
-use crate::explain::misplaced::tell_instants;
+use crate::explain::misplaced_words::tell_instants;
 use arguments::{Corners, Task, Telling, Where};
 use querylang::LineCode;
 use reasons::{Code, Shown, line_words};

@@ -1,5 +1,5 @@
 //! What is said in words on standard error.
-pub(crate) mod elsewhere;
+pub(crate) mod empty_areas;
 pub(crate) mod faults;
-pub(crate) mod misplaced;
+pub(crate) mod misplaced_words;
 pub(crate) mod notes;

@@ -39,6 +39,8 @@ pub(crate) struct Given<'a> {
     pub(crate) name: &'a str,
     pub(crate) script: &'a [u8],
     pub(crate) files: &'a Files,
+    /// How many legs that the run loaded the store keeps.
+    pub(crate) legs: u64,
 }
 
 /// What is known of the store of a run when it has ended.
@@ -48,6 +50,8 @@ struct Ground {
     reach: Option<Box3>,
     /// What it keeps beside its legs, where it is to be known.
     catalogue: Option<Catalogue>,
+    /// How many of its legs the run loaded.
+    legs: u64,
 }
 
 impl Ground {
@@ -55,6 +59,7 @@ impl Ground {
     fn new<R: rt::Files<File = File> + AllocGlobal + RandomSource>(
         rt: &R,
         store: &str,
+        legs: u64,
         notes: &[Note],
     ) -> Ground {
         Ground {
@@ -64,15 +69,17 @@ impl Ground {
             } else {
                 None
             },
+            legs,
         }
     }
 
-    /// What the store knows that refuses a file.
-    fn known(&self) -> Known<'_> {
+    /// What the store knew that refuses a file when the run had loaded so many legs. Where its features ended then is
+    /// known if no leg came behind.
+    fn known(&self, legs: u64) -> Known<'_> {
         match &self.catalogue {
             Some(catalogue) => Known {
                 head: catalogue.head.as_ref(),
-                tracks: Some(&catalogue.tracks),
+                tracks: (legs == self.legs).then_some(&catalogue.tracks),
                 most_legs: Some(catalogue.limits.legs()),
                 most_features: Some(catalogue.limits.features()),
             },
@@ -150,10 +157,10 @@ impl Given<'_> {
         place: LineSpan,
         name: &str,
         refusal: Refusal,
-        ground: &Ground,
+        known: &Known<'_>,
     ) -> Result<String, AllocError> {
         match self.files.get(name) {
-            Some(bytes) => file_words(alloc, name, bytes, refusal, &ground.known()),
+            Some(bytes) => file_words(alloc, name, bytes, refusal, known),
             None => self.line_refusal(alloc, place, refusal.code),
         }
     }
@@ -164,10 +171,10 @@ impl Given<'_> {
         alloc: Global,
         place: LineSpan,
         refusal: Refusal,
-        ground: &Ground,
+        known: &Known<'_>,
     ) -> Result<String, AllocError> {
         match self.name_at(alloc, place) {
-            Some(name) => self.named_refusal(alloc, place, name.as_str(), refusal, ground),
+            Some(name) => self.named_refusal(alloc, place, name.as_str(), refusal, known),
             None => self.line_refusal(alloc, place, refusal.code),
         }
     }
@@ -226,7 +233,8 @@ impl Given<'_> {
         let place = note.place;
         match note.what {
             What::Refused(refusal) => {
-                Ok(Some(self.refusal_words(alloc, place, refusal, ground)?))
+                let known = ground.known(note.legs);
+                Ok(Some(self.refusal_words(alloc, place, refusal, &known)?))
             }
             What::NoLegs => Ok(Some(self.at_line(alloc, place, "the store has no legs")?)),
             What::NoFeature => Ok(Some(self.feature_words(alloc, place)?)),
@@ -254,7 +262,7 @@ pub(crate) fn tell<R: rt::Files<File = File> + Eprint + AllocGlobal + RandomSour
     if kept.is_empty() {
         return;
     }
-    let ground = Ground::new(rt, store, kept);
+    let ground = Ground::new(rt, store, given.legs, kept);
     for note in kept {
         tell_note(rt, given, note, &ground);
     }

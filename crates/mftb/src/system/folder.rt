@@ -3,6 +3,7 @@ ghost use Rattle.std.specs.Prelude.{◌≡◌, None, IfErr, IsTrue, OnOk};
 ghost use Rattle.sessions.specs.Folder.{IsOfFolder};
 
 use crate::system::file::HeldFile;
+use crate::system::leftovers::clear;
 use crate::system::locks::{Held, Hold, give_back, hold_name, is_named, open_held};
 use crate::system::store_names::Names;
 use monitor::{Noted, Progress};
@@ -43,15 +44,6 @@ pub(crate) struct SystemFolder<'a, 'p, R: Files<File = File> + Clock + Eprint> {
     refused: FolderRefusals,
 }
 
-/// Takes a file's name away, where it has one.
-fn remove<'a, R: Files>(rt: &R, name: &str) -> Result<(), Fault<'a>> {
-    match fs::remove_file(rt, name) {
-        Ok(()) => Ok(()),
-        Err(error) if error.kind() == io::ErrorKind::NotFound => Ok(()),
-        Err(error) => Err(Fault::NoStore(Cause::from(error.kind()))),
-    }
-}
-
 /// Takes the store's file to be read, where there is one that this run may write as well.
 fn take_store<'a, R: Files<File = File>>(rt: &R, names: &Names) -> Result<Option<File>, Fault<'a>> {
     let mut how = File::options();
@@ -60,14 +52,6 @@ fn take_store<'a, R: Files<File = File>>(rt: &R, names: &Names) -> Result<Option
         Some(held) => Ok(Some(held.file)),
         None => Ok(None),
     }
-}
-
-/// Takes away the copy that a killed run left, where the lock says that no run works there.
-fn clear<'a, R: Files<File = File>>(rt: &R, names: &Names, lock: &Held) -> Result<(), Fault<'a>> {
-    if lock.is_locked {
-        return remove(rt, names.copy.as_str());
-    }
-    Ok(())
 }
 
 /// Takes the store's file so, where nothing that a killed run left is in the way.

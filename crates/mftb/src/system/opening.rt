@@ -1,6 +1,6 @@
 //! How the file of a store is opened, and held, for what a run does with it.
 use crate::system::file::HeldFile;
-use crate::system::locks::{Hold, give_back, open_held};
+use crate::system::locks::{Hold, open_held};
 use crate::system::store_names::Names;
 use pages::{FileStore, SystemFile};
 use sessions::{Cause, Fault, ReadOnly};
@@ -33,24 +33,8 @@ pub(crate) fn is_special<R: Files<File = File>>(rt: &R, name: &str) -> bool {
     }
 }
 
-/// Takes away the copy that a run left beside a store that was killed, where no run works there: the
-/// lock says so, and where there are no locks the copy stays.
-pub(crate) fn sweep<R: Files<File = File>>(rt: &R, names: &Names) {
-    if !is_left(rt, names.copy.as_str()) {
-        return;
-    }
-    let mut how = File::options();
-    how.read(true);
-    if let Ok(Some(lock)) = open_held(rt, names.lock.as_str(), &how, Hold::Alone)
-        && lock.is_locked
-    {
-        let _ = fs::remove_file(rt, names.copy.as_str());
-        give_back(rt, names.lock.as_str());
-    }
-}
-
-/// Whether there is a file of that name.
-fn is_left<R: Files<File = File>>(rt: &R, name: &str) -> bool {
+/// Whether a name is given to anything, be it a link to nothing.
+pub(crate) fn has_name<R: Files<File = File>>(rt: &R, name: &str) -> bool {
     fs::symlink_metadata(rt, name).is_ok()
 }
 
@@ -87,7 +71,7 @@ pub(crate) fn open_asked<'a, R: Files<File = File>>(
     let name = names.store.as_str();
     let mut how = File::options();
     how.read(true);
-    if !is_left(rt, name) {
+    if !has_name(rt, name) {
         how.write(true).create(true);
     }
     store_of(open_file(rt, name, &how, Hold::Shared)?)

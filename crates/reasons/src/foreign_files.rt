@@ -1,7 +1,7 @@
 //! Files of other forms, by how they begin, and what makes a file of ours of them.
 use crate::fields::field_at;
-use crate::finding::{Found, find};
-use crate::shown::Shown;
+use crate::refused_record::{Found, find};
+use crate::shown_value::Shown;
 use std::alloc::{AllocError, Global};
 
 /// How a shapefile begins.

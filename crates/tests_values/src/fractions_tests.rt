@@ -1,7 +1,5 @@
 //! Worked values: the greatest numbers, and terms that are not the lowest.
-use crate::fraction::{Fraction, compare, sign_at};
-use crate::shares::{Share, share_of};
-use crate::terms::{Terms, lowest_terms};
+use fractions::{Fraction, Share, Terms, compare, lowest_terms, share_of, sign_at};
 use std::cmp::Ordering;
 use std::process::Abort;
 

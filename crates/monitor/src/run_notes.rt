@@ -46,6 +46,8 @@ pub struct Note {
     pub place: LineSpan,
     /// What is said of its answer.
     pub what: What,
+    /// How many legs the run had loaded before.
+    pub legs: u64,
 }
 
 /// The notes of a run.
@@ -171,7 +173,7 @@ impl Notes {
         if let Some(what) = what
             && self.is_new(what)
         {
-            self.keep(Note { place, what });
+            self.keep(Note { place, what, legs });
         }
     }
 }

@@ -1,7 +1,7 @@
 use Rattle.std.proofs.Common.{◌∙◌, ◌++◌, ◌∷◌, ℕ, List, ap}
 use Rattle.reports.specs.StayTexts.{fields_text}
 use Rattle.reports.proofs.TextLemmas.{line_of_parts}
-use Rattle.reports.proofs.moments_text.push_fields.Goals as goal
+use Rattle.reports.proofs.headings.push_fields.Goals as goal
 
 pub returns : goal.returns
 unfolding fields_text

@@ -1,12 +1,11 @@
 //! Worked values: a course past a square with a hole, at its corners and along its edges.
 ghost use Rattle.std.specs.Prelude.{◌≤◌, unsigned_abs};
 
-use crate::inside::is_inside;
-use crate::places::{GridPoint, Ring, Segment};
 use fractions::Fraction;
 use std::alloc::{AllocError, Global};
 use std::process::Abort;
 use std::test::Fail;
+use zones::{GridPoint, Ring, Segment, is_inside};
 
 fn box_of(alloc: Global, low: i64, high: i64) -> Result<Ring, AllocError>
     requires low { unsigned_abs low ≤ 1000 }

@@ -2,7 +2,7 @@
 ghost use Rattle.std.specs.Prelude.{◌≡◌};
 
 use crate::answer::Answer;
-use crate::notes::Notes;
+use crate::run_notes::Notes;
 use crate::progress::Progress;
 use outputs::{Output, OutputFault};
 use std::io::Eprint;
