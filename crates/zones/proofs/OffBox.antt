@@ -1,11 +1,11 @@
 -- Off a box that holds a zone is outside the zone.
 use Rattle.std.proofs.Common.{Bool, true, false, ◌&&◌, ◌||◌, ℤ, pos, ◌-ℤ◌, ◌*ℤ◌, ◌<ℤ◌, ◌≤ℤ◌, ◌≡◌, arith, ap, sym, ◌∙◌, refl, inl, inr, Less, Equal, Greater, Ordering, if◌then◌else◌, int_lt, List, [], ◌∷◌}
+use Rattle.std.specs.Prelude.{◌⊎◌}
 use Rattle.std.specs.Ordering.{int_cmp, is_eq, is_lt, is_gt, is_ge}
 use Rattle.std.proofs.lemmas.Int.{ints, by_lt_z}
 use Rattle.zones.specs.Places.{Corner, Edge, Point}
 use Rattle.zones.specs.Edges.{across, along, is_on_edge, is_crossed, either, is_between_by}
 use Rattle.zones.specs.Zones.{edges_after, last_after, edges, zone_edges, is_on_some, is_odd, in_zone}
-use Rattle.zones.specs.Boxes.{BoxView, IsInBox, HoldsRing, HoldsZone, IsOff}
 use Rattle.zones.specs.Turns.{sign, height, width, side}
 use Rattle.zones.proofs.Products.{scale_strictly}
 use Rattle.zones.proofs.Orders.{scale, less_back}
@@ -15,6 +15,34 @@ use Rattle.zones.proofs.Closed.{rising, not_rising}
 use Rattle.zones.proofs.Pieces.{times_difference}
 use Rattle.zones.proofs.ZoneLemmas.{on_some_append, odd_append}
 use Rattle.zones.proofs.Outside.{up_signs, down_signs, ge_le, lt_of, AllRight, ring_right}
+
+-- from (x_min, y_min) to (x_max, y_max)
+pub record BoxView : Type 0 where
+  pub x_min : ℤ
+  pub x_max : ℤ
+  pub y_min : ℤ
+  pub y_max : ℤ
+
+-- the corner is in the box, its sides among it
+pub record IsInBox (box : BoxView) (corner : Corner) : Type 0 where
+  pub left : box.x_min ≤ℤ corner.x
+  pub right : corner.x ≤ℤ box.x_max
+  pub below : box.y_min ≤ℤ corner.y
+  pub above : corner.y ≤ℤ box.y_max
+
+-- the box holds all corners of a ring
+abbrev pub HoldsRing : BoxView → List Corner → Type 0
+HoldsRing box [] = Unit {0}
+HoldsRing box (corner ∷ corners) = IsInBox box corner × HoldsRing box corners
+
+-- the box holds all corners of a zone
+abbrev pub HoldsZone : BoxView → List (List Corner) → Type 0
+HoldsZone box [] = Unit {0}
+HoldsZone box (ring ∷ rings) = HoldsRing box ring × HoldsZone box rings
+
+-- the point is left of the box, right of it, below or above
+abbrev pub IsOff : BoxView → Point → Type 0
+IsOff box p = (p.x <ℤ (box.x_min *ℤ p.d)) ⊎ (((box.x_max *ℤ p.d) <ℤ p.x) ⊎ ((p.y <ℤ (box.y_min *ℤ p.d)) ⊎ ((box.y_max *ℤ p.d) <ℤ p.y)))
 
 not_lt : (x y : ℤ) → y ≤ℤ x → is_lt (int_cmp x y) ≡ false
 not_lt x y h = grind (arith, ints)

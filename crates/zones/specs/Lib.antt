@@ -1,5 +1,4 @@
 pub mod Places
-pub mod Boxes
 pub mod Edges
 pub mod Zones
 pub mod Turns

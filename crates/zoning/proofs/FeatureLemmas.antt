@@ -19,7 +19,8 @@ use Rattle.predicates.specs.declared.Predicate.TheVariants.{Ever, Always, Enters
 use Rattle.predicates.proofs.CourseLemmas.{empty_course, told}
 use Rattle.predicates.proofs.SieveLemmas.{ever_same}
 use Rattle.zones.specs.Places.{Corner}
-use Rattle.zoning.specs.Holding.{AreCourses, AreHolding, AreNear, AreTallies, IsOutside, IsTallied, course_with, held, holds_with, feature_legs}
+use Rattle.legs.specs.Index.{legs_of}
+use Rattle.zoning.specs.Holding.{AreCourses, AreHolding, AreNear, AreTallies, IsOutside, IsTallied, course_with, held, holds_with}
 use Rattle.zoning.specs.Stays.{IsInZone}
 use Rattle.zoning.specs.declared.holding.Courses.{Courses}
 use Rattle.zoning.specs.declared.holding.Near.{Near}
@@ -116,16 +117,16 @@ are_holding predicate rings period legs near tallies courses features told_all o
     all_held : List ℕ
     all_held = held predicate found tallies.by_feature.entries
 
-    at_feature : (f : ℕ) (o : Option Tally) → IsTallied period o (feature_legs f legs) → IsTrue (told_at predicate found f o) ↔ HoldsIn Inside predicate (feature_legs f legs) period
+    at_feature : (f : ℕ) (o : Option Tally) → IsTallied period o (legs_of f legs) → IsTrue (told_at predicate found f o) ↔ HoldsIn Inside predicate (legs_of f legs) period
     at_feature f None none = (
       λ t. absurd (false≢true t),
       λ h. absurd (none_holds predicate Inside period (subst (λ (l : List LegView). HoldsIn Inside predicate l period) none h)),
     )
     at_feature f (Some tally) tallied =
-        told predicate (course_with tally (found f)) (feature_legs f legs) Inside period
-        (course_is_with Inside period (feature_legs f legs) (feature_legs f near) (near_of (IsOutside Inside period) f legs near out) tally (found f) tallied (told_near f))
+        told predicate (course_with tally (found f)) (legs_of f legs) Inside period
+        (course_is_with Inside period (legs_of f legs) (legs_of f near) (near_of (IsOutside Inside period) f legs near out) tally (found f) tallied (told_near f))
 
-    exact : (f : ℕ) → Contains all_held f ↔ HoldsIn Inside predicate (feature_legs f legs) period
+    exact : (f : ℕ) → Contains all_held f ↔ HoldsIn Inside predicate (legs_of f legs) period
     exact f =
         let has = held_has predicate found f tallies.by_feature.entries sorted in
         let holds = at_feature f (get nat_cmp tallies.by_feature f) (told_all f) in (
@@ -142,8 +143,8 @@ ever_holding rings period legs near features out h = record { rising = h.rising;
     May : LegView → Type 0
     May leg = IsOutside (IsInZone rings) period leg
 
-    exact : (f : ℕ) → Contains features f ↔ HoldsIn (IsInZone rings) Ever (feature_legs f legs) period
+    exact : (f : ℕ) → Contains features f ↔ HoldsIn (IsInZone rings) Ever (legs_of f legs) period
     exact f =
-        let same = ever_same (IsInZone rings) period May (λ leg may. may.never) (feature_legs f legs) (feature_legs f near) (near_of May f legs near out) in
+        let same = ever_same (IsInZone rings) period May (λ leg may. may.never) (legs_of f legs) (legs_of f near) (near_of May f legs near out) in
         let is = h.exact f in
         (λ some. same.0 (is.0 some), λ holds. is.1 (same.1 holds))

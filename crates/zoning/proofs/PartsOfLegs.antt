@@ -3,7 +3,7 @@ use Rattle.std.proofs.Common.{ℕ, ap, sym, refl, subst, Bool, true, false, cond
 use Rattle.std.specs.Prelude.{◌==◌, filter}
 use Rattle.legs.specs.Legs.{LegView}
 use Rattle.legs.specs.Sieves.{LeavesOut}
-use Rattle.zoning.specs.Holding.{feature_legs}
+use Rattle.legs.specs.Index.{legs_of}
 
 module _ (May : LegView → Type 0) where
   filter_out : (p : LegView → Bool) (all near : List LegView) → LeavesOut May all near → LeavesOut May (filter p all) (filter p near)
@@ -19,5 +19,5 @@ module _ (May : LegView → Type 0) where
       by true rest = inr (h.0, rest)
       by false rest = rest
 
-  pub near_of : (f : ℕ) (all near : List LegView) → LeavesOut May all near → LeavesOut May (feature_legs f all) (feature_legs f near)
+  pub near_of : (f : ℕ) (all near : List LegView) → LeavesOut May all near → LeavesOut May (legs_of f all) (legs_of f near)
   near_of f all near h = filter_out (λ (leg : LegView). leg.feature == f) all near h

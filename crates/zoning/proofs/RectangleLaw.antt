@@ -8,18 +8,22 @@ use Rattle.timebase.specs.Period.{PeriodView}
 use Rattle.legs.specs.Boxes.{IsRect, RectView}
 use Rattle.legs.specs.Legs.{IsMomentOf, LegView}
 use Rattle.clipping.specs.Inside.{IsInside, duration}
-use Rattle.zones.specs.Boxes.{BoxView, IsInBox, IsOff}
 use Rattle.zones.specs.Edges.{across, along, either, is_between_by, is_crossed, is_on_edge}
 use Rattle.zones.specs.Places.{Corner, Edge, Point}
 use Rattle.zones.specs.Zones.{in_zone, is_odd, is_on_some, zone_edges}
 use Rattle.zones.proofs.EdgeLemmas.{between_by, crossed_from, gt_by, int_cmp_equal, int_cmp_less, le_by, on_edge_from}
-use Rattle.zones.proofs.OffBox.{off_box}
+use Rattle.zones.proofs.OffBox.{BoxView, IsInBox, IsOff, off_box}
 use Rattle.zones.proofs.Orders.{scale}
 use Rattle.zones.proofs.Pieces.{times_difference}
 use Rattle.zones.proofs.Products.{scale_strictly}
-use Rattle.zoning.specs.Rectangles.{ring_of}
 use Rattle.zoning.specs.Stays.{AreStays, IsInAStay, IsInZone, place_of}
 use Rattle.zoning.specs.declared.stay.Stay.{Stay}
+
+-- the ring of a rectangle
+abbrev pub ring_of : RectView → List Corner
+ring_of rect =
+    record { x = rect.x_min; y = rect.y_min } ∷ record { x = rect.x_max; y = rect.y_min }
+    ∷ record { x = rect.x_max; y = rect.y_max } ∷ record { x = rect.x_min; y = rect.y_max } ∷ []
 
 -- the point is in the rectangle, edges included
 pub record IsIn (rect : RectView) (p : Point) : Type 0 where

@@ -15,31 +15,32 @@ use Rattle.predicates.specs.Courses.{IsCourse}
 use Rattle.predicates.specs.declared.courses.Course.{Course}
 use Rattle.predicates.proofs.CourseLemmas.{then_course}
 use Rattle.predicates.proofs.ListLemmas.{find-reverse-append}
-use Rattle.zoning.specs.Holding.{IsCounted, IsNear, IsNearOf, IsTallied, IsTallyOf, feature_legs, near_with, tally_with}
+use Rattle.legs.specs.Index.{legs_of}
+use Rattle.zoning.specs.Holding.{IsCounted, IsNear, IsNearOf, IsTallied, IsTallyOf, near_with, tally_with}
 use Rattle.zoning.specs.declared.holding.Near.{Near}
 use Rattle.zoning.specs.declared.holding.Tally.{Tally}
 
 -- what is so of each feature is so with a leg more
 module _ {V : Type 0} (R : Option V → List LegView → Type 0) where
-  pub maps_more : (before after : ℕ → Option V) (legs : List LegView) (leg : LegView) (v : V) → ((f : ℕ) → R (before f) (feature_legs f legs))
+  pub maps_more : (before after : ℕ → Option V) (legs : List LegView) (leg : LegView) (v : V) → ((f : ℕ) → R (before f) (legs_of f legs))
       → ((f : ℕ) → after f ≡ cond (is_at (nat_cmp leg.feature) f) (Some v) (before f))
-      → R (Some v) (feature_legs leg.feature legs ++ leg ∷ []) → (f : ℕ) → R (after f) (feature_legs f (legs ++ leg ∷ []))
+      → R (Some v) (legs_of leg.feature legs ++ leg ∷ []) → (f : ℕ) → R (after f) (legs_of f (legs ++ leg ∷ []))
   maps_more before after legs leg v so_far put new f = by (leg.feature == f) refl
     where
-      parts : feature_legs f (legs ++ leg ∷ []) ≡ feature_legs f legs ++ cond (leg.feature == f) (leg ∷ []) []
+      parts : legs_of f (legs ++ leg ∷ []) ≡ legs_of f legs ++ cond (leg.feature == f) (leg ∷ []) []
       parts = filter-append (λ (leg : LegView). leg.feature == f) legs (leg ∷ [])
 
-      by : (b : Bool) → (leg.feature == f) ≡ b → R (after f) (feature_legs f (legs ++ leg ∷ []))
+      by : (b : Bool) → (leg.feature == f) ≡ b → R (after f) (legs_of f (legs ++ leg ∷ []))
       by true e =
           let same : leg.feature ≡ f = eqb-true leg.feature f e in
           let a : after f ≡ Some v = put f ∙ ap (λ (t : Bool). cond t (Some v) (before f)) (same_key leg.feature f ∙ e) in
-          let l : feature_legs f (legs ++ leg ∷ []) ≡ feature_legs f legs ++ leg ∷ [] = parts ∙ ap (λ (t : Bool). feature_legs f legs ++ cond t (leg ∷ []) []) e in
-          subst (λ (o : Option V). R o (feature_legs f (legs ++ leg ∷ []))) (sym a)
-          (subst (λ (l : List LegView). R (Some v) l) (sym l) (subst (λ (g : ℕ). R (Some v) (feature_legs g legs ++ leg ∷ [])) same new))
+          let l : legs_of f (legs ++ leg ∷ []) ≡ legs_of f legs ++ leg ∷ [] = parts ∙ ap (λ (t : Bool). legs_of f legs ++ cond t (leg ∷ []) []) e in
+          subst (λ (o : Option V). R o (legs_of f (legs ++ leg ∷ []))) (sym a)
+          (subst (λ (l : List LegView). R (Some v) l) (sym l) (subst (λ (g : ℕ). R (Some v) (legs_of g legs ++ leg ∷ [])) same new))
       by false e =
           let a : after f ≡ before f = put f ∙ ap (λ (t : Bool). cond t (Some v) (before f)) (same_key leg.feature f ∙ e) in
-          let l : feature_legs f (legs ++ leg ∷ []) ≡ feature_legs f legs = parts ∙ ap (λ (t : Bool). feature_legs f legs ++ cond t (leg ∷ []) []) e ∙ append-nil (feature_legs f legs) in
-          subst (λ (o : Option V). R o (feature_legs f (legs ++ leg ∷ []))) (sym a) (subst (λ (l : List LegView). R (before f) l) (sym l) (so_far f))
+          let l : legs_of f (legs ++ leg ∷ []) ≡ legs_of f legs = parts ∙ ap (λ (t : Bool). legs_of f legs ++ cond t (leg ∷ []) []) e ∙ append-nil (legs_of f legs) in
+          subst (λ (o : Option V). R o (legs_of f (legs ++ leg ∷ []))) (sym a) (subst (λ (l : List LegView). R (before f) l) (sym l) (so_far f))
 
 -- the counts
 pub counted_with : (o : Option Tally) (legs : List LegView) (leg : LegView) → IsCounted o legs → IsCounted (Some (tally_with o leg)) (legs ++ leg ∷ [])
@@ -62,31 +63,31 @@ filter_short p (leg ∷ legs) = by (p leg) (filter_short p legs)
     by false h = omega (arith, h)
 
 -- a count is no more than the legs so far
-few : (f i n : ℕ) (legs : List LegView) (count : ℕ) → i < length legs → n ≡ length legs → count ≡ length (feature_legs f (take i legs)) → count < n
+few : (f i n : ℕ) (legs : List LegView) (count : ℕ) → i < length legs → n ≡ length legs → count ≡ length (legs_of f (take i legs)) → count < n
 few f i n legs count within is e =
     let short = filter_short (λ (leg : LegView). leg.feature == f) (take i legs) in
     let some = length-take-le i legs (omega (arith, within)) in
     omega (arith, within, is, e, short, some)
 
-pub few_legs : (o p : Option Tally) (f i n : ℕ) (legs : List LegView) → i < length legs → n ≡ length legs → IsCounted o (feature_legs f (take i legs)) → p ≡ o → IfSome p (λ tally. tally.legs < n)
+pub few_legs : (o p : Option Tally) (f i n : ℕ) (legs : List LegView) → i < length legs → n ≡ length legs → IsCounted o (legs_of f (take i legs)) → p ≡ o → IfSome p (λ tally. tally.legs < n)
 few_legs o p f i n legs within is counted same = subst (λ (q : Option Tally). IfSome q (λ tally. tally.legs < n)) (sym same) (by o counted)
   where
-    by : (o : Option Tally) → IsCounted o (feature_legs f (take i legs)) → IfSome o (λ tally. tally.legs < n)
+    by : (o : Option Tally) → IsCounted o (legs_of f (take i legs)) → IfSome o (λ tally. tally.legs < n)
     by None e = tt
     by (Some tally) e = few f i n legs tally.legs within is e
 
-pub few_near : (o p : Option Near) (f i n : ℕ) (legs : List LegView) → i < length legs → n ≡ length legs → IsNearCounted o (feature_legs f (take i legs)) → p ≡ o → IfSome p (λ near. near.tally.legs < n)
+pub few_near : (o p : Option Near) (f i n : ℕ) (legs : List LegView) → i < length legs → n ≡ length legs → IsNearCounted o (legs_of f (take i legs)) → p ≡ o → IfSome p (λ near. near.tally.legs < n)
 few_near o p f i n legs within is counted same = subst (λ (q : Option Near). IfSome q (λ near. near.tally.legs < n)) (sym same) (by o counted)
   where
-    by : (o : Option Near) → IsNearCounted o (feature_legs f (take i legs)) → IfSome o (λ near. near.tally.legs < n)
+    by : (o : Option Near) → IsNearCounted o (legs_of f (take i legs)) → IfSome o (λ near. near.tally.legs < n)
     by None e = tt
     by (Some near) e = few f i n legs near.tally.legs within is e
 
 -- one leg more of a list
-pub at_one_more : (R : ℕ → List LegView → Type 0) (legs : List LegView) (i : ℕ) (leg : LegView) → i < length legs → leg ≡ get_or legs i leg → ((f : ℕ) → R f (feature_legs f (take i legs ++ leg ∷ [])))
-    → (f : ℕ) → R f (feature_legs f (take (i + 1) legs))
+pub at_one_more : (R : ℕ → List LegView → Type 0) (legs : List LegView) (i : ℕ) (leg : LegView) → i < length legs → leg ≡ get_or legs i leg → ((f : ℕ) → R f (legs_of f (take i legs ++ leg ∷ [])))
+    → (f : ℕ) → R f (legs_of f (take (i + 1) legs))
 at_one_more R legs i leg within is h = λ f.
-    subst (λ (l : List LegView). R f (feature_legs f l)) (sym (take_more legs i leg within ∙ ap (λ (one : LegView). take i legs ++ one ∷ []) (sym is))) (h f)
+    subst (λ (l : List LegView). R f (legs_of f l)) (sym (take_more legs i leg within ∙ ap (λ (one : LegView). take i legs ++ one ∷ []) (sym is))) (h f)
 
 module _ (period : PeriodView) where
   abbrev p : LegView → Bool

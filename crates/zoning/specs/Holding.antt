@@ -5,6 +5,7 @@ use Rattle.std.specs.List.Sorted.{IsStrictlySortedBy}
 use Rattle.std.specs.Ordering.{int_eq, nat_cmp}
 use Rattle.timebase.specs.Period.{PeriodView}
 use Rattle.legs.specs.Legs.{LegView, HasMoment}
+use Rattle.legs.specs.Index.{legs_of}
 use Rattle.legs.specs.Sieves.{LeavesOut, first_live, last_live}
 use Rattle.clipping.specs.Inside.{HasMomentIn}
 use Rattle.predicates.specs.Courses.{IsCourse, outside_course, tells, then_of}
@@ -18,16 +19,12 @@ use Rattle.zoning.specs.declared.holding.Near.{Near}
 use Rattle.zoning.specs.declared.holding.Tallies.{Tallies}
 use Rattle.zoning.specs.declared.holding.Tally.{Tally}
 
--- the legs of a feature, in their order
-abbrev pub feature_legs : ℕ → List LegView → List LegView
-feature_legs feature legs = filter (λ leg. leg.feature == feature) legs
-
 -- in rising order, exactly the features of which the predicate holds with the zone of these rings over the period
 pub record AreHolding (predicate : Predicate) (rings : List (List Corner)) (legs : List LegView) (period : PeriodView)
     (features : List ℕ) : Type 0 where
   pub rising : IsStrictlySortedBy nat_cmp features
   pub exact :
-      (feature : ℕ) → Contains features feature ↔ HoldsIn (IsInZone rings) predicate (feature_legs feature legs) period
+      (feature : ℕ) → Contains features feature ↔ HoldsIn (IsInZone rings) predicate (legs_of feature legs) period
 
 -- the leg has a moment in the period, and is inside at none of them
 pub record IsOutside (Inside : LegView → ℤ → ℕ → Type 0) (period : PeriodView) (leg : LegView) : Type 0 where
@@ -38,7 +35,7 @@ pub record IsOutside (Inside : LegView → ℤ → ℕ → Type 0) (period : Per
 abbrev pub AreNear : List (List Corner) → PeriodView → (legs near : List LegView) → Type 0
 AreNear rings period legs near = LeavesOut (IsOutside (IsInZone rings) period) legs near
 
--- how many legs of a feature have a moment in the period, and the first and the last of them
+-- how many legs there are, and the first and the last of them that has a moment in the period
 pub record IsTallyOf (period : PeriodView) (tally : Tally) (legs : List LegView) : Type 0 where
   pub count : tally.legs ≡ length legs
   pub first : first_live period legs ≡ Some tally.first
@@ -52,7 +49,7 @@ IsTallied period (Some tally) legs = IsTallyOf period tally legs
 -- of each feature the tally of its legs
 abbrev pub AreTallies : PeriodView → List LegView → Tallies → Type 0
 AreTallies period legs tallies =
-    (feature : ℕ) → IsTallied period (get nat_cmp tallies.by_feature feature) (feature_legs feature legs)
+    (feature : ℕ) → IsTallied period (get nat_cmp tallies.by_feature feature) (legs_of feature legs)
 
 -- the tally and the course of legs of a feature
 pub record IsNearOf (Inside : LegView → ℤ → ℕ → Type 0) (period : PeriodView) (near : Near)
@@ -68,7 +65,7 @@ IsNear Inside period (Some near) legs = IsNearOf Inside period near legs
 -- of each feature the tally and the course of its legs
 abbrev pub AreCourses : List (List Corner) → PeriodView → List LegView → Courses → Type 0
 AreCourses rings period legs courses =
-    (feature : ℕ) → IsNear (IsInZone rings) period (get nat_cmp courses.by_feature feature) (feature_legs feature legs)
+    (feature : ℕ) → IsNear (IsInZone rings) period (get nat_cmp courses.by_feature feature) (legs_of feature legs)
 
 -- Helpers of private functions.
 -- how many legs a tally has

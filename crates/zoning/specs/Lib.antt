@@ -7,4 +7,3 @@ pub mod Visits
 pub mod Courses
 pub mod Holding
 pub mod Sides
-pub mod Rectangles

@@ -2,7 +2,8 @@ use Rattle.std.proofs.Common.{ℕ, rules, length, refl, ◌≡◌, ◌∙◌, sy
 use Rattle.std.specs.BTreeMap.{get, is_at}
 use Rattle.std.specs.Ordering.{nat_cmp}
 use Rattle.legs.specs.Legs.{LegView, is_live}
-use Rattle.zoning.specs.Holding.{IsNear, feature_legs, near_with}
+use Rattle.legs.specs.Index.{legs_of}
+use Rattle.zoning.specs.Holding.{IsNear, near_with}
 use Rattle.zoning.specs.Stays.{IsInZone}
 use Rattle.zoning.specs.declared.holding.Near.{Near}
 use Rattle.zoning.proofs.TallyLemmas.{IsNearCounted, at_one_more, few_near, maps_more, near_counted_with, near_is_with}
@@ -29,10 +30,10 @@ loop-leg-preserved c =
     record {
       counted = at_one_more (λ f l. IsNearCounted (after f) l) legs i leg c.loop-leg-test.true c.leg-item.is
           (maps_more IsNearCounted before after (take i legs) leg (near_with (before leg.feature) leg course) c.loop-leg.invariant.counted put
-          (near_counted_with (before leg.feature) (feature_legs leg.feature (take i legs)) leg course (c.loop-leg.invariant.counted leg.feature)));
+          (near_counted_with (before leg.feature) (legs_of leg.feature (take i legs)) leg course (c.loop-leg.invariant.counted leg.feature)));
       told = λ live.
           at_one_more (λ f l. IsNear (IsInZone rings) period (after f) l) legs i leg c.loop-leg-test.true c.leg-item.is
           (maps_more (IsNear (IsInZone rings) period) before after (take i legs) leg (near_with (before leg.feature) leg course) (c.loop-leg.invariant.told live) put
-          (near_is_with period (IsInZone rings) (before leg.feature) (feature_legs leg.feature (take i legs)) leg course (subst (λ (l : LegView). is_live period l ≡ true) (sym c.leg-item.is) (live i leg c.loop-leg-test.true))
+          (near_is_with period (IsInZone rings) (before leg.feature) (legs_of leg.feature (take i legs)) leg course (subst (λ (l : LegView). is_live period l ≡ true) (sym c.leg-item.is) (live i leg c.loop-leg-test.true))
           c.in_ok-course.ensures (c.loop-leg.invariant.told live leg.feature)));
     }

@@ -2,7 +2,8 @@ use Rattle.std.proofs.Common.{ℕ, rules, length, refl, ◌≡◌, ◌∙◌, sy
 use Rattle.std.specs.BTreeMap.{get, is_at}
 use Rattle.std.specs.Ordering.{nat_cmp}
 use Rattle.legs.specs.Legs.{LegView, is_live}
-use Rattle.zoning.specs.Holding.{IsCounted, IsTallied, feature_legs, tally_with}
+use Rattle.legs.specs.Index.{legs_of}
+use Rattle.zoning.specs.Holding.{IsCounted, IsTallied, tally_with}
 use Rattle.zoning.specs.declared.holding.Tally.{Tally}
 use Rattle.zoning.proofs.TallyLemmas.{at_one_more, counted_with, few_legs, maps_more, tallied_with}
 use Rattle.zoning.proofs.holding.Tallies.of.Goals as goal
@@ -26,9 +27,9 @@ loop-leg-preserved c =
     record {
       counted = at_one_more (λ f l. IsCounted (after f) l) legs i leg c.loop-leg-test.true c.leg-item.is
           (maps_more IsCounted before after (take i legs) leg (tally_with (before leg.feature) leg) c.loop-leg.invariant.counted put
-          (counted_with (before leg.feature) (feature_legs leg.feature (take i legs)) leg (c.loop-leg.invariant.counted leg.feature)));
+          (counted_with (before leg.feature) (legs_of leg.feature (take i legs)) leg (c.loop-leg.invariant.counted leg.feature)));
       tallied = λ period live.
           at_one_more (λ f l. IsTallied period (after f) l) legs i leg c.loop-leg-test.true c.leg-item.is
           (maps_more (IsTallied period) before after (take i legs) leg (tally_with (before leg.feature) leg) (c.loop-leg.invariant.tallied period live) put
-          (tallied_with period (before leg.feature) (feature_legs leg.feature (take i legs)) leg (subst (λ (l : LegView). is_live period l ≡ true) (sym c.leg-item.is) (live i leg c.loop-leg-test.true)) (c.loop-leg.invariant.tallied period live leg.feature)));
+          (tallied_with period (before leg.feature) (legs_of leg.feature (take i legs)) leg (subst (λ (l : LegView). is_live period l ≡ true) (sym c.leg-item.is) (live i leg c.loop-leg-test.true)) (c.loop-leg.invariant.tallied period live leg.feature)));
     }
