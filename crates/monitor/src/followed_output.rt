@@ -2,8 +2,8 @@
 ghost use Rattle.std.specs.Prelude.{◌≡◌};
 
 use crate::answer::Answer;
-use crate::run_notes::Notes;
 use crate::progress::Progress;
+use crate::run_notes::Notes;
 use outputs::{Output, OutputFault};
 use std::io::Eprint;
 use std::rt::Clock;

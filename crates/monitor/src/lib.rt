@@ -4,11 +4,11 @@
 mod answer;
 mod followed_output;
 mod noted_store;
-mod run_notes;
 mod progress;
+mod run_notes;
 
 pub use answer::Answer;
 pub use followed_output::Followed;
 pub use noted_store::Noted;
-pub use run_notes::{LineSpan, Note, Notes, What};
 pub use progress::{Progress, Told};
+pub use run_notes::{LineSpan, Note, Notes, What};

@@ -1,7 +1,6 @@
 //! Why a file is refused.
 use crate::codes::Code;
 use crate::fields::field_at;
-use crate::refused_record::{Found, find, heads_of, is_header};
 use crate::header_reasons::{
     early_end, early_record, other_columns, other_reference, second, short_bounds, wrong_columns,
     wrong_dimension, wrong_start, wrong_unit,
@@ -12,6 +11,7 @@ use crate::record_reasons::{
     wrong_coordinate, wrong_fields, wrong_name, wrong_positions, wrong_time,
 };
 use crate::refusal::Refusal;
+use crate::refused_record::{Found, find, heads_of, is_header};
 use crate::shown_value::Shown;
 use std::alloc::{AllocError, Global};
 

@@ -1,11 +1,11 @@
 //! Why a header line of a file is refused.
 use crate::codes::Code;
 use crate::fields::field_at;
-use crate::refused_record::{Found, Heads, column_count, has_tag};
+use crate::foreign_files::source_of;
 use crate::known_of_store::Known;
 use crate::line_reasons::instant_fault;
+use crate::refused_record::{Found, Heads, column_count, has_tag};
 use crate::shown_value::Shown;
-use crate::foreign_files::source_of;
 use legs::BookHead;
 use mfcsv::{Column, Dimension};
 use std::alloc::{AllocError, Global};

@@ -4,7 +4,7 @@
 mod codes;
 mod fields;
 mod file_reasons;
-mod refused_record;
+mod foreign_files;
 mod header_reasons;
 mod known_of_store;
 mod line_reasons;
@@ -12,14 +12,14 @@ mod moments;
 mod reach;
 mod record_reasons;
 mod refusal;
+mod refused_record;
 mod shown_value;
-mod foreign_files;
 
 pub use codes::Code;
 pub use file_reasons::file_words;
+pub use foreign_files::{source_words, zone_source_words};
 pub use known_of_store::Known;
 pub use line_reasons::{is_command, line_words};
 pub use reach::{Area, reach_words};
 pub use refusal::Refusal;
 pub use shown_value::{Shown, is_seen};
-pub use foreign_files::{source_words, zone_source_words};

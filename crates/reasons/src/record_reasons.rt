@@ -1,10 +1,10 @@
 //! Why a data record of a file is refused.
 use crate::codes::Code;
 use crate::fields::{field_at, word_count};
-use crate::refused_record::{Bounds, Found};
 use crate::known_of_store::Known;
 use crate::line_reasons::{coordinate_fault, instant_fault};
 use crate::moments::{beside, instant_of};
+use crate::refused_record::{Bounds, Found};
 use crate::shown_value::Shown;
 use csv::ByteRecord;
 use mfcsv::{Record, read_file};

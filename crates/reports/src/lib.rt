@@ -13,8 +13,8 @@ mod zones_text;
 
 pub use gaps_text::push_gap;
 pub use headings::{
-    Heading, OF_FEATURE, OF_RECTANGLE, OF_ZONE, push_columns, push_dwell_fields, push_feature_fields,
-    push_gap_fields, push_heading,
+    Heading, OF_FEATURE, OF_RECTANGLE, OF_ZONE, push_columns, push_dwell_fields,
+    push_feature_fields, push_gap_fields, push_heading,
 };
 pub use info_json::push_json;
 pub use info_text::{StoreReport, push_lines};

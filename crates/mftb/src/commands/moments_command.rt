@@ -63,7 +63,12 @@ impl Asked {
             OF_FEATURE
         };
         match self.rows {
-            RowKind::Legs(ValueMode::Without) => Ok(push_heading(text, first, dimension, Heading::Stays)?),
+            RowKind::Legs(ValueMode::Without) => Ok(push_heading(
+                text,
+                first,
+                dimension,
+                Heading::Stays,
+            )?),
             RowKind::Legs(ValueMode::With) => {
                 push_heading(text, first, dimension, Heading::Stays)?;
                 push_columns(self.alloc, text, database)

@@ -17,7 +17,11 @@ fn remove<'a, R: Files>(rt: &R, name: &str) -> Result<(), Fault<'a>> {
 }
 
 /// Takes away the copy, if there is one, where the lock that is held says that no other run works on the store.
-pub(crate) fn clear<'a, R: Files<File = File>>(rt: &R, names: &Names, lock: &Held) -> Result<(), Fault<'a>> {
+pub(crate) fn clear<'a, R: Files<File = File>>(
+    rt: &R,
+    names: &Names,
+    lock: &Held,
+) -> Result<(), Fault<'a>> {
     if lock.is_locked {
         return remove(rt, names.copy.as_str());
     }
