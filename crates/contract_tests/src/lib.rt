@@ -31,3 +31,4 @@ mod sent;
 mod stays;
 mod values;
 mod writing;
+mod zone_stays;
