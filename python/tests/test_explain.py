@@ -318,7 +318,7 @@ class Explained(Case):
         self.assertIn("line 2: unknown command 'co\ufffdunt'\n", said)
 
     def test_a_last_leg_that_ended_otherwise_then(self):
-        """Which end refused a file is said where no leg came behind it."""
+        """The end of the last leg is named only if the run loaded no leg after the refused file."""
         self.put("first.csv", HEAD + "a,0,10,0 0 10 4\n")
         self.put("late.csv", HEAD + "a,5,11,0 0 1 1\n")
         self.put("more.csv", HEAD + "a,20,30,0 0 1 1\n")
