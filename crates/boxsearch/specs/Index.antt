@@ -36,11 +36,11 @@ abbrev pub legs_by : (BoxView → Bool) → IndexView → List LegView
 legs_by meets i =
     if i.cache.store.is_faithful then found_legs meets (pages_of_cache i.cache) i.tree else []
 
--- the legs that its pages say
+-- the legs that its pages say; none where its store is not faithful
 abbrev pub content : IndexView → List LegView
 content i = legs_by (λ _. true) i
 
--- what its pages say to a question, and which page says nothing to it; anything where its store is not faithful
+-- what its pages say to a question; anything where its store is not faithful
 abbrev pub tells : IndexView → Question → List LegView → Type 0
 tells i question legs =
     IsTrue i.cache.store.is_faithful → Tells (pages_of_cache i.cache) i.tree i.places question legs

@@ -22,7 +22,7 @@ unsigned_text text = if has_sign text then drop 1 text else text
 abbrev pub is_point : ℕ → Bool
 is_point c = c == 46
 
--- what stands before the first point, and what stands behind it
+-- what stands before the first point
 abbrev pub whole_part : List ℕ → List ℕ
 whole_part text = before_first is_point (unsigned_text text)
 

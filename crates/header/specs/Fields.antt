@@ -43,7 +43,7 @@ pub record SaysLimits (bytes : List ℕ) (limits : LimitsView) : Type 0 where
   pub legs : part 16 8 bytes ≡ big_bytes 8 limits.legs
   pub features : part 24 8 bytes ≡ big_bytes 8 limits.features
 
--- the page of the tree's root that a header names, and the first page of the catalogue's text, as numbers
+-- the page of the tree's root that a header names
 abbrev pub root_of : Payload → ℕ
 root_of payload = number_at 4 32 payload.bytes
 

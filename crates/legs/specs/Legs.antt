@@ -113,11 +113,11 @@ leg_of ordinal feature row step =
       row = row;
     }
 
--- the least and the greatest moment of a leg in a period, where it has one
+-- the first moment of a leg in a period, where it has one: the later of the two starts
 abbrev pub first_moment : LegView → PeriodView → ℤ
 first_moment leg period = int_max leg.t0 period.start
 
--- the last moment of a leg in a period: the earlier of the two ends
+-- the last moment of a leg in a period, where it has one: the earlier of the two ends
 abbrev pub last_moment : LegView → PeriodView → ℤ
 last_moment leg period = int_min leg.t1 period.end
 

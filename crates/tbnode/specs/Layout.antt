@@ -73,7 +73,7 @@ entry_bytes entry =
     ++ (signed_bytes entry.bounds.y_max
     ++ signed_bytes entry.bounds.t_max))))))
 
--- the box that 56 bytes say, and the entry
+-- the box that 56 bytes say
 unfoldable pub bounds_from_bytes : List ℕ → BoxView
 bounds_from_bytes bytes = record {
   x_min = signed_at 8 bytes;

@@ -22,7 +22,7 @@ use Rattle.tbtree.specs.Nodes.{Pages, HasLastLeaf}
 use Rattle.tbtree.specs.Stands.{head_or_zero, page_at, pages_of, owner, marks, leaf_of, PlaceStands, NumbersStand, LeavesStand, TreeStands}
 use Rattle.tbtree.specs.Insert.{NamesLast}
 use Rattle.tbtree.specs.Way.{Hanging, Hung, Hangs}
-use Rattle.tbtree.specs.Insert.{Grows, Begins, IsPlace, Inserts}
+use Rattle.tbtree.specs.Insert.{Grows, Begins, IsPlace, Stands}
 use Rattle.tbtree.specs.Joining.{AllJoined, Fills, Holds, InsertCall, JoinsAll}
 use Rattle.legs.specs.Legs.{LegView}
 use Rattle.tbtree.specs.declared.tree.Place.{Place}
@@ -41,6 +41,26 @@ use Rattle.tbtree.specs.Faults.{GivesWrite, MayRefuseWrite}
 use Rattle.tbtree.specs.declared.fault.TreeFault.{TreeFault}
 use Rattle.tbtree.specs.declared.tree.Top.{Top}
 use Rattle.std.proofs.lemmas.Nat.{mul-le}
+
+-- they stand for the legs with y at the end, and each feature has its place
+pub record Inserted (nodes : Pages LegView BoxView) (old tree : TbTree) (legs : List LegView)
+    (old_pages : ℕ → List ℕ) (y : LegView) (place : Place) : Type 0 where
+  pub pages : ℕ → List ℕ
+  pub stands : Stands nodes tree (legs ++ y ∷ []) pages
+  pub placed : IsPlace tree (legs ++ y ∷ []) pages y.feature place
+  pub others : (f : ℕ) (other : Place) → f ≢ y.feature → IsPlace old legs old_pages f other
+      → IsPlace tree (legs ++ y ∷ []) pages f other
+
+-- pages that stand for legs stand for them with a leg more that may follow, or a refusal that good
+-- pages allow
+abbrev pub Inserts : (old new : Pages LegView BoxView) (tree tree' : TbTree) (place place' : Place)
+    (y : LegView) (result : Result (Unit {0}) TreeFault) → Type 0
+Inserts old new tree tree' place place' y result =
+    (legs : List LegView) (pages : ℕ → List ℕ)
+    → Stands old tree legs pages
+    → IsPlace tree legs pages y.feature place
+    → CanFollow legs y
+    → GivesWrite result (λ _. Inserted new tree tree' legs pages y place')
 
 module _ {L B : Type 0} (s : Boxes L B) (feature : L → ℕ) (inner levels root : ℕ) where
   -- a leaf that has been begun is to be hung

@@ -1,10 +1,10 @@
 -- A tree stands for a list of legs, and a leg more in it.
-use Rattle.std.specs.Prelude.{ℕ, ◌≡◌, ◌≢◌, ◌<◌, List, [], ◌∷◌, ◌++◌, set, true, length, slice_get, Some, Result}
+use Rattle.std.specs.Prelude.{ℕ, ◌≡◌, ◌<◌, List, [], ◌∷◌, ◌++◌, set, true, length, slice_get, Some, Result}
 use Rattle.legs.specs.Legs.{LegView}
 use Rattle.legs.specs.Boxes.{BoxView}
 use Rattle.legs.specs.Costs.{leg_feature, leaves_of}
 use Rattle.legs.specs.Hull.{Boxes, leg_boxes}
-use Rattle.legs.specs.Index.{CanFollow, CanFollowInTurn}
+use Rattle.legs.specs.Index.{CanFollowInTurn}
 use Rattle.tbtree.specs.Faults.{GivesWrite}
 use Rattle.tbtree.specs.Nodes.{Pages, LeafView, ALeaf, Adds, HasLastLeaf, Links}
 use Rattle.tbtree.specs.Payloads.{are_of_one_leaf}
@@ -47,26 +47,6 @@ pub record Stands (nodes : Pages LegView BoxView) (tree : TbTree) (legs : List L
 abbrev pub IsPlace : TbTree → List LegView → (ℕ → List ℕ) → ℕ → Place → Type 0
 IsPlace tree legs pages f place =
     PlaceStands leg_feature legs (marks leg_feature (leaves_of tree.shape legs) (pages 0)) f place
-
--- they stand for the legs with y at the end, and each feature has its place
-pub record Inserted (nodes : Pages LegView BoxView) (old tree : TbTree) (legs : List LegView)
-    (old_pages : ℕ → List ℕ) (y : LegView) (place : Place) : Type 0 where
-  pub pages : ℕ → List ℕ
-  pub stands : Stands nodes tree (legs ++ y ∷ []) pages
-  pub placed : IsPlace tree (legs ++ y ∷ []) pages y.feature place
-  pub others : (f : ℕ) (other : Place) → f ≢ y.feature → IsPlace old legs old_pages f other
-      → IsPlace tree (legs ++ y ∷ []) pages f other
-
--- pages that stand for legs stand for them with a leg more that may follow, or a refusal that good
--- pages allow
-abbrev pub Inserts : (old new : Pages LegView BoxView) (tree tree' : TbTree) (place place' : Place)
-    (y : LegView) (result : Result (Unit {0}) TreeFault) → Type 0
-Inserts old new tree tree' place place' y result =
-    (legs : List LegView) (pages : ℕ → List ℕ)
-    → Stands old tree legs pages
-    → IsPlace tree legs pages y.feature place
-    → CanFollow legs y
-    → GivesWrite result (λ _. Inserted new tree tree' legs pages y place')
 
 -- a leaf of ys may be begun behind the leaf last, where there is one
 pub record CanBegin (nodes : Pages LegView BoxView) (last : ℕ) (ys : List LegView) : Type 0 where

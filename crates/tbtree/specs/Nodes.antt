@@ -21,7 +21,7 @@ pub use Rattle.legs.specs.Nodes.{
   widened,
 }
 
--- the pages below an inner page, and their boxes
+-- the pages below an inner page
 abbrev pub children : {B : Type 0} → InnerView B → List ℕ
 children page = map (λ e. e.child) page.entries
 

@@ -17,7 +17,7 @@ year_place n = last_within days_of_years 19999 n
 abbrev pub year_at : ℕ → ℤ
 year_at n = pos (year_place n) -ℤ pos 10000
 
--- how many days of its year have passed, and how many whole months
+-- how many days of its year have passed
 abbrev pub day_in_year : ℕ → ℕ
 day_in_year n = n - days_of_years (year_place n)
 
@@ -25,7 +25,7 @@ day_in_year n = n - days_of_years (year_place n)
 unfoldable pub month_place : ℕ → ℕ
 month_place n = last_within (days_of_months (year_at n)) 11 (day_in_year n)
 
--- its month, and its day of the month, from 1
+-- its month, from 1
 abbrev pub month_at : ℕ → ℕ
 month_at n = month_place n + 1
 

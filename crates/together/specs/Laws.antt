@@ -21,7 +21,7 @@ use Rattle.trajdb.specs.Answers.{HoldsOfLeg, IsLineText, PicksFeatures, count_te
 use Rattle.together.specs.Told.{told, told_text, told_names_text}
 use Rattle.together.specs.Parts.{IsTold, own_legs, own_names}
 
--- the text of an answer says what is told of its legs, and the names of its features
+-- the text of an answer says what is told of its legs
 abbrev pub LegsText : Type 0
 LegsText = (book : Book) (legs : List LegView)
     → legs_text book legs ≡ told_text book.head (told book legs)

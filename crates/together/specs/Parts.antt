@@ -14,7 +14,7 @@ use Rattle.together.specs.Told.{all_told}
 abbrev pub is_in : (List ℕ → ℕ) → ℕ → List ℕ → Bool
 is_in f k name = f name == k
 
--- the names, the legs and the records of part k, in their order
+-- the names of part k, in their order
 abbrev pub own_names : (List ℕ → ℕ) → ℕ → List (List ℕ) → List (List ℕ)
 own_names f k names = filter (is_in f k) names
 

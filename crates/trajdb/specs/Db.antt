@@ -16,7 +16,7 @@ use Rattle.trajdb.specs.declared.Report.{Report}
 abbrev pub DbView : Type 0
 DbView = CoreView IndexView
 
--- its store, as its cache sees it; the shape of its tree; how many pages its cache holds at most, and counts
+-- its store, as its cache sees it
 abbrev pub store_of : DbView → Store
 store_of db = db.index.cache.store
 

@@ -27,7 +27,7 @@ abbrev pub named_below : Pages LegView BoxView → (root : ℕ) → ℕ → List
 named_below nodes root zero = root ∷ []
 named_below nodes root (suc n) = flat_map (named_by nodes) (named_below nodes root n)
 
--- the pages of leaves, and the least box that holds them
+-- the pages of leaves
 abbrev pub pages_of_leaves : List Met → List ℕ
 pages_of_leaves leaves = map (λ m. m.page) leaves
 

@@ -45,7 +45,7 @@ from_word between text = drop (prefix_len between text) text
 abbrev pub word_len : (ℕ → Bool) → List ℕ → ℕ
 word_len between text = prefix_len (λ c. not (between c)) text
 
--- the first word of a text that begins with one, and what stands behind it
+-- the first word of a text that begins with one
 abbrev pub first_word : (ℕ → Bool) → List ℕ → List ℕ
 first_word between text = take (word_len between text) text
 

@@ -16,7 +16,7 @@ use Rattle.writer.specs.declared.entry.Frame.{Frame}
 abbrev pub features_text : List (List ℕ) → List ℕ
 features_text names = flat_map (λ name. record_text (name ∷ [])) names
 
--- the x of both ends of all legs, the y, and the z
+-- the x of the two ends of all legs
 abbrev pub xs : List NamedLegView → List ℤ
 xs entries = flat_map (λ e. e.leg.x0 ∷ e.leg.x1 ∷ []) entries
 
@@ -33,7 +33,7 @@ abbrev pub first_or_zero : List ℤ → ℤ
 first_or_zero [] = pos 0
 first_or_zero (n ∷ ns) = n
 
--- the least and the greatest of numbers, 0 where there are none
+-- the least of numbers, 0 where there are none
 abbrev pub least : List ℤ → ℤ
 least ns = fold int_min (first_or_zero ns) ns
 

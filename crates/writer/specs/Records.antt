@@ -22,7 +22,7 @@ abbrev pub point_text : Dimension → Position → List ℕ
 point_text Two p = coord_text p.x ++ 32 ∷ [] ++ coord_text p.y
 point_text Three p = coord_text p.x ++ 32 ∷ [] ++ coord_text p.y ++ 32 ∷ [] ++ coord_text p.z
 
--- where a leg begins, and where it ends
+-- where a leg begins
 abbrev pub begin_of : LegView → Position
 begin_of leg = record { x = leg.x0; y = leg.y0; z = leg.z0 }
 
