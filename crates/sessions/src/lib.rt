@@ -25,7 +25,7 @@ pub use ended::Ended;
 pub use fault::{Fault, RectsFault};
 pub use folder::Folder;
 pub use folder_refusals::FolderRefusals;
-pub use migrating::migrate_and_close;
+pub use migrating::{Migrate, migrate_and_close};
 pub use on_copy::run_on_copy;
 pub use part::send_part;
 pub use part_folder::{PartFolder, put_parts};

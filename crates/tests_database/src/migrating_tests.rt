@@ -3,8 +3,8 @@ use crate::lasting_tests::{
     change, check, close, is_counted, is_said, opened, refused as not_opened,
 };
 use crate::version_1::version_1;
-use migration::Migrate;
 use pages::{Fuse, MemStore, PageStore};
+use sessions::Migrate;
 use std::alloc::Global;
 use std::hash::RandomState;
 use std::test::Fail;

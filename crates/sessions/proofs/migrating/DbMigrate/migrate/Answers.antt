@@ -3,7 +3,7 @@ use Rattle.std.proofs.lemmas.Bool.{true≢false}
 use Rattle.version1.specs.OldStore.{present_shape}
 use Rattle.trajdb.specs.Db.{HasPages}
 use Rattle.trajdb.proofs.LastingLemmas.{opened_book}
-use Rattle.migration.proofs.migrating.DbMigrate.migrate.Goals as goal
+use Rattle.sessions.proofs.migrating.DbMigrate.migrate.Goals as goal
 
 pub returns-in-Ok-clause-book : goal.returns-in-Ok-clause-book
 returns-in-Ok-clause-book g c = λ fa fb shape limits book h.

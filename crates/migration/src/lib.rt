@@ -1,6 +1,0 @@
-//! Migrates a database of version 1 of the format into a new one.
-#![tactic(auto)]
-
-mod migrating;
-
-pub use migrating::Migrate;
