@@ -1,6 +1,7 @@
 """The program, by the build without proofs: words in; the status, both outputs and the files out."""
 import fcntl
 import hashlib
+import os
 import resource
 import subprocess
 import time
@@ -344,6 +345,16 @@ class Program(Case):
         self.assertEqual((status, faults), (1, "mftb: cannot write none\n"))
         words = ["parts", "2", "whole.csv", ".", "--first", "1", "--count", "2"]
         self.assertEqual(self.answer(*words)[0], 2)
+
+    def test_a_terminal_is_told_why_a_part_is_not_written(self):
+        self.write("whole.csv", STANDARD)
+        ours, theirs = os.openpty()
+        ended = subprocess.run([BUILT, "parts", "2", "whole.csv", "none"], cwd=self.folder, stderr=theirs)
+        os.close(theirs)
+        with open(ours, "rb", buffering=0) as terminal:
+            said = terminal.read(1000).decode().splitlines()
+        self.assertEqual(ended.returncode, 1)
+        self.assertEqual(said, ["mftb: cannot write none", "mftb: none: there is no such file or folder"])
 
     def test_other_words_are_refused(self):
         status, out, faults = self.answer("chart", "store")

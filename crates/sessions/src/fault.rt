@@ -32,8 +32,8 @@ pub enum Fault<'a> {
     Open(OpenFault),
     /// The script or a file of that name could not be read, or is too long, and why.
     CannotRead(&'a str, Cause),
-    /// A file of a part could not be written into the folder of that name.
-    CannotWrite(&'a str),
+    /// A file of a part could not be written into the folder of that name, and why.
+    CannotWrite(&'a str, Cause),
     /// The file that a store was to be brought over into is there, and has bytes.
     NotEmpty,
     /// There is no part of that number among so many.
@@ -129,7 +129,7 @@ impl Display for Fault<'_> {
             Fault::Run(RunFault::Failed) => f.write_str("failed"),
             Fault::Run(RunFault::Output) => f.write_str("output"),
             Fault::CannotRead(name, _) => write!(f, "cannot read {name}"),
-            Fault::CannotWrite(name) => write!(f, "cannot write {name}"),
+            Fault::CannotWrite(name, _) => write!(f, "cannot write {name}"),
             Fault::NotEmpty => f.write_str("new store not empty"),
             Fault::NoPart(part, parts) => {
                 write!(f, "no part {part} of {parts}: parts are numbered from 0")

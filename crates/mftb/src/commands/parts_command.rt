@@ -3,7 +3,7 @@ ghost use Rattle.std.specs.Prelude.{◌<◌, ◌≤◌, ◌+◌, None, IfOk, OnO
 
 use arguments::Parts;
 use pages::Refusals;
-use sessions::{Fault, MOST_BYTES, PartFolder, put_parts, read_named};
+use sessions::{Cause, Fault, MOST_BYTES, PartFolder, put_parts, read_named};
 use std::alloc::{AllocError, Global};
 use std::fs::File;
 use std::io::Write;
@@ -18,6 +18,8 @@ struct SystemParts<'a, R: Files<File = File> + AllocGlobal> {
     folder: &'a str,
     /// How often it was refused to give a name.
     refusals: Refusals,
+    /// Why it was refused last.
+    cause: Cause,
 }
 
 /// Makes the file of a name, of those bytes.
@@ -37,6 +39,20 @@ fn put_file<R: Files<File = File>>(
     fs::rename(rt, beside, name)
 }
 
+/// Puts a file as `put_file` does. Where it is refused, no file is left beside that name.
+fn put_or_remove<R: Files<File = File>>(
+    rt: &R,
+    name: &str,
+    beside: &str,
+    bytes: &[u8],
+) -> io::Result<()> {
+    let answer = put_file(rt, name, beside, bytes);
+    if answer.is_err() {
+        let _ = fs::remove_file(rt, beside);
+    }
+    answer
+}
+
 /// The name of the file of a part in a folder.
 fn name_of(alloc: Global, folder: &str, part: u64) -> Result<String, AllocError> {
     format!(in alloc; "{folder}/part-{part}.csv")
@@ -52,11 +68,13 @@ impl<'a, R: Files<File = File> + AllocGlobal> PartFolder for SystemParts<'a, R> 
         let name = name_of(alloc, self.folder, part)?;
         let beside = format!(in alloc; "{name}.new")?;
         let (name, beside) = (name.as_str(), beside.as_str());
-        if put_file(self.rt, name, beside, text).is_ok() {
-            return Ok(());
+        match put_or_remove(self.rt, name, beside, text) {
+            Ok(()) => Ok(()),
+            Err(error) => {
+                self.cause = Cause::from(error.kind());
+                self.refusals.count(Err(RunFault::Output))
+            }
         }
-        let _ = fs::remove_file(self.rt, beside);
-        self.refusals.count(Err(RunFault::Output))
     }
 }
 
@@ -90,6 +108,7 @@ pub(crate) fn write_parts<'a, R: Files<File = File> + AllocGlobal>(
         rt,
         folder: task.folder,
         refusals: Refusals::none(),
+        cause: Cause::Other,
     };
     match put_parts(
         rt.alloc(),
@@ -100,7 +119,7 @@ pub(crate) fn write_parts<'a, R: Files<File = File> + AllocGlobal>(
         &bytes,
     ) {
         Ok(()) => Ok(()),
-        Err(RunFault::Output) => Err(Fault::CannotWrite(task.folder)),
+        Err(RunFault::Output) => Err(Fault::CannotWrite(task.folder, folder.cause)),
         Err(fault) => Err(Fault::Run(fault)),
     }
 }

@@ -178,7 +178,7 @@ fn tell_cause<R: rt::Files<File = File> + Eprint + AllocGlobal>(
     fault: &Fault,
 ) {
     match fault {
-        Fault::CannotRead(name, cause) => {
+        Fault::CannotRead(name, cause) | Fault::CannotWrite(name, cause) => {
             let name = Shown(name);
             let _ = eprintln!(rt; "mftb: {name}: {cause}");
         }
