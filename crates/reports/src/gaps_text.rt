@@ -1,26 +1,35 @@
 //! The texts of gaps: records of CSV.
-use crate::moments_text::{push_name, push_position};
-use fixedpoint::{Offset, push_offset};
+use crate::draft::Draft;
+use crate::moments_text::push_name;
 use mfcsv::Dimension;
 use moments::Gap;
 use pages::PageStore;
 use std::alloc::Global;
-use timebase::{Ms, push_instant};
+use timebase::Ms;
 use trajdb::{Db, RunFault};
 
-/// Appends a comma and milliseconds as seconds.
-fn push_seconds(text: &mut Vec<u8>, millis: i64) -> Result<(), RunFault> {
-    text.push(b',')?;
-    match Offset::new(millis) {
-        Some(offset) => Ok(push_offset(text, offset)?),
-        None => Err(RunFault::Failed),
+impl Draft {
+    /// Appends a comma and milliseconds as seconds.
+    fn push_next_seconds(self, millis: i64) -> Draft {
+        self.push(",").push_seconds(millis)
     }
-}
 
-/// Appends a comma and an instant.
-fn push_at(text: &mut Vec<u8>, at: Ms) -> Result<(), RunFault> {
-    text.push(b',')?;
-    Ok(push_instant(text, at)?)
+    /// Appends a comma and an instant.
+    fn push_at(self, at: Ms) -> Draft {
+        self.push(",").push_instant(at)
+    }
+
+    /// Appends the fields of a gap behind its feature, of which times are counted from a base.
+    fn push_gap_fields(self, base: Ms, dimension: Dimension, gap: &Gap) -> Draft {
+        let (begins, ends) = (gap.begins.millis(), gap.ends.millis());
+        self.push_next_seconds(begins - base.millis())
+            .push_next_seconds(ends - base.millis())
+            .push_at(gap.begins)
+            .push_at(gap.ends)
+            .push_position(dimension, gap.from)
+            .push_position(dimension, gap.to)
+            .push_next_seconds(ends - begins)
+    }
 }
 
 /// Appends the record of a gap, of which times are counted from a base.
@@ -32,14 +41,9 @@ pub fn push_gap<S: PageStore>(
     dimension: Dimension,
     gap: &Gap,
 ) -> Result<(), RunFault> {
-    let (begins, ends) = (gap.begins.millis(), gap.ends.millis());
     push_name(alloc, text, database, gap.feature)?;
-    push_seconds(text, begins - base.millis())?;
-    push_seconds(text, ends - base.millis())?;
-    push_at(text, gap.begins)?;
-    push_at(text, gap.ends)?;
-    push_position(text, dimension, gap.from)?;
-    push_position(text, dimension, gap.to)?;
-    push_seconds(text, ends - begins)?;
-    Ok(text.push(b'\n')?)
+    Draft::of(text)
+        .push_gap_fields(base, dimension, gap)
+        .push("\n")
+        .give(text)
 }

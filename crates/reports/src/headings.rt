@@ -2,7 +2,7 @@
 ghost use Rattle.std.specs.Prelude.{◌≡◌, ◌++◌, OnOk};
 ghost use Rattle.reports.specs.StayTexts.{dwell_fields, fields_text, position_fields};
 
-use crate::formatting::push_text;
+use crate::draft::Draft;
 use crate::moments_text::{drop_last, push_word};
 use crate::values_text::push_next;
 use mfcsv::{Column, Dimension};
@@ -101,9 +101,11 @@ pub fn push_feature_fields(text: &mut Vec<u8>, first: &str) -> Result<(), AllocE
 
 /// Appends the line that names the fields of gaps.
 pub fn push_gap_fields(text: &mut Vec<u8>, dimension: Dimension) -> Result<(), RunFault> {
-    push_text(text, "feature,begins,ends,begins_at,ends_at")?;
-    push_word(text, position_fields(dimension))?;
-    push_text(text, ",seconds\n")
+    Draft::of(text)
+        .push("feature,begins,ends,begins_at,ends_at")
+        .push_word(position_fields(dimension))
+        .push(",seconds\n")
+        .give(text)
 }
 
 /// Appends the names of attribute columns to the last line of a text, behind its fields.

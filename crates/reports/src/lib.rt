@@ -1,6 +1,7 @@
 //! What the program prints of a store and of moments: as records, as lines for people, and as JSON.
 #![tactic(auto)]
 
+mod draft;
 mod formatting;
 mod gaps_text;
 mod headings;

@@ -1,5 +1,5 @@
 //! The texts of stays, visits and dwells in rectangles: records of CSV.
-ghost use Rattle.std.specs.Prelude.{◌≡◌, ◌<◌, ◌++◌, pos, All, decimal, IfErr, length, OnOk};
+ghost use Rattle.std.specs.Prelude.{◌≡◌, ◌<◌, ◌++◌, pos, All, codes, decimal, IfErr, length, OnOk};
 ghost use Rattle.std.specs.Int.{int_div_euclid};
 ghost use Rattle.fixedpoint.specs.NumberText.{coord_text};
 ghost use Rattle.timebase.specs.Instant.{IsMoment};
@@ -7,7 +7,7 @@ ghost use Rattle.timebase.specs.InstantText.{instant_text};
 ghost use Rattle.trajdb.specs.Calls.{IsText};
 ghost use Rattle.trajdb.specs.declared.RunFault.{RunFault};
 ghost use Rattle.reports.specs.Printing.{IsPrintFault};
-ghost use Rattle.reports.specs.StayTexts.{dwell_text, dwells_text, ends_text, fraction_text, label_text, micros_text, name_text, next_field, position_text, quoted_text, seconds_text, stay_text, stays_text, three_digits, times_text, visit_text, visits_text, without_last};
+ghost use Rattle.reports.specs.StayTexts.{dwells_text, ends_text, fraction_text, label_text, micros_text, name_text, next_field, position_text, quoted_text, seconds_text, stays_text, three_digits, times_text, visits_text, without_last};
 
 use crate::formatting::{push_number, push_signed};
 use fixedpoint::{Coord, push_coord};
@@ -35,9 +35,11 @@ pub struct Frame<'a> {
 fn push_three_digits(text: &mut Vec<u8>, number: u64) -> Result<(), AllocError>
     ensures { OnOk result (text.new.items ≡ text.old.items ++ three_digits number) }
 {
-    text.push(b'0' + (number / 100 % 10) as u8)?;
-    text.push(b'0' + (number / 10 % 10) as u8)?;
-    Ok(text.push(b'0' + (number % 10) as u8)?)
+    text.extend_from_slice(&[
+        b'0' + (number / 100 % 10) as u8,
+        b'0' + (number / 10 % 10) as u8,
+        b'0' + (number % 10) as u8,
+    ])
 }
 
 /// Appends a comma and a word.
@@ -215,27 +217,46 @@ fn push_ends(text: &mut Vec<u8>, enters_by: End, leaves_by: End) -> Result<(), A
     push_word(text, leaves_by.met_edges())
 }
 
-/// Appends the record of a stay.
-#[tactic(auto, unfolding(crate::specs::StayTexts::stay_text))]
-pub(crate) fn push_stay<S: PageStore>(
-    alloc: Global,
+/// Appends where a feature is at a first and a last moment, what the moments are, and the edges that are met there.
+fn push_crossing(
     text: &mut Vec<u8>,
-    database: &Db<S>,
+    dimension: Dimension,
+    entry: Position,
+    exit: Position,
+    enters_by: End,
+    leaves_by: End,
+) -> Result<(), AllocError>
+    ensures { OnOk result (text.new.items
+        ≡ text.old.items ++ position_text dimension entry ++ position_text dimension exit
+        ++ ends_text enters_by leaves_by) }
+{
+    push_position(text, dimension, entry)?;
+    push_position(text, dimension, exit)?;
+    push_ends(text, enters_by, leaves_by)
+}
+
+/// Appends the fields of a stay behind its feature.
+pub(crate) fn push_stay_rest(
+    text: &mut Vec<u8>,
     frame: &Frame<'_>,
     stay: &Stay,
 ) -> Result<(), RunFault>
-    ensures there { OnOk result (stay.now.leg.feature < length database.now.book.names) }
-    ensures fault { IfErr result
-        (IsText (stay.now.leg.feature < length database.now.book.names)) }
+    ensures fault { IfErr result (λ fault. fault ≡ RunFault.Memory) }
     ensures text { OnOk result (text.new.items
-        ≡ text.old.items ++ stay_text database.now.book frame.now stay.now) }
+        ≡ text.old.items ++ times_text frame.now.base stay.now.enters stay.now.leaves
+        ++ position_text frame.now.dimension stay.now.entry
+        ++ position_text frame.now.dimension stay.now.exit
+        ++ ends_text stay.now.enters_by stay.now.leaves_by) }
 {
-    push_labelled(alloc, text, database, frame.label, stay.leg.feature)?;
     push_times(text, frame, stay.enters, stay.leaves)?;
-    push_position(text, frame.dimension, stay.entry)?;
-    push_position(text, frame.dimension, stay.exit)?;
-    push_ends(text, stay.enters_by, stay.leaves_by)?;
-    Ok(text.push(b'\n')?)
+    Ok(push_crossing(
+        text,
+        frame.dimension,
+        stay.entry,
+        stay.exit,
+        stay.enters_by,
+        stay.leaves_by,
+    )?)
 }
 
 /// Appends a record for each stay. Refused for want of memory, and with page 0 where a feature is not in the book.
@@ -257,30 +278,32 @@ pub fn push_stays<S: PageStore>(
         ≡ text.old.items ++ stays_text database.now.book frame.now stays.now) }
 {
     for stay in stays {
-        push_stay(alloc, text, database, frame, stay)?;
+        push_labelled(alloc, text, database, frame.label, stay.leg.feature)?;
+        push_stay_rest(text, frame, stay)?;
+        text.push(b'\n')?;
     }
     Ok(())
 }
 
-/// Appends the record of a visit.
-#[tactic(auto, unfolding(crate::specs::StayTexts::visit_text))]
-fn push_visit<S: PageStore>(
-    alloc: Global,
-    text: &mut Vec<u8>,
-    database: &Db<S>,
-    frame: &Frame<'_>,
-    visit: &Visit,
-) -> Result<(), RunFault>
-    ensures there { OnOk result (visit.now.feature < length database.now.book.names) }
-    ensures fault { IfErr result (IsText (visit.now.feature < length database.now.book.names)) }
+/// Appends the fields of a visit behind its feature, and the line's end.
+fn push_visit_rest(text: &mut Vec<u8>, frame: &Frame<'_>, visit: &Visit) -> Result<(), RunFault>
+    ensures fault { IfErr result (λ fault. fault ≡ RunFault.Memory) }
     ensures text { OnOk result (text.new.items
-        ≡ text.old.items ++ visit_text database.now.book frame.now visit.now) }
+        ≡ text.old.items ++ times_text frame.now.base visit.now.enters visit.now.leaves
+        ++ position_text frame.now.dimension visit.now.entry
+        ++ position_text frame.now.dimension visit.now.exit
+        ++ ends_text visit.now.enters_by visit.now.leaves_by
+        ++ next_field (decimal visit.now.legs) ++ codes "\n") }
 {
-    push_labelled(alloc, text, database, frame.label, visit.feature)?;
     push_times(text, frame, visit.enters, visit.leaves)?;
-    push_position(text, frame.dimension, visit.entry)?;
-    push_position(text, frame.dimension, visit.exit)?;
-    push_ends(text, visit.enters_by, visit.leaves_by)?;
+    push_crossing(
+        text,
+        frame.dimension,
+        visit.entry,
+        visit.exit,
+        visit.enters_by,
+        visit.leaves_by,
+    )?;
     push_count(text, visit.legs)?;
     Ok(text.push(b'\n')?)
 }
@@ -304,7 +327,8 @@ pub fn push_visits<S: PageStore>(
         ≡ text.old.items ++ visits_text database.now.book frame.now visits.now) }
 {
     for visit in visits {
-        push_visit(alloc, text, database, frame, visit)?;
+        push_labelled(alloc, text, database, frame.label, visit.feature)?;
+        push_visit_rest(text, frame, visit)?;
     }
     Ok(())
 }
@@ -316,28 +340,20 @@ pub(crate) fn push_seconds(text: &mut Vec<u8>, micros: u64) -> Result<(), RunFau
     ensures text { OnOk result (text.new.items
         ≡ text.old.items ++ next_field (seconds_text micros)) }
 {
-    text.push(b',')?;
-    push_number(text, micros / 1_000_000)?;
+    push_count(text, micros / 1_000_000)?;
     text.push(b'.')?;
     push_three_digits(text, micros / 1000)?;
     Ok(push_three_digits(text, micros)?)
 }
 
-/// Appends the record of a feature's visits.
-#[tactic(auto, unfolding(crate::specs::StayTexts::dwell_text))]
-fn push_dwell<S: PageStore>(
-    alloc: Global,
-    text: &mut Vec<u8>,
-    database: &Db<S>,
-    label: &[u8],
-    dwell: &Dwell,
-) -> Result<(), RunFault>
-    ensures there { OnOk result (dwell.now.feature < length database.now.book.names) }
-    ensures fault { IfErr result (IsText (dwell.now.feature < length database.now.book.names)) }
+/// Appends the fields of a dwell behind its feature, and the line's end.
+fn push_dwell_rest(text: &mut Vec<u8>, dwell: &Dwell) -> Result<(), RunFault>
+    ensures fault { IfErr result (λ fault. fault ≡ RunFault.Memory) }
     ensures text { OnOk result (text.new.items
-        ≡ text.old.items ++ dwell_text database.now.book label.now dwell.now) }
+        ≡ text.old.items ++ next_field (decimal dwell.now.visits)
+        ++ next_field (seconds_text dwell.now.least)
+        ++ next_field (seconds_text dwell.now.most) ++ codes "\n") }
 {
-    push_labelled(alloc, text, database, label, dwell.feature)?;
     push_count(text, dwell.visits)?;
     push_seconds(text, dwell.least)?;
     push_seconds(text, dwell.most)?;
@@ -364,7 +380,8 @@ pub fn push_dwells<S: PageStore>(
         ≡ text.old.items ++ dwells_text database.now.book label.now dwells.now) }
 {
     for dwell in dwells {
-        push_dwell(alloc, text, database, label, dwell)?;
+        push_labelled(alloc, text, database, label, dwell.feature)?;
+        push_dwell_rest(text, dwell)?;
     }
     Ok(())
 }

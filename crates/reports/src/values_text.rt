@@ -4,7 +4,8 @@ ghost use Rattle.trajdb.specs.Calls.{IsText};
 ghost use Rattle.trajdb.specs.declared.RunFault.{RunFault};
 ghost use Rattle.reports.specs.StayTexts.{next_field, shown_value, values_text};
 
-use crate::moments_text::{Frame, drop_last, push_quoted, push_stay};
+use crate::draft::Draft;
+use crate::moments_text::{Frame, push_quoted};
 use moments::Stay;
 use pages::PageStore;
 use rows::Row;
@@ -73,11 +74,13 @@ pub fn push_valued_stays<S: PageStore>(
     frame: &Frame<'_>,
     stays: &[Stay],
 ) -> Result<(), RunFault> {
+    let mut records = Draft::of(text);
     for stay in stays {
-        push_stay(alloc, text, database, frame, stay)?;
-        drop_last(text);
-        push_values(alloc, text, database, stay.leg.row)?;
-        text.push(b'\n')?;
+        records = records
+            .push_labelled(alloc, database, frame.label, stay.leg.feature)
+            .push_stay_rest(frame, stay)
+            .push_values(alloc, database, stay.leg.row)
+            .push("\n");
     }
-    Ok(())
+    records.give(text)
 }

@@ -1,15 +1,10 @@
 //! The texts of stays and visits in zones, and of features: records of CSV.
 ghost use Rattle.std.specs.Prelude.{◌<◌, ◌^◌, unsigned_abs};
 
-use crate::formatting::push_signed;
-use crate::moments_text::{
-    Frame, push_count, push_labelled, push_micros, push_position, push_word,
-};
-use crate::values_text::push_values;
-use crate::wide_number::push_wide;
-use mfcsv::Position;
+use crate::draft::Draft;
+use crate::moments_text::Frame;
 use pages::PageStore;
-use std::alloc::{AllocError, Global};
+use std::alloc::Global;
 use timebase::Ms;
 use trajdb::{Db, RunFault};
 use zoning::{Moment, Side, Stay, Visit};
@@ -22,51 +17,6 @@ pub struct ZoneFrame<'a> {
     pub is_gate: bool,
 }
 
-/// Appends the numerator of `whole` milliseconds and the part of one more that a moment has.
-fn push_numerator(text: &mut Vec<u8>, whole: i64, moment: &Moment) -> Result<(), AllocError>
-    requires near { unsigned_abs whole < 2 ^ 50 }
-{
-    if whole >= 0 {
-        return push_wide(text, whole.unsigned_abs(), moment.den, moment.rest);
-    }
-    // Of what lies below 0 the size is one millisecond less, and what the part lacks to it.
-    text.push(b'-')?;
-    let lacks = moment.den - moment.rest;
-    push_wide(text, whole.unsigned_abs() - 1, moment.den, lacks)
-}
-
-/// Appends a comma and a moment as a fraction of milliseconds since a base, in lowest terms.
-fn push_fraction(text: &mut Vec<u8>, base: Ms, moment: &Moment) -> Result<(), AllocError> {
-    text.push(b',')?;
-    push_numerator(text, moment.whole.millis() - base.millis(), moment)?;
-    text.push(b'/')?;
-    push_signed(text, moment.den as i128)
-}
-
-/// Appends a first and a last moment: exactly, and as instants, the first rounded down and the last up.
-fn push_times(
-    text: &mut Vec<u8>,
-    base: Ms,
-    enters: &Moment,
-    leaves: &Moment,
-) -> Result<(), RunFault> {
-    push_fraction(text, base, enters)?;
-    push_fraction(text, base, leaves)?;
-    push_micros(text, enters.micros_down())?;
-    push_micros(text, leaves.micros_up())
-}
-
-/// Appends where a feature is at a first and a last moment.
-fn push_places(
-    text: &mut Vec<u8>,
-    frame: &Frame<'_>,
-    entry: Position,
-    exit: Position,
-) -> Result<(), AllocError> {
-    push_position(text, frame.dimension, entry)?;
-    push_position(text, frame.dimension, exit)
-}
-
 impl ZoneFrame<'_> {
     /// A side as it is printed: blank for a polygon.
     fn side_text(&self, side: Option<Side>) -> &'static str {
@@ -76,34 +26,63 @@ impl ZoneFrame<'_> {
             None => "",
         }
     }
-
-    /// Appends both sides, each behind a comma.
-    fn push_sides(
-        &self,
-        text: &mut Vec<u8>,
-        from: Option<Side>,
-        to: Option<Side>,
-    ) -> Result<(), AllocError> {
-        push_word(text, self.side_text(from))?;
-        push_word(text, self.side_text(to))
-    }
 }
 
-/// Appends the record of a stay, without the line's end.
-fn push_stay<S: PageStore>(
-    alloc: Global,
-    text: &mut Vec<u8>,
-    database: &Db<S>,
-    zone: &ZoneFrame<'_>,
-    stay: &Stay,
-) -> Result<(), RunFault> {
-    let frame = &zone.frame;
-    push_labelled(alloc, text, database, frame.label, stay.leg.feature)?;
-    push_times(text, frame.base, &stay.enters, &stay.leaves)?;
-    push_places(text, frame, stay.entry, stay.exit)?;
-    push_word(text, stay.enters_by.as_str())?;
-    push_word(text, stay.leaves_by.as_str())?;
-    Ok(zone.push_sides(text, stay.from, stay.to)?)
+impl Draft {
+    /// Appends the numerator of `whole` milliseconds and the part of one more that a moment has.
+    fn push_numerator(self, whole: i64, moment: &Moment) -> Draft
+        requires near { unsigned_abs whole < 2 ^ 50 }
+    {
+        if whole >= 0 {
+            return self.push_wide(whole.unsigned_abs(), moment.den, moment.rest);
+        }
+        // Of what lies below 0 the size is one millisecond less, and what the part lacks to it.
+        let lacks = moment.den - moment.rest;
+        self.push("-")
+            .push_wide(whole.unsigned_abs() - 1, moment.den, lacks)
+    }
+
+    /// Appends a comma and a moment as a fraction of milliseconds since a base, in lowest terms.
+    fn push_fraction(self, base: Ms, moment: &Moment) -> Draft {
+        self.push(",")
+            .push_numerator(moment.whole.millis() - base.millis(), moment)
+            .push("/")
+            .push_signed(moment.den as i128)
+    }
+
+    /// Appends a first and a last moment: exactly, and as instants, the first rounded down and the last up.
+    fn push_times(self, base: Ms, enters: &Moment, leaves: &Moment) -> Draft {
+        self.push_fraction(base, enters)
+            .push_fraction(base, leaves)
+            .push_micros(enters.micros_down())
+            .push_micros(leaves.micros_up())
+    }
+
+    /// Appends the fields of a stay behind its feature.
+    fn push_stay_fields(self, zone: &ZoneFrame<'_>, stay: &Stay) -> Draft {
+        let frame = &zone.frame;
+        self.push_times(frame.base, &stay.enters, &stay.leaves)
+            .push_position(frame.dimension, stay.entry)
+            .push_position(frame.dimension, stay.exit)
+            .push_word(stay.enters_by.as_str())
+            .push_word(stay.leaves_by.as_str())
+            .push_word(zone.side_text(stay.from))
+            .push_word(zone.side_text(stay.to))
+    }
+
+    /// Appends the fields of a visit behind its feature.
+    fn push_visit_fields(self, zone: &ZoneFrame<'_>, visit: &Visit) -> Draft {
+        let frame = &zone.frame;
+        self.push_times(frame.base, &visit.enters, &visit.leaves)
+            .push_position(frame.dimension, visit.entry)
+            .push_position(frame.dimension, visit.exit)
+            .push_word(visit.enters_by.as_str())
+            .push_word(visit.leaves_by.as_str())
+            .push(",")
+            .push_number(visit.legs)
+            .push_word(zone.side_text(visit.from))
+            .push_word(zone.side_text(visit.to))
+    }
 }
 
 /// Appends a record for each stay in a zone. Refused for want of memory, and with page 0 where a feature is not in the
@@ -115,11 +94,14 @@ pub fn push_zone_stays<S: PageStore>(
     zone: &ZoneFrame<'_>,
     stays: &[Stay],
 ) -> Result<(), RunFault> {
+    let mut records = Draft::of(text);
     for stay in stays {
-        push_stay(alloc, text, database, zone, stay)?;
-        text.push(b'\n')?;
+        records = records
+            .push_labelled(alloc, database, zone.frame.label, stay.leg.feature)
+            .push_stay_fields(zone, stay)
+            .push("\n");
     }
-    Ok(())
+    records.give(text)
 }
 
 /// Appends a record for each stay in a zone, with the values of its leg's attributes behind the other fields. Refused
@@ -131,30 +113,15 @@ pub fn push_valued_zone_stays<S: PageStore>(
     zone: &ZoneFrame<'_>,
     stays: &[Stay],
 ) -> Result<(), RunFault> {
+    let mut records = Draft::of(text);
     for stay in stays {
-        push_stay(alloc, text, database, zone, stay)?;
-        push_values(alloc, text, database, stay.leg.row)?;
-        text.push(b'\n')?;
+        records = records
+            .push_labelled(alloc, database, zone.frame.label, stay.leg.feature)
+            .push_stay_fields(zone, stay)
+            .push_values(alloc, database, stay.leg.row)
+            .push("\n");
     }
-    Ok(())
-}
-
-/// Appends the record of a visit, without the line's end.
-fn push_visit<S: PageStore>(
-    alloc: Global,
-    text: &mut Vec<u8>,
-    database: &Db<S>,
-    zone: &ZoneFrame<'_>,
-    visit: &Visit,
-) -> Result<(), RunFault> {
-    let frame = &zone.frame;
-    push_labelled(alloc, text, database, frame.label, visit.feature)?;
-    push_times(text, frame.base, &visit.enters, &visit.leaves)?;
-    push_places(text, frame, visit.entry, visit.exit)?;
-    push_word(text, visit.enters_by.as_str())?;
-    push_word(text, visit.leaves_by.as_str())?;
-    push_count(text, visit.legs)?;
-    Ok(zone.push_sides(text, visit.from, visit.to)?)
+    records.give(text)
 }
 
 /// Appends a record for each visit of a zone, and is refused as `push_zone_stays` is.
@@ -165,11 +132,14 @@ pub fn push_zone_visits<S: PageStore>(
     zone: &ZoneFrame<'_>,
     visits: &[Visit],
 ) -> Result<(), RunFault> {
+    let mut records = Draft::of(text);
     for visit in visits {
-        push_visit(alloc, text, database, zone, visit)?;
-        text.push(b'\n')?;
+        records = records
+            .push_labelled(alloc, database, zone.frame.label, visit.feature)
+            .push_visit_fields(zone, visit)
+            .push("\n");
     }
-    Ok(())
+    records.give(text)
 }
 
 /// Appends a record for each feature, and is refused likewise.
@@ -180,9 +150,11 @@ pub fn push_zone_features<S: PageStore>(
     label: &[u8],
     features: &[u32],
 ) -> Result<(), RunFault> {
+    let mut records = Draft::of(text);
     for feature in features {
-        push_labelled(alloc, text, database, label, *feature)?;
-        text.push(b'\n')?;
+        records = records
+            .push_labelled(alloc, database, label, *feature)
+            .push("\n");
     }
-    Ok(())
+    records.give(text)
 }
