@@ -7,7 +7,7 @@ use sessions::{Fault, Folder};
 /// The name of a store, given to a copy whose pages are on the disk.
 ///
 /// Wrong bodies: the name is given before the disk has the pages.
-pub fn give<'a, F: Folder>(folder: &mut F, mut store: F::Store) -> Result<(), Fault<'a>>
+pub fn give<F: Folder>(folder: &mut F, mut store: F::Store) -> Result<(), Fault>
     requires { IsTrue (F.seen folder.old).has_copy }
     ensures { OnOk result (IsReplaced (F.Store.PageStore.seen store) (F.seen folder.old)
         (F.seen folder.new)) }

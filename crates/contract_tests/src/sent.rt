@@ -14,12 +14,12 @@ use trajdb::{Db, RunFault};
 /// An answer that is followed.
 ///
 /// Wrong bodies: words stand among the answers.
-pub fn send<O: Output + Drop, R: Clock + Eprint>(
+pub fn send<O: Output, R: Clock + Eprint>(
     out: &mut Followed<'_, '_, O, R>,
     bytes: &[u8],
 ) -> Result<(), OutputFault>
-    ensures { OnOk result (Appends (O.seen out.old.out).contents
-        (O.seen out.new.out).contents bytes.now) }
+    ensures { OnOk result (Appends (O.seen out.old.out.now).contents
+        (O.seen out.new.out.now).contents bytes.now) }
 {
     out.send(bytes)
 }

@@ -8,7 +8,7 @@ use crate::commands::part::print_part;
 use crate::commands::parts_command::write_parts;
 use crate::commands::run::run;
 use crate::commands::zones_command::print_zones;
-use crate::explain::faults::Before;
+use crate::explain::faults::{Before, name_of};
 use crate::outcome::Outcome;
 use arguments::{Task, read_words};
 use clap::Error;
@@ -22,7 +22,7 @@ use std::random::RandomSource;
 use std::rt;
 
 /// How the program ended that has nothing to say of what it did.
-fn done<'a>(ended: Result<(), Fault<'a>>) -> Result<Outcome, Fault<'a>> {
+fn done(ended: Result<(), Fault>) -> Result<Outcome, Fault> {
     match ended {
         Ok(()) => Ok(Outcome::Done),
         Err(fault) => Err(fault),
@@ -30,21 +30,22 @@ fn done<'a>(ended: Result<(), Fault<'a>>) -> Result<Outcome, Fault<'a>> {
 }
 
 /// Does what the program is asked to do.
-fn perform<
-    'a,
-    R: rt::Files<File = File> + rt::Clock + Eprint + AllocGlobal + RandomSource,
-    O: Output + Drop,
->(rt: &R, task: &Task<'a>, mut out: O, is_terminal: bool) -> Result<Outcome, Fault<'a>> {
+fn perform<R: rt::Files<File = File> + rt::Clock + Eprint + AllocGlobal + RandomSource, O: Output>(
+    rt: &R,
+    task: &Task<'_>,
+    out: &mut O,
+    is_terminal: bool,
+) -> Result<Outcome, Fault> {
     let ended = match task {
         Task::Run(task) => return run(rt, task, out, is_terminal),
-        Task::Check(task) => check(rt, task, &mut out),
-        Task::Migrate(task) => migrate(rt, task, &mut out),
-        Task::Part(task) => print_part(rt, task, &mut out),
+        Task::Check(task) => check(rt, task, out),
+        Task::Migrate(task) => migrate(rt, task, out),
+        Task::Part(task) => print_part(rt, task, out),
         Task::Parts(task) => write_parts(rt, task),
-        Task::Moments(task) => print_moments(rt, task, &mut out, is_terminal),
-        Task::Zones(task) => return print_zones(rt, task, &mut out, is_terminal),
-        Task::Gaps(task) => print_gaps(rt, task, &mut out),
-        Task::Info(task) => print_info(rt, task, &mut out),
+        Task::Moments(task) => print_moments(rt, task, out, is_terminal),
+        Task::Zones(task) => return print_zones(rt, task, out, is_terminal),
+        Task::Gaps(task) => print_gaps(rt, task, out),
+        Task::Info(task) => print_info(rt, task, out),
     };
     done(ended)
 }
@@ -85,7 +86,7 @@ fn answer_words<W: Write, V: Write>(
 }
 
 /// The exit status of a task that ended so: of one that failed 2 where its words are wrong, else 1.
-fn status_of(ended: &Result<Outcome, Fault<'_>>) -> u8 {
+fn status_of(ended: &Result<Outcome, Fault>) -> u8 {
     match ended {
         Ok(Outcome::Done) => 0,
         Ok(Outcome::Refused) => 3,
@@ -95,6 +96,17 @@ fn status_of(ended: &Result<Outcome, Fault<'_>>) -> u8 {
     }
 }
 
+/// The line of a fault, with the name of the file or folder that it is of.
+fn tell_fault<V: Write>(task: &Task<'_>, fault: &Fault, faults: &mut V) {
+    let _ = match fault.named() {
+        Some(named) => {
+            let name = name_of(task, named);
+            writeln!(faults, "mftb: {fault} {name}")
+        }
+        None => writeln!(faults, "mftb: {fault}"),
+    };
+}
+
 /// Performs a task, and says what went wrong: the exit status.
 fn answer_task<
     R: rt::Files<File = File> + rt::Clock + Eprint + AllocGlobal + RandomSource,
@@ -102,9 +114,9 @@ fn answer_task<
     V: Write,
 >(rt: &R, task: &Task<'_>, out: &mut W, faults: &mut V, is_terminal: bool) -> u8 {
     let before = Before::new(rt, task, is_terminal);
-    let ended = perform(rt, task, CountedOutput::new(out), is_terminal);
+    let ended = perform(rt, task, &mut CountedOutput::new(out), is_terminal);
     if let Err(fault) = &ended {
-        let _ = writeln!(faults, "mftb: {fault}");
+        tell_fault(task, fault, faults);
         before.tell(rt, task, fault);
     }
     status_of(&ended)

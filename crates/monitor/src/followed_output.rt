@@ -10,15 +10,19 @@ use std::rt::Clock;
 
 /// An output whose answers are followed: it takes what the one inside takes. All of an answer is sent at once.
 #[derive(Drop)]
-pub struct Followed<'a, 'b, O: Output + Drop, R: Clock + Eprint> {
-    out: O,
+pub struct Followed<'a, 'b, O: Output, R: Clock + Eprint> {
+    out: &'a mut O,
     progress: &'a Progress<'b, R>,
     notes: Notes,
 }
 
-impl<'a, 'b, O: Output + Drop, R: Clock + Eprint> Followed<'a, 'b, O, R> {
+impl<'a, 'b, O: Output, R: Clock + Eprint> Followed<'a, 'b, O, R> {
     /// That output, followed.
-    pub fn new(out: O, progress: &'a Progress<'b, R>, notes: Notes) -> Followed<'a, 'b, O, R> {
+    pub fn new(
+        out: &'a mut O,
+        progress: &'a Progress<'b, R>,
+        notes: Notes,
+    ) -> Followed<'a, 'b, O, R> {
         Followed {
             out,
             progress,
@@ -26,9 +30,9 @@ impl<'a, 'b, O: Output + Drop, R: Clock + Eprint> Followed<'a, 'b, O, R> {
         }
     }
 
-    /// The output, and what is noted of the answers.
-    pub fn into_parts(self) -> (O, Notes) {
-        (self.out, self.notes)
+    /// What is noted of the answers.
+    pub fn into_notes(self) -> Notes {
+        self.notes
     }
 
     /// An answer was taken.
@@ -42,8 +46,8 @@ impl<'a, 'b, O: Output + Drop, R: Clock + Eprint> Followed<'a, 'b, O, R> {
     }
 }
 
-impl<'a, 'b, O: Output + Drop, R: Clock + Eprint> Output for Followed<'a, 'b, O, R> {
-    ghost seen = { λ s. O.seen s.out };
+impl<'a, 'b, O: Output, R: Clock + Eprint> Output for Followed<'a, 'b, O, R> {
+    ghost seen = { λ s. O.seen s.out.now };
 
     fn send(&mut self, bytes: &[u8]) -> Result<(), OutputFault> {
         if bytes.is_empty() {

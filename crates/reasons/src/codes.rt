@@ -100,6 +100,46 @@ const CODES: [Code; 30] = [
     Code::Q10,
 ];
 
+/// The codes as they are printed.
+const NAMES: [&str; 30] = [
+    "F1", "F2", "F3", "F4", "F5", "F6", "F7", "F8", "F9", "F10", "F11", "F12", "F13", "F14", "F15",
+    "F16", "F17", "F18", "F19", "F20", "Q1", "Q2", "Q3", "Q4", "Q5", "Q6", "Q7", "Q8", "Q9", "Q10",
+];
+
+/// The rule that stands behind each code.
+const RULES: [&str; 30] = [
+    "a field is not UTF-8",
+    "a header line stands there a second time",
+    "the line @stboundedby has fewer than 7 fields",
+    "the dimension is neither 2D nor 3D",
+    "the start instant is not read, or out of range",
+    "the time unit is none of sec, minute and absolute",
+    "the line @columns does not begin with mfidref and trajectory",
+    "both header lines come before the first data record",
+    "the CRS name or the dimension is not the store's",
+    "the attribute columns are not the store's",
+    "a data record has too few fields, or too many",
+    "the feature's name is empty, or longer than 255 bytes",
+    "a time is not read, or out of range",
+    "the end is not after the start",
+    "a coordinate is not read, or out of range",
+    "there is no position, or a last one that is not whole",
+    "there are fewer milliseconds than legs",
+    "it begins before the feature's last leg ends",
+    "the store has no room for the legs up to this record",
+    "the store has no room for the features up to this record",
+    "the line is not UTF-8",
+    "unknown command",
+    "the number of words is wrong, or there is no name",
+    "unknown predicate",
+    "a coordinate is not read, or out of range",
+    "the first corner is above the second",
+    "an instant is not read, or out of range",
+    "the first instant is after the second",
+    "no file of that name on the command line",
+    "there is nothing to write: no file was accepted",
+];
+
 impl Code {
     /// The code of a text, as `F18`; `None` where no code has that text.
     pub fn read(text: &str) -> Option<Code> {
@@ -113,74 +153,12 @@ impl Code {
 
     /// The code as it is printed, as `F18`.
     pub fn as_str(self) -> &'static str {
-        match self {
-            Code::F1 => "F1",
-            Code::F2 => "F2",
-            Code::F3 => "F3",
-            Code::F4 => "F4",
-            Code::F5 => "F5",
-            Code::F6 => "F6",
-            Code::F7 => "F7",
-            Code::F8 => "F8",
-            Code::F9 => "F9",
-            Code::F10 => "F10",
-            Code::F11 => "F11",
-            Code::F12 => "F12",
-            Code::F13 => "F13",
-            Code::F14 => "F14",
-            Code::F15 => "F15",
-            Code::F16 => "F16",
-            Code::F17 => "F17",
-            Code::F18 => "F18",
-            Code::F19 => "F19",
-            Code::F20 => "F20",
-            Code::Q1 => "Q1",
-            Code::Q2 => "Q2",
-            Code::Q3 => "Q3",
-            Code::Q4 => "Q4",
-            Code::Q5 => "Q5",
-            Code::Q6 => "Q6",
-            Code::Q7 => "Q7",
-            Code::Q8 => "Q8",
-            Code::Q9 => "Q9",
-            Code::Q10 => "Q10",
-        }
+        NAMES[self as usize]
     }
 
     /// The rule that is broken, in words.
     pub fn rule(self) -> &'static str {
-        match self {
-            Code::F1 => "a field is not UTF-8",
-            Code::F2 => "a header line stands there a second time",
-            Code::F3 => "the line @stboundedby has fewer than 7 fields",
-            Code::F4 => "the dimension is neither 2D nor 3D",
-            Code::F5 => "the start instant is not read, or out of range",
-            Code::F6 => "the time unit is none of sec, minute and absolute",
-            Code::F7 => "the line @columns does not begin with mfidref and trajectory",
-            Code::F8 => "both header lines come before the first data record",
-            Code::F9 => "the CRS name or the dimension is not the store's",
-            Code::F10 => "the attribute columns are not the store's",
-            Code::F11 => "a data record has too few fields, or too many",
-            Code::F12 => "the feature's name is empty, or longer than 255 bytes",
-            Code::F13 => "a time is not read, or out of range",
-            Code::F14 => "the end is not after the start",
-            Code::F15 => "a coordinate is not read, or out of range",
-            Code::F16 => "there is no position, or a last one that is not whole",
-            Code::F17 => "there are fewer milliseconds than legs",
-            Code::F18 => "it begins before the feature's last leg ends",
-            Code::F19 => "the store has no room for the legs up to this record",
-            Code::F20 => "the store has no room for the features up to this record",
-            Code::Q1 => "the line is not UTF-8",
-            Code::Q2 => "unknown command",
-            Code::Q3 => "the number of words is wrong, or there is no name",
-            Code::Q4 => "unknown predicate",
-            Code::Q5 => "a coordinate is not read, or out of range",
-            Code::Q6 => "the first corner is above the second",
-            Code::Q7 => "an instant is not read, or out of range",
-            Code::Q8 => "the first instant is after the second",
-            Code::Q9 => "no file of that name on the command line",
-            Code::Q10 => "there is nothing to write: no file was accepted",
-        }
+        RULES[self as usize]
     }
 }
 

@@ -1,183 +1,192 @@
-//! Why a header line of a file is refused.
-use crate::codes::Code;
+//! Why a header line of a file is refused. Nothing is said where no reason is found.
 use crate::fields::field_at;
 use crate::foreign_files::source_of;
-use crate::known_of_store::Known;
-use crate::line_reasons::instant_fault;
-use crate::refused_record::{Found, Heads, column_count, has_tag};
-use crate::shown_value::Shown;
+use crate::line_reasons::{instant_fault, say_fault};
+use crate::refused_record::{Heads, column_count, has_tag};
+use crate::sentence::Sentence;
+use csv::ByteRecord;
 use legs::BookHead;
 use mfcsv::{Column, Dimension};
-use std::alloc::{AllocError, Global};
 
 /// A second header line of one tag.
-pub(crate) fn second(alloc: Global, found: &Found) -> Result<String, AllocError> {
-    let (tag, line) = if has_tag(&found.row, "@columns") {
-        ("@columns", found.heads.columns_line())
+pub(crate) fn second(said: &mut Sentence, row: &ByteRecord, heads: &Heads) {
+    if has_tag(row, "@columns") {
+        said.number(
+            "a second @columns; the first is on line {}",
+            heads.columns_line,
+        );
     } else {
-        ("@stboundedby", found.heads.bounds_line())
-    };
-    format!(in alloc; "a second {tag}; the first is on line {line}")
+        said.number(
+            "a second @stboundedby; the first is on line {}",
+            heads.bounds_line,
+        );
+    }
 }
 
 /// `@stboundedby` with too few fields.
-pub(crate) fn short_bounds(alloc: Global, found: &Found) -> Result<String, AllocError> {
-    let count = found.row.len();
-    format!(in alloc; "@stboundedby has {count} fields, and at least 7 are needed")
+pub(crate) fn short_bounds(said: &mut Sentence, row: &ByteRecord) {
+    let count = row.len() as u64;
+    said.number(
+        "@stboundedby has {} fields, and at least 7 are needed",
+        count,
+    );
 }
 
 /// A dimension that no file may have.
-pub(crate) fn wrong_dimension(alloc: Global, found: &Found) -> Result<String, AllocError> {
-    let dimension = Shown(field_at(&found.row, 2));
-    format!(in alloc; "the dimension '{dimension}' is neither 2D nor 3D")
+pub(crate) fn wrong_dimension(said: &mut Sentence, row: &ByteRecord) {
+    let dimension = field_at(row, 2);
+    said.value("the dimension '{}' is neither 2D nor 3D", dimension);
 }
 
 /// A start instant that is not read.
-pub(crate) fn wrong_start(alloc: Global, found: &Found) -> Result<String, AllocError> {
-    let text = field_at(&found.row, 5);
-    let fault = instant_fault(alloc, text)?.unwrap_or("is not read");
-    let text = Shown(text);
-    format!(in alloc; "the start instant '{text}' {fault}")
+pub(crate) fn wrong_start(said: &mut Sentence, row: &ByteRecord) {
+    let text = field_at(row, 5);
+    let fault = instant_fault(text);
+    let said_fault = if fault.is_empty() {
+        "is not read"
+    } else {
+        fault
+    };
+    say_fault(said, "the start instant", text, said_fault);
 }
 
 /// A time unit that no file may have.
-pub(crate) fn wrong_unit(alloc: Global, found: &Found) -> Result<String, AllocError> {
-    let unit = Shown(field_at(&found.row, 7));
-    format!(in alloc; "the time unit '{unit}' is none of sec, minute and absolute")
+pub(crate) fn wrong_unit(said: &mut Sentence, row: &ByteRecord) {
+    let unit = field_at(row, 7);
+    said.value(
+        "the time unit '{}' is none of sec, minute and absolute",
+        unit,
+    );
 }
 
 /// `@columns` that begins otherwise.
-pub(crate) fn wrong_columns(alloc: Global, found: &Found) -> Result<String, AllocError> {
-    let (first, second) = (
-        Shown(field_at(&found.row, 1)),
-        Shown(field_at(&found.row, 2)),
+pub(crate) fn wrong_columns(said: &mut Sentence, row: &ByteRecord) {
+    let (first, second) = (field_at(row, 1), field_at(row, 2));
+    said.values(
+        "@columns is followed by '{}' and '{}', not by mfidref and trajectory",
+        first,
+        second,
     );
-    format!(in alloc;
-        "@columns is followed by '{first}' and '{second}', not by mfidref and trajectory"
-    )
 }
 
 /// The header lines that are missing.
 fn missing(heads: &Heads) -> &'static str {
-    match (heads.bounds.is_some(), heads.columns.is_some()) {
-        (false, true) => "the line @stboundedby",
-        (true, false) => "the line @columns",
-        _ => "the lines @stboundedby and @columns",
+    if heads.bounds_line == 0 && heads.columns_line > 0 {
+        "the line @stboundedby"
+    } else if heads.bounds_line > 0 && heads.columns_line == 0 {
+        "the line @columns"
+    } else {
+        "the lines @stboundedby and @columns"
     }
 }
 
 /// A data record before both header lines.
-pub(crate) fn early_record(alloc: Global, found: &Found) -> Result<String, AllocError> {
-    let missing = missing(&found.heads);
-    match source_of(found) {
-        Some(source) => format!(in alloc; "a data record before {missing}; {source}"),
-        None => format!(in alloc; "a data record before {missing}"),
+pub(crate) fn early_record(said: &mut Sentence, row: &ByteRecord, heads: &Heads) {
+    said.text("a data record before ");
+    said.text(missing(heads));
+    let source = source_of(row);
+    if !source.is_empty() {
+        said.text("; ");
+        said.text(source);
     }
 }
 
 /// A file that ends without both header lines.
-pub(crate) fn early_end(alloc: Global, heads: &Heads) -> Result<String, AllocError> {
-    let missing = missing(heads);
-    format!(in alloc; "the file ends without {missing}")
+pub(crate) fn early_end(said: &mut Sentence, heads: &Heads) {
+    said.text("the file ends without ");
+    said.text(missing(heads));
 }
 
-/// Whether a dimension is that of a store, as far as it is known.
-fn is_dimension_of(text: &str, head: &BookHead) -> bool {
-    let dimension = match head.dimension {
+/// The text of a dimension, in lower case.
+fn dimension_text(dimension: Dimension) -> &'static str {
+    match dimension {
         Dimension::Two => "2d",
         Dimension::Three => "3d",
-    };
-    text.eq_ignore_ascii_case(dimension)
+    }
+}
+
+/// A CRS name or a dimension that is not that of a store.
+fn other_than(said: &mut Sentence, row: &ByteRecord, head: &BookHead) {
+    let (crs, dimension) = (field_at(row, 1), field_at(row, 2));
+    let ours = head.crs.as_str();
+    if ours != crs {
+        said.values("the CRS '{}' is not that of the store, '{}'", crs, ours);
+    } else if !dimension.eq_ignore_ascii_case(dimension_text(head.dimension)) {
+        said.value("the dimension '{}' is not that of the store", dimension);
+    }
 }
 
 /// A CRS name or a dimension that is not the store's.
-pub(crate) fn other_reference(
-    alloc: Global,
-    found: &Found,
-    known: &Known,
-) -> Result<String, AllocError> {
-    let (crs, dimension) = (field_at(&found.row, 1), field_at(&found.row, 2));
-    let Some(head) = known.head else {
-        return String::from_str(alloc, Code::F9.rule());
-    };
-    if head.crs.as_str() != crs {
-        let (ours, theirs) = (Shown(head.crs.as_str()), Shown(crs));
-        return format!(in alloc; "the CRS '{theirs}' is not that of the store, '{ours}'");
+pub(crate) fn other_reference(said: &mut Sentence, row: &ByteRecord, head: Option<&BookHead>) {
+    if let Some(head) = head {
+        other_than(said, row, head);
     }
-    if is_dimension_of(dimension, head) {
-        return String::from_str(alloc, Code::F9.rule());
-    }
-    let dimension = Shown(dimension);
-    format!(in alloc; "the dimension '{dimension}' is not that of the store")
 }
 
-/// Whether a column is the store's of that place, counted from 0.
-fn is_column_of(found: &Found, head: &BookHead, column: usize) -> bool {
-    let place = column.saturating_mul(2).saturating_add(3);
-    match head.columns.as_slice().get(column) {
-        Some(ours) => {
-            ours.name.as_str() == field_at(&found.row, place)
-                && ours.kind.as_str() == field_at(&found.row, place.saturating_add(1))
+/// Says that an attribute column is not the store's of its place.
+fn say_differing(said: &mut Sentence, name: &str, kind: &str, ours: &Column) {
+    said.values(" is '{}' of type '{}', and the store's is ", name, kind);
+    said.values("'{}' of type '{}'", ours.name.as_str(), ours.kind.as_str());
+}
+
+/// Where the name of an attribute column stands in a line `@columns`, behind which its type stands.
+fn place_of(column: usize) -> usize {
+    column.saturating_mul(2).saturating_add(3)
+}
+
+/// Whether an attribute column, counted from 0, is that one of a store.
+fn is_column(row: &ByteRecord, column: usize, ours: &Column) -> bool {
+    let place = place_of(column);
+    ours.name.as_str() == field_at(row, place)
+        && ours.kind.as_str() == field_at(row, place.saturating_add(1))
+}
+
+/// The first of so many attribute columns, counted from 0, that is not the store's; their number where all are.
+fn first_other(row: &ByteRecord, count: usize, columns: &[Column]) -> usize {
+    for column in 0..count {
+        if column >= columns.len() || !is_column(row, column, &columns[column]) {
+            return column;
         }
-        None => false,
+    }
+    count
+}
+
+/// Says that an attribute column, counted from 0, is not the store's.
+fn say_column(said: &mut Sentence, row: &ByteRecord, column: usize, columns: &[Column]) {
+    let place = place_of(column);
+    let name = field_at(row, place);
+    let number = (column as u64).saturating_add(1);
+    if column < columns.len() {
+        let kind = field_at(row, place.saturating_add(1));
+        said.number("attribute column {}", number);
+        say_differing(said, name, kind, &columns[column]);
+    } else {
+        said.numbered(
+            "attribute column {}, '{}', is none of the store's",
+            number,
+            name,
+        );
     }
 }
 
-/// A column that is another one than the store's of its place, both counted from 1.
-fn differing_column(
-    alloc: Global,
-    number: usize,
-    name: &str,
-    kind: &str,
-    ours: &Column,
-) -> Result<String, AllocError> {
-    let (name, kind) = (Shown(name), Shown(kind));
-    let (our_name, our_kind) = (Shown(ours.name.as_str()), Shown(ours.kind.as_str()));
-    format!(in alloc;
-        "attribute column {number} is '{name}' of type '{kind}', and the store's is '{our_name}' of type '{our_kind}'"
-    )
-}
-
-/// A column beyond those of the store, counted from 1.
-fn surplus_column(alloc: Global, number: usize, name: &str) -> Result<String, AllocError> {
-    let name = Shown(name);
-    format!(in alloc; "attribute column {number}, '{name}', is none of the store's")
-}
-
-/// A column that is not the store's of that place, counted from 0.
-fn other_column(
-    alloc: Global,
-    found: &Found,
-    head: &BookHead,
-    column: usize,
-) -> Result<String, AllocError> {
-    let place = column.saturating_mul(2).saturating_add(3);
-    let number = column.saturating_add(1);
-    let name = field_at(&found.row, place);
-    match head.columns.as_slice().get(column) {
-        Some(ours) => {
-            let kind = field_at(&found.row, place.saturating_add(1));
-            differing_column(alloc, number, name, kind, ours)
-        }
-        None => surplus_column(alloc, number, name),
+/// Attribute columns that are not these of a store.
+fn other_columns_than(said: &mut Sentence, row: &ByteRecord, columns: &[Column]) {
+    let count = column_count(row);
+    let column = first_other(row, count, columns);
+    if column < count {
+        say_column(said, row, column, columns);
+    } else {
+        said.numbers(
+            "there are {} attribute columns, and the store has {}",
+            count as u64,
+            columns.len() as u64,
+        );
     }
 }
 
 /// Attribute columns that are not the store's.
-pub(crate) fn other_columns(
-    alloc: Global,
-    found: &Found,
-    known: &Known,
-) -> Result<String, AllocError> {
-    let Some(head) = known.head else {
-        return String::from_str(alloc, Code::F10.rule());
-    };
-    let count = column_count(&found.row);
-    for column in 0..count {
-        if !is_column_of(found, head, column) {
-            return other_column(alloc, found, head, column);
-        }
+pub(crate) fn other_columns(said: &mut Sentence, row: &ByteRecord, head: Option<&BookHead>) {
+    if let Some(head) = head {
+        other_columns_than(said, row, head.columns.as_slice());
     }
-    let ours = head.columns.as_slice().len();
-    format!(in alloc; "there are {count} attribute columns, and the store has {ours}")
 }

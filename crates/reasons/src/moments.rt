@@ -1,26 +1,20 @@
 //! How moments are shown.
-use std::alloc::{AllocError, Global};
-use std::str;
-use timebase::{Ms, push_instant};
+use crate::sentence::Sentence;
+use timebase::Ms;
 
-/// A moment as an instant, as `2024-06-04T00:03:38Z`; its milliseconds stand there where they are not 0.
-pub(crate) fn instant_of(alloc: Global, moment: Ms) -> Result<String, AllocError> {
-    let mut bytes = Vec::new(alloc);
-    push_instant(&mut bytes, moment)?;
-    let text = str::from_utf8(bytes.as_slice()).unwrap_or("");
-    match text.strip_suffix(".000Z") {
-        Some(seconds) => format!(in alloc; "{seconds}Z"),
-        None => String::from_str(alloc, text),
-    }
+/// Where the time begins in the text of an instant, as `2024-06-04T00:03:38Z`.
+const TIME: usize = 11;
+
+/// The day of a moment, counted from 1970-01-01.
+fn day_of(moment: Ms) -> i64 {
+    moment.millis().div_euclid(86_400_000)
 }
 
-/// A moment beside another one: its time alone where it is of the same day.
-pub(crate) fn beside(alloc: Global, moment: Ms, other: &str) -> Result<String, AllocError> {
-    let text = instant_of(alloc, moment)?;
-    match (text.as_str().split_once('T'), other.split_once('T')) {
-        (Some((day, time)), Some((other_day, _))) if day == other_day => {
-            String::from_str(alloc, time)
-        }
-        _ => Ok(text),
+/// Says a moment beside another one: its time alone where it is of the same day.
+pub(crate) fn say_beside(said: &mut Sentence, moment: Ms, other: Ms) {
+    if day_of(moment) == day_of(other) {
+        said.instant(moment, TIME);
+    } else {
+        said.instant(moment, 0);
     }
 }

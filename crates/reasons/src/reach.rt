@@ -1,9 +1,7 @@
 //! Whether a question is asked of where, or of when, a store has legs.
-use crate::moments::{beside, instant_of};
-use fixedpoint::{Coord, push_coord};
+use crate::moments::say_beside;
+use crate::sentence::Sentence;
 use legs::Box3;
-use std::alloc::{AllocError, Global};
-use std::str;
 use timebase::Ms;
 
 /// Whether the closed intervals from `a` to `b` and from `c` to `d` meet.
@@ -23,21 +21,11 @@ fn meet_exchanged(asked: &Box3, reach: &Box3) -> bool {
         && meet(asked.x_min, asked.x_max, reach.y_min, reach.y_max)
 }
 
-/// Units of 10^-7 as a coordinate is printed.
-fn coordinate_of(alloc: Global, units: i64) -> Result<String, AllocError> {
-    let mut bytes = Vec::new(alloc);
-    if let Some(coordinate) = Coord::new(units) {
-        push_coord(&mut bytes, coordinate)?;
-    }
-    String::from_str(alloc, str::from_utf8(bytes.as_slice()).unwrap_or(""))
-}
-
-/// From one coordinate to another one, as they are printed.
-fn range_of(alloc: Global, least: i64, most: i64) -> Result<String, AllocError> {
-    let least = coordinate_of(alloc, least)?;
-    let most = coordinate_of(alloc, most)?;
-    let (least, most) = (least.as_str(), most.as_str());
-    format!(in alloc; "{least} to {most}")
+/// Says from one coordinate to another one, both in units of 10^-7.
+fn say_range(said: &mut Sentence, least: i64, most: i64) {
+    said.coordinate(least);
+    said.text(" to ");
+    said.coordinate(most);
 }
 
 /// What a question asks of.
@@ -50,11 +38,11 @@ pub enum Area {
 }
 
 impl Area {
-    /// What it is called.
-    fn name(self) -> &'static str {
+    /// How it is said that it does not meet an x.
+    fn off(self) -> &'static str {
         match self {
-            Area::Rectangle => "rectangle",
-            Area::Zone => "zone",
+            Area::Rectangle => "the rectangle does not meet x ",
+            Area::Zone => "the zone does not meet x ",
         }
     }
 
@@ -69,61 +57,37 @@ impl Area {
         }
     }
 
-    /// Why it meets no leg.
-    fn off_in_plane(self, alloc: Global, asked: &Box3, reach: &Box3) -> Result<String, AllocError> {
-        let x = range_of(alloc, reach.x_min, reach.x_max)?;
-        let y = range_of(alloc, reach.y_min, reach.y_max)?;
-        let (x, y) = (x.as_str(), y.as_str());
-        let (name, hint) = (self.name(), self.exchange_hint(asked, reach));
-        format!(in alloc; "the {name} does not meet x {x}, y {y}, where the store has legs{hint}")
+    /// Says why it meets no leg.
+    fn say_off_in_plane(self, said: &mut Sentence, asked: &Box3, reach: &Box3) {
+        said.text(self.off());
+        say_range(said, reach.x_min, reach.x_max);
+        said.text(", y ");
+        say_range(said, reach.y_min, reach.y_max);
+        said.text(", where the store has legs");
+        said.text(self.exchange_hint(asked, reach));
     }
 }
 
-/// The moments between which a store has legs.
-#[derive(Clone, Copy)]
-struct Span {
-    begin: Ms,
-    end: Ms,
+/// Says why a period meets no leg of a store that has legs between these moments.
+fn say_off_in_time(said: &mut Sentence, begin: Ms, end: Ms) {
+    said.text("the period does not meet ");
+    said.instant(begin, 0);
+    said.text(" to ");
+    say_beside(said, end, begin);
+    said.text(", when the store has legs");
 }
 
-/// From one moment to another one, as they are printed.
-fn period_of(alloc: Global, span: Span) -> Result<String, AllocError> {
-    let begin = instant_of(alloc, span.begin)?;
-    let begin = begin.as_str();
-    let end = beside(alloc, span.end, begin)?;
-    let end = end.as_str();
-    format!(in alloc; "{begin} to {end}")
+/// Whether boxes do not meet, the first of what is asked of, and the other over all legs of a store.
+pub fn misses(asked: &Box3, reach: &Box3) -> bool {
+    !meet_in_plane(asked, reach) || !meet(asked.t_min, asked.t_max, reach.t_min, reach.t_max)
 }
 
-/// Why a period meets no leg.
-fn off_in_time(alloc: Global, span: Span) -> Result<String, AllocError> {
-    let period = period_of(alloc, span)?;
-    let period = period.as_str();
-    format!(in alloc; "the period does not meet {period}, when the store has legs")
-}
-
-/// The moments between which a store has legs.
-fn span_of(reach: &Box3) -> Option<Span> {
-    let (begin, end) = (Ms::new(reach.t_min)?, Ms::new(reach.t_max)?);
-    Some(Span { begin, end })
-}
-
-/// Why an area of that box and a period meet no leg of a store whose legs all lie in that other box; `None` where the
-/// boxes do not tell.
-pub fn reach_words(
-    alloc: Global,
-    area: Area,
-    asked: &Box3,
-    reach: &Box3,
-) -> Result<Option<String>, AllocError> {
+/// Says why an area of that box and a period meet no leg of a store whose legs all lie in that other box, which the first
+/// one misses.
+pub fn say_reach(said: &mut Sentence, area: Area, asked: &Box3, reach: &Box3) {
     if !meet_in_plane(asked, reach) {
-        return Ok(Some(area.off_in_plane(alloc, asked, reach)?));
+        area.say_off_in_plane(said, asked, reach);
+    } else if let (Some(begin), Some(end)) = (Ms::new(reach.t_min), Ms::new(reach.t_max)) {
+        say_off_in_time(said, begin, end);
     }
-    if !meet(asked.t_min, asked.t_max, reach.t_min, reach.t_max) {
-        return match span_of(reach) {
-            Some(span) => Ok(Some(off_in_time(alloc, span)?)),
-            None => Ok(None),
-        };
-    }
-    Ok(None)
 }

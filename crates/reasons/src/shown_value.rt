@@ -27,13 +27,20 @@ pub fn is_seen(c: char) -> bool {
     !is_command(c) && !is_hidden(c)
 }
 
+/// The character that is shown for a character.
+fn seen_for(c: char) -> char {
+    if is_seen(c) { c } else { '\u{fffd}' }
+}
+
 impl fmt::Display for Shown<'_> {
     fn fmt<W: fmt::Write>(&self, f: &mut fmt::Formatter<W>) -> fmt::Result {
-        for (place, c) in self.0.chars().enumerate() {
-            if place == MOST {
+        let mut left = MOST;
+        for c in self.0.chars() {
+            if left == 0 {
                 return f.write_str("...");
             }
-            f.write_char(if is_seen(c) { c } else { '\u{fffd}' })?;
+            left -= 1;
+            f.write_char(seen_for(c))?;
         }
         Ok(())
     }

@@ -21,6 +21,7 @@ use Rattle.trajdb.specs.declared.RunFault.{RunFault}
 use Rattle.trajdb.specs.declared.RunFault.TheVariants.{Failed, Memory, Output, Store as StoreFailed}
 use Rattle.sessions.specs.Answers.{new_shape, IsAtLoad, SendsLines}
 use Rattle.sessions.specs.declared.fault.Fault.{Fault}
+use Rattle.sessions.specs.declared.fault.Named.{Named}
 use Rattle.sessions.specs.declared.folder_refusals.FolderRefusals.{FolderRefusals}
 use Rattle.sessions.specs.declared.fault.Fault.TheVariants.{CannotRead, InUse, NoStore, Run}
 
@@ -198,8 +199,8 @@ pub record OpensOrMakes {S : Type 0} (seen : S → Store) (store : Store) (is_ne
   pub opens : (is_new ≡ false) ⊎ (0 < store.count) → OpenCall seen store cache_pages opened
   pub makes : IsTrue is_new → store.count ≡ 0 → Makes seen store limits cache_pages opened
 
--- memory ran out, or the file of that name is said not to be read
-abbrev pub IsUnreadFile : List ℕ → Fault → Type 0
-IsUnreadFile name (Run why) = why ≡ Memory
-IsUnreadFile name (CannotRead said cause) = said.now ≡ name
-IsUnreadFile name _ = ⊥
+-- memory ran out, or that file is said not to be read
+abbrev pub IsUnreadFile : Named → Fault → Type 0
+IsUnreadFile named (Run why) = why ≡ Memory
+IsUnreadFile named (CannotRead said cause) = said ≡ named
+IsUnreadFile named _ = ⊥

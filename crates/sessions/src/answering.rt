@@ -9,7 +9,7 @@ use trajdb::RunFault;
 
 /// Sends all the bytes, and flushes the output. Where they are not all sent, or the flush is refused, `Output`: then the
 /// output has a front of them, or all.
-pub fn send_all<'a, O: Output>(out: &mut O, bytes: &[u8]) -> Result<(), Fault<'a>>
+pub fn send_all<O: Output>(out: &mut O, bytes: &[u8]) -> Result<(), Fault>
     // After `Ok` the output took all the bytes.
     ensures sent { OnOk result
         (Appends (O.seen out.old).contents (O.seen out.new).contents bytes.now) }

@@ -1,6 +1,5 @@
 //! Why a file of the system was not opened, made, read or written.
-use std::fmt::{Display, Formatter};
-use std::{fmt, io};
+use std::io;
 
 /// Why a file of the system was not opened, made, read or written.
 #[derive(Clone, Copy, PartialEq, Eq, Debug)]
@@ -46,9 +45,10 @@ impl From<io::ErrorKind> for Cause {
     }
 }
 
-impl Display for Cause {
-    fn fmt<W: fmt::Write>(&self, f: &mut Formatter<W>) -> fmt::Result {
-        f.write_str(match self {
+impl Cause {
+    /// The cause in words.
+    pub fn as_str(&self) -> &'static str {
+        match self {
             Cause::Absent => "there is no such file or folder",
             Cause::NoRight => "there is no right to do so",
             Cause::Folder => "it is a folder",
@@ -59,6 +59,6 @@ impl Display for Cause {
             Cause::Limited => "it would be longer than the system lets it be",
             Cause::Empty => "it has no byte",
             Cause::Other => "the system refused a call",
-        })
+        }
     }
 }

@@ -23,17 +23,32 @@ pub enum RectsFault {
     Corner(LineCode),
 }
 
+/// A file or a folder, by the word of the command line that names it.
+#[derive(Clone, Copy, PartialEq, Eq, Debug)]
+pub enum Named {
+    /// The store.
+    Store,
+    /// The script.
+    Script,
+    /// The data file of that place among them, from 0.
+    File(usize),
+    /// The file of rectangles or zones.
+    Areas,
+    /// The folder of the parts.
+    Folder,
+}
+
 /// Why the program failed.
 #[derive(Clone, Copy, PartialEq, Eq, Debug)]
-pub enum Fault<'a> {
+pub enum Fault {
     /// A run or a check was not brought to its end.
     Run(RunFault),
     /// The database was not made, opened or brought over.
     Open(OpenFault),
-    /// The script or a file of that name could not be read, or is too long, and why.
-    CannotRead(&'a str, Cause),
-    /// A file of a part could not be written into the folder of that name, and why.
-    CannotWrite(&'a str, Cause),
+    /// A file could not be read, or is too long, and why.
+    CannotRead(Named, Cause),
+    /// A file could not be written into a folder, and why.
+    CannotWrite(Named, Cause),
     /// The file that a store was to be brought over into is there, and has bytes.
     NotEmpty,
     /// There is no part of that number among so many.
@@ -52,7 +67,15 @@ pub enum Fault<'a> {
     Rects(u64, RectsFault),
 }
 
-impl Fault<'_> {
+impl Fault {
+    /// The file or folder whose name belongs behind the fault's line.
+    pub fn named(&self) -> Option<Named> {
+        match self {
+            Fault::CannotRead(named, _) | Fault::CannotWrite(named, _) => Some(*named),
+            _ => None,
+        }
+    }
+
     /// Whether a store that failed is the fault.
     pub fn is_of_store(&self) -> bool {
         match self {
@@ -64,7 +87,7 @@ impl Fault<'_> {
     }
 }
 
-impl From<AllocError> for Fault<'_> {
+impl From<AllocError> for Fault {
     ghost use Rattle.sessions.specs.declared.fault.Fault.{Fault};
     ghost use Rattle.sessions.specs.declared.fault.Fault.TheVariants.{Run};
     ghost use Rattle.trajdb.specs.declared.RunFault.{RunFault};
@@ -76,7 +99,7 @@ impl From<AllocError> for Fault<'_> {
     }
 }
 
-impl From<RunFault> for Fault<'_> {
+impl From<RunFault> for Fault {
     ghost use Rattle.sessions.specs.declared.fault.Fault.{Fault};
     ghost use Rattle.sessions.specs.declared.fault.Fault.TheVariants.{Run};
 
@@ -87,7 +110,7 @@ impl From<RunFault> for Fault<'_> {
     }
 }
 
-impl From<OpenFault> for Fault<'_> {
+impl From<OpenFault> for Fault {
     ghost use Rattle.sessions.specs.declared.fault.Fault.{Fault};
     ghost use Rattle.sessions.specs.declared.fault.Fault.TheVariants.{Open};
 
@@ -109,8 +132,8 @@ pub(crate) fn bounds_text(code: LineCode) -> &'static str {
     }
 }
 
-/// What the fault's line says after `mftb: `.
-impl Display for Fault<'_> {
+/// What the fault's line says after `mftb: `. The name of [`Fault::named`] follows, where there is one.
+impl Display for Fault {
     fn fmt<W: fmt::Write>(&self, f: &mut Formatter<W>) -> fmt::Result {
         match self {
             Fault::Run(RunFault::Memory) | Fault::Open(OpenFault::Memory) => f.write_str("memory"),
@@ -128,8 +151,8 @@ impl Display for Fault<'_> {
             Fault::Open(OpenFault::Malformed) => f.write_str("store malformed"),
             Fault::Run(RunFault::Failed) => f.write_str("failed"),
             Fault::Run(RunFault::Output) => f.write_str("output"),
-            Fault::CannotRead(name, _) => write!(f, "cannot read {name}"),
-            Fault::CannotWrite(name, _) => write!(f, "cannot write {name}"),
+            Fault::CannotRead(..) => f.write_str("cannot read"),
+            Fault::CannotWrite(..) => f.write_str("cannot write"),
             Fault::NotEmpty => f.write_str("new store not empty"),
             Fault::NoPart(part, parts) => {
                 write!(f, "no part {part} of {parts}: parts are numbered from 0")

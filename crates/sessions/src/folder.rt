@@ -26,7 +26,7 @@ pub trait Folder {
     /// Makes a copy of the store's file beside it, or a new file where there is none, and opens it.
     /// What is then written to it changes the copy alone. Where it is refused, `discard` takes away
     /// what was made.
-    fn copy(&mut self) -> Result<Self::Store, Fault<'static>>
+    fn copy(&mut self) -> Result<Self::Store, Fault>
         // After `Ok` there is a copy, and nothing else has changed.
         ensures made { OnOk result (seen self.new ≡ record (seen self.old) { has_copy = true }) }
         // The copy has the pages of what the store's name stands for.
@@ -41,7 +41,7 @@ pub trait Folder {
             → HasPagesHeld (Self.Store.PageStore.seen store.now) (seen self.now).held };
 
     /// Makes what was written to the copy last, as on a disk.
-    fn sync(&mut self, store: &mut Self::Store) -> Result<(), Fault<'static>>
+    fn sync(&mut self, store: &mut Self::Store) -> Result<(), Fault>
         // There is a copy.
         requires { IsTrue (seen self.old).has_copy }
         // No page of the copy changes.
@@ -55,7 +55,7 @@ pub trait Folder {
         ensures refused { IfErr result (λ fault. Refuses fault (seen self.old) (seen self.new)) };
 
     /// Gives the store's name to the copy, in one step. All that was written to it is synced.
-    fn replace(&mut self, store: Self::Store) -> Result<(), Fault<'static>>
+    fn replace(&mut self, store: Self::Store) -> Result<(), Fault>
         // The copy is synced.
         requires synced { IsSynced (Self.Store.PageStore.seen store) }
         // There is a copy.

@@ -11,7 +11,7 @@ pub struct FolderRefusals {
     /// How often.
     pub refusals: Refusals,
     /// Why, where it ever did.
-    pub last: Option<Fault<'static>>,
+    pub last: Option<Fault>,
 }
 
 impl FolderRefusals {
@@ -24,11 +24,11 @@ impl FolderRefusals {
     }
 
     /// Counts a refusal for that fault, which is kept as the last one, and gives it back.
-    pub fn note(&mut self, fault: Fault<'static>) -> Fault<'static>
+    pub fn note(&mut self, fault: Fault) -> Fault
         // It returns the error that it was given.
-        ensures same { result ≡ fault.entry }
+        ensures same { result ≡ fault }
         // One refusal more is counted, up to 2^64 - 1, and the error is now the last one.
-        ensures noted { self.new ≡ noted fault.entry self.old }
+        ensures noted { self.new ≡ noted fault self.old }
     {
         self.refusals.add();
         self.last = Some(fault);

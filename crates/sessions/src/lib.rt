@@ -22,7 +22,7 @@ pub use answering::send_all;
 pub use cause::Cause;
 pub use checking::check_and_close;
 pub use ended::Ended;
-pub use fault::{Fault, RectsFault};
+pub use fault::{Fault, Named, RectsFault};
 pub use folder::Folder;
 pub use folder_refusals::FolderRefusals;
 pub use migrating::{Migrate, migrate_and_close};

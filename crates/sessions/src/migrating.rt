@@ -123,12 +123,12 @@ impl<T: PageStore> Migrate<T> for Db<T> {
 ///
 /// Where it is not brought over, `Open`, as [`Migrate::migrate`] says it; where the new
 /// store is not closed, `Run`.
-pub fn migrate_and_close<'a, S: PageStore, T: PageStore>(
+pub fn migrate_and_close<S: PageStore, T: PageStore>(
     alloc: Global,
     keys: RandomState,
     old: &mut S,
     new: T,
-) -> (T, Result<(), Fault<'a>>)
+) -> (T, Result<(), Fault>)
     // The new store has no page.
     requires { (T.seen new).count ≡ 0 }
     // The new store then holds the book that the other holds.

@@ -14,7 +14,7 @@ use pages::PageStore;
 use trajdb::{Files, RunFault};
 
 /// Gives the store's name to a copy whose pages are on the disk, and makes that last.
-fn give<'a, F: Folder>(folder: &mut F, mut store: F::Store) -> Result<(), Fault<'a>>
+fn give<F: Folder>(folder: &mut F, mut store: F::Store) -> Result<(), Fault>
     requires { IsTrue (F.seen folder.old).has_copy }
     ensures given { OnOk result (IsReplaced (F.Store.PageStore.seen store) (F.seen folder.old)
         (F.seen folder.new) × IsTrue (F.seen folder.new).is_settled) }
@@ -31,7 +31,7 @@ fn give<'a, F: Folder>(folder: &mut F, mut store: F::Store) -> Result<(), Fault<
 }
 
 /// Gives the store's name to a copy, where a page of it was written, and takes it away otherwise.
-fn keep<'a, F: Folder>(folder: &mut F, store: F::Store) -> Result<(), Fault<'a>>
+fn keep<F: Folder>(folder: &mut F, store: F::Store) -> Result<(), Fault>
     requires { IsTrue (F.seen folder.old).has_copy }
     ensures kept { OnOk result (IsKept (F.Store.PageStore.seen store) (F.seen folder.old)
         (F.seen folder.new)) }
@@ -53,13 +53,13 @@ fn keep<'a, F: Folder>(folder: &mut F, store: F::Store) -> Result<(), Fault<'a>>
 }
 
 /// Runs a script over the store of a copy, and closes its database.
-fn run_over<'a, S: PageStore, O: Output>(
+fn run_over<S: PageStore, O: Output>(
     store: S,
     how: &Opening,
     script: &[u8],
     files: &Files,
     out: &mut O,
-) -> (S, Ended<'a>)
+) -> (S, Ended)
     requires { 0 < how.now.cache_pages }
     ensures { (held : Option History) → IfSome held (λ past. S.seen store ≡ store_in past)
         → OfEachBook held how.now.is_new how.now.limits (LeavesCopy files.now
@@ -77,13 +77,13 @@ fn run_over<'a, S: PageStore, O: Output>(
 ///
 /// `script` and `files` are bytes as they were read; the answers go to `out`. It is refused as the
 /// folder refuses it (`Folder::copy`, `Folder::sync`, `Folder::replace`), and as `answer` does.
-pub fn run_on_copy<'a, F: Folder, O: Output>(
+pub fn run_on_copy<F: Folder, O: Output>(
     folder: &mut F,
     how: &Opening,
     script: &[u8],
     files: &Files,
     out: &mut O,
-) -> Ended<'a>
+) -> Ended
     // The cache has room for a page.
     requires { 0 < how.now.cache_pages }
 

@@ -12,13 +12,13 @@ use trajdb::RunFault;
 
 /// Sends part `k` of `n` of a file, of which these are the bytes; parts are numbered from 0. Where
 /// there is no memory for its text, `Memory`, and where that is not all sent, or the flush is refused, `Output`.
-pub fn send_part<'a, O: Output>(
+pub fn send_part<O: Output>(
     alloc: Global,
     k: u32,
     n: u32,
     bytes: &[u8],
     out: &mut O,
-) -> Result<(), Fault<'a>>
+) -> Result<(), Fault>
     // There is a part of that number.
     requires { k < n }
     // What was sent is the text of the part, which says exactly its records, under their numbers in

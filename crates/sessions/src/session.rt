@@ -112,7 +112,7 @@ pub fn run_and_close<S: PageStore, O: Output>(
 }
 
 /// What a run and its closing answer, as an answer of the program: the run's own fault comes first.
-fn answer_of<'a>(ran: Result<(), RunFault>, closed: Result<(), RunFault>) -> Result<(), Fault<'a>>
+fn answer_of(ran: Result<(), RunFault>, closed: Result<(), RunFault>) -> Result<(), Fault>
     ensures { result ≡ said ran closed }
 {
     match ran {
@@ -128,13 +128,13 @@ fn answer_of<'a>(ran: Result<(), RunFault>, closed: Result<(), RunFault>) -> Res
 /// `run_and_close` does (`Run`). Where there is no database it is refused as that was (`Open`).
 ///
 /// `Ended::ran` is the run's fault, or else the closing's, and `Ended::kept` the closing's.
-pub fn answer<'a, S: PageStore, O: Output>(
+pub fn answer<S: PageStore, O: Output>(
     alloc: Global,
     database: Result<Db<S>, (S, OpenFault)>,
     script: &[u8],
     files: &Files,
     out: &mut O,
-) -> (S, Ended<'a>)
+) -> (S, Ended)
     // What was sent is exactly the text of the run over the book, and the store then holds the book
     // after it, in a tree of the same shape.
     ensures runs { OnOk result.1.ran (IfOk database (λ db. IsSoundDb db → HasPages db → IsIdle db

@@ -40,7 +40,7 @@ fn ends(
     folder: &mut MemFolder,
     script: &str,
     room: usize,
-) -> Result<(Ended<'static>, [u8; ROOM]), Fail> {
+) -> Result<(Ended, [u8; ROOM]), Fail> {
     let how = Opening {
         alloc: rt.alloc(),
         keys: RandomState::new(rt)?,

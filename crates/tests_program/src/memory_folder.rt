@@ -183,7 +183,7 @@ impl Folder for MemFolder {
       refused = f.refused;
     } };
 
-    fn copy(&mut self) -> Result<MemCopy, Fault<'static>> {
+    fn copy(&mut self) -> Result<MemCopy, Fault> {
         if self.calls.burns() {
             return Err(self.refused.note(Fault::Run(RunFault::Store)));
         }
@@ -206,14 +206,14 @@ impl Folder for MemFolder {
         true
     }
 
-    fn sync(&mut self, store: &mut MemCopy) -> Result<(), Fault<'static>> {
+    fn sync(&mut self, store: &mut MemCopy) -> Result<(), Fault> {
         if store.sync().is_err() {
             return Err(self.refused.note(Fault::Run(RunFault::Store)));
         }
         Ok(())
     }
 
-    fn replace(&mut self, store: MemCopy) -> Result<(), Fault<'static>> {
+    fn replace(&mut self, store: MemCopy) -> Result<(), Fault> {
         self.calls = store.calls;
         if self.calls.burns() {
             return Err(self.refused.note(Fault::Run(RunFault::Store)));

@@ -4,8 +4,8 @@ use outputs::CountedOutput;
 use pages::{Fuse, MemStore};
 use querylang::LineCode;
 use sessions::{
-    Cause, Fault, MOST_BYTES, MOST_FEATURES, MOST_LEGS, Opening, RectsFault, answer, database,
-    read_named,
+    Cause, Fault, MOST_BYTES, MOST_FEATURES, MOST_LEGS, Named, Opening, RectsFault, answer,
+    database, read_named,
 };
 use std::fs;
 use std::hash::RandomState;
@@ -22,9 +22,9 @@ a,0,10,0 0 10 0
 #[test]
 fn a_file_that_is_too_long_is_not_read(rt: HostRuntime) -> Result<(), Fail> {
     fs::write(&rt, "five.txt", "12345")?;
-    assert!(rt; read_named(&rt, "five.txt", 5)?.as_slice() == b"12345".as_slice());
-    let too_long = Fault::CannotRead("five.txt", Cause::TooLong);
-    assert!(rt; read_named(&rt, "five.txt", 4).err() == Some(too_long));
+    assert!(rt; read_named(&rt, Named::Script, "five.txt", 5)?.as_slice() == b"12345".as_slice());
+    let too_long = Fault::CannotRead(Named::Script, Cause::TooLong);
+    assert!(rt; read_named(&rt, Named::Script, "five.txt", 4).err() == Some(too_long));
     assert_eq!(rt; MOST_BYTES, 1_073_741_824);
     Ok(())
 }
@@ -45,8 +45,8 @@ const FAULTS: [(Fault, &str); 18] = [
     (Fault::Open(OpenFault::Version), "store version"),
     (Fault::Open(OpenFault::Malformed), "store malformed"),
     (
-        Fault::CannotRead("a.csv", Cause::Absent),
-        "cannot read a.csv",
+        Fault::CannotRead(Named::File(0), Cause::Absent),
+        "cannot read",
     ),
     (Fault::NotEmpty, "new store not empty"),
     (Fault::InUse, "store in use"),

@@ -7,7 +7,7 @@ use crate::system::store_names::Names;
 use mfcsv::Dimension;
 use pages::PageStore;
 use reports::Frame;
-use sessions::Fault;
+use sessions::{Fault, Named};
 use std::alloc::Global;
 use std::fs::File;
 use std::hash::RandomState;
@@ -17,13 +17,13 @@ use timebase::Ms;
 use trajdb::{Db, RunFault};
 
 /// The store of a file that is there, opened to be read alone; none is made.
-pub(crate) fn store_to_ask<'a, R: Files<File = File> + AllocGlobal>(
+pub(crate) fn store_to_ask<R: Files<File = File> + AllocGlobal>(
     rt: &R,
-    store: &'a str,
-) -> Result<AskedStore, Fault<'a>> {
+    store: &str,
+) -> Result<AskedStore, Fault> {
     let names = Names::new(rt, store)?;
     if let Some(cause) = absence_of(rt, names.store.as_str()) {
-        return Err(Fault::CannotRead(store, cause));
+        return Err(Fault::CannotRead(Named::Store, cause));
     }
     sweep(rt, &names);
     open_asked(rt, &names)
@@ -44,7 +44,7 @@ pub(crate) fn cached_pages(asked: u32) -> u32
 }
 
 /// What names are hashed with: a stranger who chooses the names of a file is not to know it.
-pub(crate) fn keys_of<'a, R: RandomSource>(rt: &R) -> Result<RandomState, Fault<'a>> {
+pub(crate) fn keys_of<R: RandomSource>(rt: &R) -> Result<RandomState, Fault> {
     match RandomState::new(rt) {
         Ok(keys) => Ok(keys),
         Err(_) => Err(Fault::Run(RunFault::Memory)),
@@ -52,11 +52,11 @@ pub(crate) fn keys_of<'a, R: RandomSource>(rt: &R) -> Result<RandomState, Fault<
 }
 
 /// The database of a store.
-pub(crate) fn database_to_ask<'a, R: AllocGlobal + RandomSource, S: PageStore + Drop>(
+pub(crate) fn database_to_ask<R: AllocGlobal + RandomSource, S: PageStore + Drop>(
     rt: &R,
     store: S,
     cache_pages: u32,
-) -> Result<Db<S>, Fault<'a>> {
+) -> Result<Db<S>, Fault> {
     let keys = keys_of(rt)?;
     match Db::open(rt.alloc(), keys, store, cached_pages(cache_pages) as usize) {
         Ok(database) => Ok(database),
@@ -65,15 +65,47 @@ pub(crate) fn database_to_ask<'a, R: AllocGlobal + RandomSource, S: PageStore + 
 }
 
 /// Closes a database that was asked, and gives what it told.
-pub(crate) fn close_asked<'a, S: PageStore + Drop, T: Drop>(
+fn close_asked<S: PageStore + Drop, T: Drop>(
     alloc: Global,
     database: Db<S>,
     told: Result<T, RunFault>,
-) -> Result<T, Fault<'a>> {
+) -> Result<T, Fault> {
     let (_store, closed) = database.close(alloc);
     let told = told?;
     closed?;
     Ok(told)
+}
+
+/// What is asked of a database.
+pub(crate) trait Question {
+    /// What it tells.
+    type Told: Drop;
+
+    /// Asks a database.
+    fn ask<S: PageStore>(self, database: &mut Db<S>) -> Result<Self::Told, RunFault>;
+}
+
+/// What the database of a store tells.
+fn told_of<R: AllocGlobal + RandomSource, S: PageStore + Drop, Q: Question + Drop>(
+    rt: &R,
+    store: S,
+    cache_pages: u32,
+    question: Q,
+) -> Result<Q::Told, Fault> {
+    let mut database = database_to_ask(rt, store, cache_pages)?;
+    let told = question.ask(&mut database);
+    close_asked(rt.alloc(), database, told)
+}
+
+/// Opens a store to be read alone, and gives what its database tells.
+pub(crate) fn told_by<R: Files<File = File> + AllocGlobal + RandomSource, Q: Question + Drop>(
+    rt: &R,
+    store: &str,
+    cache_pages: u32,
+    question: Q,
+) -> Result<Q::Told, Fault> {
+    let store = store_to_ask(rt, store)?;
+    told_of(rt, store, cache_pages, question)
 }
 
 /// How a database's records are written, behind a label.

@@ -37,7 +37,7 @@ pub(crate) fn is_word(text: &str) -> bool {
 }
 
 /// Refuses coordinates of which one is no word.
-pub(crate) fn hold_words<'a>(texts: &[&str]) -> Result<(), Fault<'a>> {
+pub(crate) fn hold_words(texts: &[&str]) -> Result<(), Fault> {
     for text in texts {
         if !is_word(text) {
             return Err(Fault::Bounds(LineCode::Q3));
@@ -47,7 +47,7 @@ pub(crate) fn hold_words<'a>(texts: &[&str]) -> Result<(), Fault<'a>> {
 }
 
 /// Refuses times of which one is no word: none of them is an instant.
-pub(crate) fn hold_times<'a>(times: [&str; 2]) -> Result<(), Fault<'a>> {
+pub(crate) fn hold_times(times: [&str; 2]) -> Result<(), Fault> {
     let [t1, t2] = times;
     if is_word(t1) && is_word(t2) {
         Ok(())
@@ -77,7 +77,7 @@ pub(crate) fn rect_of(corners: &Corners<'_>) -> Result<Rect, LineCode> {
 }
 
 /// The moment of a word.
-fn moment_of<'a>(word: &str) -> Result<Ms, Fault<'a>> {
+fn moment_of(word: &str) -> Result<Ms, Fault> {
     match read_instant(word) {
         Ok(moment) => Ok(moment),
         Err(TimeFault::Memory) => Err(Fault::Run(RunFault::Memory)),
@@ -86,7 +86,7 @@ fn moment_of<'a>(word: &str) -> Result<Ms, Fault<'a>> {
 }
 
 /// The period of T1 and T2, refused likewise.
-pub(crate) fn period_of<'a>(times: [&str; 2]) -> Result<Period, Fault<'a>> {
+pub(crate) fn period_of(times: [&str; 2]) -> Result<Period, Fault> {
     hold_times(times)?;
     let [t1, t2] = times;
     let t1 = moment_of(t1)?;

@@ -24,22 +24,22 @@ fn text_of(alloc: Global, report: &Report) -> Result<String, AllocError> {
 }
 
 /// Opens the store to be read alone. A file that is absent is made, without a byte.
-fn store_to_check<'a, R: Files<File = File> + AllocGlobal>(
+fn store_to_check<R: Files<File = File> + AllocGlobal>(
     rt: &R,
     store: &str,
-) -> Result<AskedStore, Fault<'a>> {
+) -> Result<AskedStore, Fault> {
     let names = Names::new(rt, store)?;
     sweep(rt, &names);
     open_asked(rt, &names)
 }
 
 /// Checks the database of a store, and says how much it holds.
-fn check_store<'a, R: AllocGlobal + RandomSource, S: PageStore + Drop, O: Output>(
+fn check_store<R: AllocGlobal + RandomSource, S: PageStore + Drop, O: Output>(
     rt: &R,
     store: S,
     cache_pages: u32,
     out: &mut O,
-) -> Result<(), Fault<'a>> {
+) -> Result<(), Fault> {
     let database = database_to_ask(rt, store, cache_pages)?;
     let (_store, checked) = check_and_close(rt.alloc(), database);
     match checked {
@@ -49,11 +49,11 @@ fn check_store<'a, R: AllocGlobal + RandomSource, S: PageStore + Drop, O: Output
 }
 
 /// Checks the database of the store of that name.
-pub(crate) fn check<'a, R: Files<File = File> + AllocGlobal + RandomSource, O: Output>(
+pub(crate) fn check<R: Files<File = File> + AllocGlobal + RandomSource, O: Output>(
     rt: &R,
-    check: &Check<'a>,
+    check: &Check<'_>,
     out: &mut O,
-) -> Result<(), Fault<'a>> {
+) -> Result<(), Fault> {
     let store = store_to_check(rt, check.store)?;
     check_store(rt, store, check.cache_pages, out)
 }

@@ -1,5 +1,5 @@
 //! `mftb gaps`: times without a position, by feature.
-use crate::commands::asking::{close_asked, database_to_ask, frame_of, store_to_ask};
+use crate::commands::asking::{Question, frame_of, told_by};
 use crate::commands::bounds::{always, period_of, plane};
 use arguments::Gaps;
 use moments::{Gap, gaps_of};
@@ -61,26 +61,31 @@ fn text_of<S: PageStore>(
     }
 }
 
-/// The text of the gaps of a store's database in a period.
-fn told_of<'a, R: AllocGlobal + RandomSource, S: PageStore + Drop>(
-    rt: &R,
-    store: S,
-    cache_pages: u32,
-    period: &Period,
-) -> Result<Vec<u8>, Fault<'a>> {
-    let mut database = database_to_ask(rt, store, cache_pages)?;
-    let text = text_of(rt.alloc(), &mut database, period);
-    close_asked(rt.alloc(), database, text)
+/// A question for gaps in a period.
+#[derive(Drop)]
+struct GapsAsked {
+    alloc: Global,
+    period: Period,
+}
+
+impl Question for GapsAsked {
+    type Told = Vec<u8>;
+
+    fn ask<S: PageStore>(self, database: &mut Db<S>) -> Result<Vec<u8>, RunFault> {
+        text_of(self.alloc, database, &self.period)
+    }
 }
 
 /// Opens the store to be read alone, and prints the gaps of its features that have a moment in the period.
-pub(crate) fn print_gaps<'a, R: Files<File = File> + AllocGlobal + RandomSource, O: Output>(
+pub(crate) fn print_gaps<R: Files<File = File> + AllocGlobal + RandomSource, O: Output>(
     rt: &R,
-    task: &Gaps<'a>,
+    task: &Gaps<'_>,
     out: &mut O,
-) -> Result<(), Fault<'a>> {
-    let period = period_of(task.times)?;
-    let store = store_to_ask(rt, task.store)?;
-    let told = told_of(rt, store, task.cache_pages, &period)?;
+) -> Result<(), Fault> {
+    let asked = GapsAsked {
+        alloc: rt.alloc(),
+        period: period_of(task.times)?,
+    };
+    let told = told_by(rt, task.store, task.cache_pages, asked)?;
     send_all(out, &told)
 }

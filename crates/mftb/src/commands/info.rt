@@ -2,6 +2,7 @@
 use crate::commands::asking::store_to_ask;
 use crate::system::stored::{Seen, look};
 use arguments::{Info, InfoForm};
+use legs::Box3;
 use outputs::Output;
 use pagecache::PageCache;
 use pages::PageStore;
@@ -13,8 +14,17 @@ use std::fs::File;
 use std::rt::Files;
 use trajdb::{OpenFault, RunFault};
 
+/// What is known of a store.
+#[derive(Drop)]
+struct Known {
+    summary: Summary,
+    seen: Seen,
+    /// The box over all legs.
+    extent: Option<Box3>,
+}
+
 /// What a store says of its database without its rows.
-fn summary_of<'a, S: PageStore + Drop>(alloc: Global, store: S) -> Result<Summary, Fault<'a>> {
+fn summary_of<S: PageStore + Drop>(alloc: Global, store: S) -> Result<Summary, Fault> {
     let Ok(mut cache) = PageCache::new(alloc, store, CACHE_PAGES as usize) else {
         return Err(Fault::Open(OpenFault::Memory));
     };
@@ -22,6 +32,19 @@ fn summary_of<'a, S: PageStore + Drop>(alloc: Global, store: S) -> Result<Summar
         Ok(summary) => Ok(summary),
         Err(fault) => Err(Fault::Open(fault)),
     }
+}
+
+/// What a store says of its database without its rows, and what is seen of its pages. Why it says nothing of a database
+/// comes first.
+fn known_of<S: PageStore + Drop>(alloc: Global, mut store: S) -> Result<Known, Fault> {
+    let seen = look(&mut store);
+    let summary = summary_of(alloc, store)?;
+    let seen = seen?;
+    Ok(Known {
+        summary,
+        seen,
+        extent: seen.extent?,
+    })
 }
 
 /// Appends a report in a form.
@@ -32,13 +55,13 @@ fn push(text: &mut Vec<u8>, said: &StoreReport<'_>, form: InfoForm) -> Result<()
     }
 }
 
-/// The text of what a store says of its database, and of what was seen of its pages.
-fn text_of(
-    alloc: Global,
-    summary: &Summary,
-    seen: &Seen,
-    form: InfoForm,
-) -> Result<Vec<u8>, RunFault> {
+/// The text of what is known of a store.
+fn text_of(alloc: Global, known: &Known, form: InfoForm) -> Result<Vec<u8>, RunFault> {
+    let Known {
+        summary,
+        seen,
+        extent,
+    } = known;
     let said = StoreReport {
         version: seen.header.front.version,
         pages: seen.pages,
@@ -46,7 +69,7 @@ fn text_of(
         legs: summary.legs,
         features: summary.features,
         limits: summary.limits,
-        extent: seen.extent,
+        extent: *extent,
     };
     let mut text = Vec::new(alloc);
     match push(&mut text, &said, form) {
@@ -55,26 +78,14 @@ fn text_of(
     }
 }
 
-/// Prints what a store says of its database, and what was seen of its pages.
-fn print_report<'a, O: Output>(
-    alloc: Global,
-    summary: &Summary,
-    seen: &Seen,
-    form: InfoForm,
-    out: &mut O,
-) -> Result<(), Fault<'a>> {
-    let text = text_of(alloc, summary, seen, form)?;
-    send_all(out, &text)
-}
-
-/// Opens the store to be read alone, and prints what it holds. Why it says nothing of a database comes first.
-pub(crate) fn print_info<'a, R: Files<File = File> + AllocGlobal, O: Output>(
+/// Opens the store to be read alone, and prints what it holds.
+pub(crate) fn print_info<R: Files<File = File> + AllocGlobal, O: Output>(
     rt: &R,
-    task: &Info<'a>,
+    task: &Info<'_>,
     out: &mut O,
-) -> Result<(), Fault<'a>> {
-    let mut store = store_to_ask(rt, task.store)?;
-    let seen = look(&mut store);
-    let summary = summary_of(rt.alloc(), store)?;
-    print_report(rt.alloc(), &summary, &seen?, task.form, out)
+) -> Result<(), Fault> {
+    let store = store_to_ask(rt, task.store)?;
+    let known = known_of(rt.alloc(), store)?;
+    let text = text_of(rt.alloc(), &known, task.form)?;
+    send_all(out, &text)
 }

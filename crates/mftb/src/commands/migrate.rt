@@ -14,7 +14,7 @@ use std::rt::Files;
 use trajdb::{OpenFault, RunFault};
 
 /// Why a file is not taken for a new store: it has bytes, or is not opened.
-fn not_new<'a, R: Files<File = File> + AllocGlobal>(rt: &R, name: &str) -> Fault<'a> {
+fn not_new<R: Files<File = File> + AllocGlobal>(rt: &R, name: &str) -> Fault {
     match FileStore::open(rt, name) {
         Ok(_) => Fault::NotEmpty,
         Err(_) => Fault::Run(RunFault::Store),
@@ -22,12 +22,12 @@ fn not_new<'a, R: Files<File = File> + AllocGlobal>(rt: &R, name: &str) -> Fault
 }
 
 /// Brings a store of version 1 over into a new one.
-fn bring<'a, S: PageStore + Drop, T: PageStore + Drop>(
+fn bring<S: PageStore + Drop, T: PageStore + Drop>(
     alloc: Global,
     keys: RandomState,
     mut old: S,
     new: T,
-) -> Result<(), Fault<'a>> {
+) -> Result<(), Fault> {
     if new.len() != 0 {
         return Err(Fault::NotEmpty);
     }
@@ -36,23 +36,23 @@ fn bring<'a, S: PageStore + Drop, T: PageStore + Drop>(
 }
 
 /// Brings a store of version 1 over into the new file of these names.
-fn bring_into<'a, R: Files<File = File> + AllocGlobal, S: PageStore + Drop>(
+fn bring_into<R: Files<File = File> + AllocGlobal, S: PageStore + Drop>(
     rt: &R,
     keys: RandomState,
     old: S,
     names: &Names,
-) -> Result<(), Fault<'a>> {
+) -> Result<(), Fault> {
     let new = open_in_place(rt, names)?;
     bring(rt.alloc(), keys, old, new)
 }
 
 /// Brings a store of version 1 over into the new file of that name.
-fn bring_over<'a, R: Files<File = File> + AllocGlobal, S: PageStore + Drop>(
+fn bring_over<R: Files<File = File> + AllocGlobal, S: PageStore + Drop>(
     rt: &R,
     keys: RandomState,
     old: S,
     new: &str,
-) -> Result<(), Fault<'a>> {
+) -> Result<(), Fault> {
     let names = Names::new(rt, new)?;
     match bring_into(rt, keys, old, &names) {
         Ok(()) => Ok(()),
@@ -62,11 +62,11 @@ fn bring_over<'a, R: Files<File = File> + AllocGlobal, S: PageStore + Drop>(
 
 /// Brings a store of version 1, which is opened to be read alone, over into a new file. Where the old
 /// one is absent or has no bytes, no file is made.
-pub(crate) fn migrate<'a, R: Files<File = File> + AllocGlobal + RandomSource, O: Output>(
+pub(crate) fn migrate<R: Files<File = File> + AllocGlobal + RandomSource, O: Output>(
     rt: &R,
-    migrate: &Migrate<'a>,
+    migrate: &Migrate<'_>,
     out: &mut O,
-) -> Result<(), Fault<'a>> {
+) -> Result<(), Fault> {
     if !is_absent(rt, migrate.new) {
         return Err(not_new(rt, migrate.new));
     }

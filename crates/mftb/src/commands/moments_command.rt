@@ -1,5 +1,5 @@
 //! `mftb moments`: when legs are inside rectangles in a period.
-use crate::commands::asking::{close_asked, database_to_ask, frame_of, store_to_ask};
+use crate::commands::asking::{Question, frame_of, told_by};
 use crate::commands::bounds::{hold_times, period_of};
 use crate::commands::rectangles::{NamedRect, rects_of};
 use crate::explain::empty_areas::tell_elsewhere;
@@ -178,38 +178,29 @@ impl Asked {
     }
 }
 
-/// What the database of a store answers.
-fn told_of<'a, R: AllocGlobal + RandomSource, S: PageStore + Drop>(
-    rt: &R,
-    store: S,
-    cache_pages: u32,
-    asked: &Asked,
-    rects: &[NamedRect],
-) -> Result<Told, Fault<'a>> {
-    let mut database = database_to_ask(rt, store, cache_pages)?;
-    let answer = asked.told(&mut database, rects);
-    close_asked(rt.alloc(), database, answer)
+/// A question of rectangles, one after another.
+#[derive(Drop)]
+struct RectsAsked<'q> {
+    asked: &'q Asked,
+    rects: &'q [NamedRect],
 }
 
-/// Opens the store to be read alone, and asks its database of the rectangles.
-fn answer_of<'a, R: Files<File = File> + AllocGlobal + RandomSource>(
-    rt: &R,
-    task: &Moments<'a>,
-    asked: &Asked,
-    rects: &[NamedRect],
-) -> Result<Told, Fault<'a>> {
-    let store = store_to_ask(rt, task.store)?;
-    told_of(rt, store, task.cache_pages, asked, rects)
+impl<'q> Question for RectsAsked<'q> {
+    type Told = Told;
+
+    fn ask<S: PageStore>(self, database: &mut Db<S>) -> Result<Told, RunFault> {
+        self.asked.told(database, self.rects)
+    }
 }
 
 /// Prints when legs of the store's database are inside these rectangles in the period.
-fn print_answer<'a, R: Files<File = File> + Eprint + AllocGlobal + RandomSource, O: Output>(
+fn print_answer<R: Files<File = File> + Eprint + AllocGlobal + RandomSource, O: Output>(
     rt: &R,
-    task: &Moments<'a>,
+    task: &Moments<'_>,
     rects: &[NamedRect],
     out: &mut O,
     is_terminal: bool,
-) -> Result<(), Fault<'a>> {
+) -> Result<(), Fault> {
     let period = period_of(task.times)?;
     let asked = Asked {
         alloc: rt.alloc(),
@@ -217,7 +208,11 @@ fn print_answer<'a, R: Files<File = File> + Eprint + AllocGlobal + RandomSource,
         rows: task.rows,
         is_named: matches!(task.place, Where::Rects(_)),
     };
-    let told = answer_of(rt, task, &asked, rects)?;
+    let question = RectsAsked {
+        asked: &asked,
+        rects,
+    };
+    let told = told_by(rt, task.store, task.cache_pages, question)?;
     send_all(out, &told.text)?;
     if task.telling.is_told(is_terminal) {
         tell_elsewhere(rt, task.store, Area::Rectangle, &period, rects, &told.empty);
@@ -226,11 +221,12 @@ fn print_answer<'a, R: Files<File = File> + Eprint + AllocGlobal + RandomSource,
 }
 
 /// Opens the store to be read alone, and prints when legs of its database are inside the rectangles in the period.
-pub(crate) fn print_moments<
-    'a,
-    R: Files<File = File> + Eprint + AllocGlobal + RandomSource,
-    O: Output,
->(rt: &R, task: &Moments<'a>, out: &mut O, is_terminal: bool) -> Result<(), Fault<'a>> {
+pub(crate) fn print_moments<R: Files<File = File> + Eprint + AllocGlobal + RandomSource, O: Output>(
+    rt: &R,
+    task: &Moments<'_>,
+    out: &mut O,
+    is_terminal: bool,
+) -> Result<(), Fault> {
     hold_times(task.times)?;
     let rects = rects_of(rt, &task.place)?;
     print_answer(rt, task, &rects, out, is_terminal)

@@ -3,7 +3,7 @@ ghost use Rattle.std.specs.Prelude.{◌<◌, ◌≤◌, ◌+◌, None, IfOk, OnO
 
 use arguments::Parts;
 use pages::Refusals;
-use sessions::{Cause, Fault, MOST_BYTES, PartFolder, put_parts, read_named};
+use sessions::{Cause, Fault, MOST_BYTES, Named, PartFolder, put_parts, read_named};
 use std::alloc::{AllocError, Global};
 use std::fs::File;
 use std::io::Write;
@@ -39,7 +39,7 @@ fn put_file<R: Files<File = File>>(
     fs::rename(rt, beside, name)
 }
 
-/// Puts a file as `put_file` does. Where it is refused, no file is left beside that name.
+/// Puts a file as `put_file` does. Where it is refused, the file beside that name is taken away, if the system lets it be.
 fn put_or_remove<R: Files<File = File>>(
     rt: &R,
     name: &str,
@@ -79,7 +79,7 @@ impl<'a, R: Files<File = File> + AllocGlobal> PartFolder for SystemParts<'a, R> 
 }
 
 /// How many parts are asked for; refused where some of them are not there.
-fn count_of<'a>(task: &Parts<'_>) -> Result<u32, Fault<'a>>
+fn count_of(task: &Parts<'_>) -> Result<u32, Fault>
     ensures some { OnOk result (0 < task.now.parts) }
     ensures within { IfOk result (λ count. task.now.first + count ≤ task.now.parts) }
 {
@@ -95,15 +95,15 @@ fn count_of<'a>(task: &Parts<'_>) -> Result<u32, Fault<'a>>
 }
 
 /// Reads a file, and puts the parts of it that are asked for into a folder of the system.
-pub(crate) fn write_parts<'a, R: Files<File = File> + AllocGlobal>(
+pub(crate) fn write_parts<R: Files<File = File> + AllocGlobal>(
     rt: &R,
-    task: &Parts<'a>,
-) -> Result<(), Fault<'a>> {
+    task: &Parts<'_>,
+) -> Result<(), Fault> {
     let count = match count_of(task) {
         Ok(count) => count,
         Err(fault) => return Err(fault),
     };
-    let bytes = read_named(rt, task.file, MOST_BYTES)?;
+    let bytes = read_named(rt, Named::File(0), task.file, MOST_BYTES)?;
     let mut folder = SystemParts {
         rt,
         folder: task.folder,
@@ -119,7 +119,7 @@ pub(crate) fn write_parts<'a, R: Files<File = File> + AllocGlobal>(
         &bytes,
     ) {
         Ok(()) => Ok(()),
-        Err(RunFault::Output) => Err(Fault::CannotWrite(task.folder, folder.cause)),
+        Err(RunFault::Output) => Err(Fault::CannotWrite(Named::Folder, folder.cause)),
         Err(fault) => Err(Fault::Run(fault)),
     }
 }

@@ -4,7 +4,7 @@ use arguments::{Corners, Where};
 use csv::{ByteRecord, Reader, ReaderBuilder};
 use legs::Rect;
 use mfcsv::without_marks;
-use sessions::{Fault, MOST_BYTES, RectsFault, read_named};
+use sessions::{Fault, MOST_BYTES, Named, RectsFault, read_named};
 use std::alloc::{AllocError, Global};
 use std::collections::BTreeMap;
 use std::{rt, str};
@@ -128,7 +128,7 @@ impl Rects {
     }
 
     /// Takes the record of that number in.
-    fn take<'a>(&mut self, number: u64, record: &ByteRecord) -> Result<(), Fault<'a>> {
+    fn take(&mut self, number: u64, record: &ByteRecord) -> Result<(), Fault> {
         let Some(columns) = self.columns else {
             return match self.take_columns(record) {
                 Ok(()) => Ok(()),
@@ -150,11 +150,11 @@ impl Rects {
     }
 
     /// Takes the records of a reader in, numbered from 1, the one that names the columns included.
-    fn take_each<'a>(
+    fn take_each(
         &mut self,
         reader: &mut Reader<&[u8]>,
         record: &mut ByteRecord,
-    ) -> Result<(), Fault<'a>> {
+    ) -> Result<(), Fault> {
         for number in 1..u64::MAX {
             match reader.read_byte_record(record) {
                 Ok(true) => self.take(number, record)?,
@@ -166,7 +166,7 @@ impl Rects {
     }
 
     /// Takes the records of a file in.
-    fn take_all<'a>(&mut self, bytes: &[u8]) -> Result<(), Fault<'a>> {
+    fn take_all(&mut self, bytes: &[u8]) -> Result<(), Fault> {
         let mut reader = ReaderBuilder::new()
             .has_headers(false)
             .flexible(true)
@@ -177,7 +177,7 @@ impl Rects {
 }
 
 /// The rectangles of a file, in its order.
-fn rects_in<'a>(alloc: Global, bytes: &[u8]) -> Result<Vec<NamedRect>, Fault<'a>> {
+fn rects_in(alloc: Global, bytes: &[u8]) -> Result<Vec<NamedRect>, Fault> {
     let mut rects = Rects::new(alloc);
     rects.take_all(bytes)?;
     match rects.columns {
@@ -195,7 +195,7 @@ fn alone(alloc: Global, rect: Rect) -> Result<Vec<NamedRect>, AllocError> {
 }
 
 /// The rectangle of the words of the command line.
-fn rect_of_words<'a>(corners: &Corners<'_>) -> Result<Rect, Fault<'a>> {
+fn rect_of_words(corners: &Corners<'_>) -> Result<Rect, Fault> {
     hold_words(&[corners.x1, corners.y1, corners.x2, corners.y2])?;
     match rect_of(corners) {
         Ok(rect) => Ok(rect),
@@ -204,12 +204,15 @@ fn rect_of_words<'a>(corners: &Corners<'_>) -> Result<Rect, Fault<'a>> {
 }
 
 /// The rectangles that are asked of.
-pub(crate) fn rects_of<'a, R: rt::Files + AllocGlobal>(
+pub(crate) fn rects_of<R: rt::Files + AllocGlobal>(
     rt: &R,
-    place: &Where<'a>,
-) -> Result<Vec<NamedRect>, Fault<'a>> {
+    place: &Where<'_>,
+) -> Result<Vec<NamedRect>, Fault> {
     match place {
-        Where::Rects(file) => rects_in(rt.alloc(), &read_named(rt, *file, MOST_BYTES)?),
+        Where::Rects(file) => rects_in(
+            rt.alloc(),
+            &read_named(rt, Named::Areas, *file, MOST_BYTES)?,
+        ),
         Where::Rect(corners) => Ok(alone(rt.alloc(), rect_of_words(corners)?)?),
     }
 }

@@ -3,22 +3,22 @@ ghost use Rattle.std.specs.Prelude.{◌<◌, ◌≤◌, ◌^◌};
 
 use crate::commands::asking::{cached_pages, keys_of};
 use crate::commands::run_files::read_files;
-use crate::explain::notes::{Given, tell, tell_made, tell_sources};
+use crate::explain::notes::{Given, tell_made, tell_notes, tell_sources};
 use crate::outcome::Outcome;
 use crate::system::folder::SystemFolder;
 use crate::system::leftovers::{clear, sweep};
 use crate::system::locks::{give_back, hold_name};
 use crate::system::opening::{is_absent, is_special, open_asked, open_in_place};
 use crate::system::store_names::Names;
-use crate::system::stored::{Header, header_of};
+use crate::system::stored::{Header, look_at};
 use arguments::{Run, StoreMode, Telling, WriteMode};
 use legs::Limits;
 use monitor::{Followed, Noted, Notes, Progress, Told};
 use outputs::Output;
 use pages::PageStore;
 use sessions::{
-    Ended, Fault, MOST_BYTES, MOST_FEATURES, MOST_LEGS, Opening, answer, database, read_named,
-    run_on_copy,
+    Ended, Fault, MOST_BYTES, MOST_FEATURES, MOST_LEGS, Named, Opening, answer, database,
+    read_named, run_on_copy,
 };
 use std::fs::File;
 use std::io::Eprint;
@@ -39,7 +39,7 @@ struct Work<'w> {
 }
 
 /// A run that was refused before it began.
-fn refused<'a>(fault: Fault<'a>) -> Ended<'a> {
+fn refused(fault: Fault) -> Ended {
     Ended {
         ran: Err(fault),
         kept: Err(fault),
@@ -47,7 +47,7 @@ fn refused<'a>(fault: Fault<'a>) -> Ended<'a> {
 }
 
 /// Why a run failed: it was not brought to its end, or else what it did is not kept.
-fn said<'a>(ended: Ended<'a>) -> Result<(), Fault<'a>> {
+fn said(ended: Ended) -> Result<(), Fault> {
     match ended.ran {
         Ok(()) => ended.kept,
         Err(fault) => Err(fault),
@@ -55,7 +55,7 @@ fn said<'a>(ended: Ended<'a>) -> Result<(), Fault<'a>> {
 }
 
 /// Why what a run did is not kept, where its own fault does not say so; of a database that failed it does.
-fn unsaid<'a>(ended: Ended<'a>) -> Option<Fault<'a>> {
+fn unsaid(ended: Ended) -> Option<Fault> {
     match (ended.ran, ended.kept) {
         (Err(ran), Err(kept)) if kept != ran && kept != Fault::Run(RunFault::Failed) => Some(kept),
         _ => None,
@@ -63,12 +63,12 @@ fn unsaid<'a>(ended: Ended<'a>) -> Option<Fault<'a>> {
 }
 
 /// Runs the script over a store that was opened, as `sessions::answer` does; or is refused as that was.
-fn run_over<'a, S: PageStore + Drop, R: rt::Clock + Eprint, O: Output>(
-    opened: Result<S, Fault<'a>>,
+fn run_over<S: PageStore + Drop, R: rt::Clock + Eprint, O: Output>(
+    opened: Result<S, Fault>,
     work: &Work<'_>,
     progress: &Progress<'_, R>,
     out: &mut O,
-) -> Ended<'a> {
+) -> Ended {
     let store = match opened {
         Ok(store) => store,
         Err(fault) => return refused(fault),
@@ -80,24 +80,24 @@ fn run_over<'a, S: PageStore + Drop, R: rt::Clock + Eprint, O: Output>(
 }
 
 /// Runs a script that only asks over a store that is there. It is opened to be read alone.
-fn ask<'a, R: rt::Files<File = File> + rt::Clock + Eprint, O: Output>(
+fn ask<R: rt::Files<File = File> + rt::Clock + Eprint, O: Output>(
     rt: &R,
     work: &Work<'_>,
     progress: &Progress<'_, R>,
     out: &mut O,
-) -> Ended<'a> {
+) -> Ended {
     sweep(rt, work.names);
     run_over(open_asked(rt, work.names), work, progress, out)
 }
 
 /// Runs a script that may write over the store as it lies there. Where the folder may not be written,
 /// the lock of the store's file alone keeps others out.
-fn run_in_place<'a, R: rt::Files<File = File> + rt::Clock + Eprint, O: Output>(
+fn run_in_place<R: rt::Files<File = File> + rt::Clock + Eprint, O: Output>(
     rt: &R,
     work: &Work<'_>,
     progress: &Progress<'_, R>,
     out: &mut O,
-) -> Ended<'a> {
+) -> Ended {
     let names = work.names;
     let lock = match hold_name(rt, names.lock.as_str()) {
         Err(Fault::InUse) => return refused(Fault::InUse),
@@ -112,12 +112,12 @@ fn run_in_place<'a, R: rt::Files<File = File> + rt::Clock + Eprint, O: Output>(
 }
 
 /// Runs a script that may write over a copy of the store.
-fn run_beside<'a, R: rt::Files<File = File> + rt::Clock + Eprint, O: Output>(
+fn run_beside<R: rt::Files<File = File> + rt::Clock + Eprint, O: Output>(
     rt: &R,
     work: &Work<'_>,
     progress: &Progress<'_, R>,
     out: &mut O,
-) -> Ended<'a> {
+) -> Ended {
     let mut folder = match SystemFolder::take(rt, work.names, progress) {
         Ok(folder) => folder,
         Err(fault) => return refused(fault),
@@ -128,13 +128,13 @@ fn run_beside<'a, R: rt::Files<File = File> + rt::Clock + Eprint, O: Output>(
 }
 
 /// Runs the script over the store, in the way that it asks for.
-fn run_as_asked<'a, R: rt::Files<File = File> + rt::Clock + Eprint, O: Output>(
+fn run_as_asked<R: rt::Files<File = File> + rt::Clock + Eprint, O: Output>(
     rt: &R,
     mode: WriteMode,
     work: &Work<'_>,
     progress: &Progress<'_, R>,
     out: &mut O,
-) -> Ended<'a> {
+) -> Ended {
     let how = &work.how;
     let loads = match has_load(how.alloc, work.script) {
         Ok(loads) => loads,
@@ -188,7 +188,7 @@ fn asks_for_others(run: &Run<'_>, limits: Limits) -> bool {
 }
 
 /// Refuses a store whose page 0 says so, where a run asks for other limits than it has.
-fn hold_limits<'a>(run: &Run<'_>, header: Option<Header>) -> Result<(), Fault<'a>> {
+fn hold_limits(run: &Run<'_>, header: Option<Header>) -> Result<(), Fault> {
     match header {
         Some(
             Header {
@@ -210,8 +210,16 @@ fn has_no_legs(header: Option<Header>) -> bool {
     }
 }
 
+/// What page 0 of a store says, where it is a plain file.
+fn header_of<R: rt::Files<File = File>>(rt: &R, names: &Names) -> Option<Header> {
+    match look_at(rt, names.store.as_str()) {
+        Some(seen) => Some(seen.header),
+        None => None,
+    }
+}
+
 /// Refuses a store that is not there, where none is to be made.
-fn hold_store<'a>(run: &Run<'_>, is_new: bool) -> Result<(), Fault<'a>> {
+fn hold_store(run: &Run<'_>, is_new: bool) -> Result<(), Fault> {
     match run.store_mode {
         StoreMode::Existing if is_new => Err(Fault::NoSuchStore),
         _ => Ok(()),
@@ -219,7 +227,7 @@ fn hold_store<'a>(run: &Run<'_>, is_new: bool) -> Result<(), Fault<'a>> {
 }
 
 /// Says why what a run did is not kept, where its own fault does not say so.
-fn tell_unsaid<R: Eprint>(rt: &R, work: &Work<'_>, ended: Ended<'_>) {
+fn tell_unsaid<R: Eprint>(rt: &R, work: &Work<'_>, ended: Ended) {
     if let Some(fault) = unsaid(ended) {
         let fault = work.names.caused(fault);
         let _ = eprintln!(rt; "mftb: {fault}");
@@ -246,34 +254,24 @@ fn tell_hints<R: Eprint + AllocGlobal>(
     }
 }
 
-/// Says what is noted of a run by which the store has so many legs more, and how it ended.
-fn told<'a, R: rt::Files<File = File> + Eprint + AllocGlobal + RandomSource>(
-    rt: &R,
-    run: &Run<'a>,
-    work: &Work<'_>,
-    notes: &Notes,
+/// How a run ended, and what was seen of it.
+#[derive(Drop)]
+struct Ran {
+    ended: Ended,
+    notes: Notes,
+    /// How many legs it loaded, and how many lines that load.
     legs: u64,
-    ended: Result<(), Fault<'a>>,
-) -> Result<Outcome, Fault<'a>> {
-    let given = Given {
-        name: run.script,
-        script: work.script,
-        files: work.files,
-        legs,
-    };
-    tell(rt, run.store, &given, notes);
-    match ended {
-        Ok(()) => Ok(Outcome::of_run(run.is_strict, notes.refused())),
-        Err(fault) => Err(work.names.caused(fault)),
-    }
+    loads: u64,
 }
 
-/// Runs the script over the store, and says what its answers do not say.
-fn run_work<
-    'a,
-    R: rt::Files<File = File> + rt::Clock + Eprint + AllocGlobal + RandomSource,
-    O: Output + Drop,
->(rt: &R, run: &Run<'a>, work: &Work<'_>, out: O, is_terminal: bool) -> Result<Outcome, Fault<'a>> {
+/// Runs the script over the store, and follows its answers.
+fn follow<R: rt::Files<File = File> + rt::Clock + Eprint, O: Output>(
+    rt: &R,
+    run: &Run<'_>,
+    work: &Work<'_>,
+    out: &mut O,
+    is_terminal: bool,
+) -> Ran {
     let is_shown = is_terminal && !matches!(run.telling, Telling::Never);
     let progress = Progress::new(rt, Told::new(run.progress, is_shown), work.script);
     let is_told = run.telling.is_told(is_terminal);
@@ -281,41 +279,81 @@ fn run_work<
     let mut out = Followed::new(out, &progress, notes);
     let ended = run_as_asked(rt, run.write_mode, work, &progress, &mut out);
     progress.clear();
-    let (_out, notes) = out.into_parts();
-    tell_unsaid(rt, work, ended);
-    let legs = if ended.kept.is_ok() {
-        progress.legs()
-    } else {
-        0
-    };
-    let ended = said(ended);
-    let is_made = ended.is_ok() && work.how.is_new && progress.loads() == 0;
-    tell_hints(rt, run, work, is_made, !is_told && notes.refused() > 0);
-    told(rt, run, work, &notes, legs, ended)
+    let notes = out.into_notes();
+    Ran {
+        ended,
+        notes,
+        legs: progress.legs(),
+        loads: progress.loads(),
+    }
 }
 
-/// Opens the store, and runs a script that was read.
+/// Says what is noted of a run.
+fn tell_run<R: rt::Files<File = File> + Eprint + AllocGlobal + RandomSource>(
+    rt: &R,
+    run: &Run<'_>,
+    work: &Work<'_>,
+    ran: &Ran,
+) {
+    let legs = if ran.ended.kept.is_ok() { ran.legs } else { 0 };
+    let given = Given {
+        name: run.script,
+        script: work.script,
+        files: work.files,
+        legs,
+    };
+    tell_notes(rt, run.store, &given, &ran.notes);
+}
+
+/// Runs the script over the store, and says what its answers do not say.
+fn run_work<R: rt::Files<File = File> + rt::Clock + Eprint + AllocGlobal + RandomSource, O: Output>(
+    rt: &R,
+    run: &Run<'_>,
+    work: &Work<'_>,
+    out: &mut O,
+    is_terminal: bool,
+) -> Result<Outcome, Fault> {
+    let ran = follow(rt, run, work, out, is_terminal);
+    tell_unsaid(rt, work, ran.ended);
+    let ended = said(ran.ended);
+    let refused = ran.notes.refused();
+    let is_made = ended.is_ok() && work.how.is_new && ran.loads == 0;
+    let is_hinted = refused > 0 && !run.telling.is_told(is_terminal);
+    tell_hints(rt, run, work, is_made, is_hinted);
+    tell_run(rt, run, work, &ran);
+    match ended {
+        Ok(()) => Ok(Outcome::of_run(run.is_strict, refused)),
+        Err(fault) => Err(work.names.caused(fault)),
+    }
+}
+
+/// Refuses a store that a run may not work on.
+fn hold(run: &Run<'_>, is_new: bool, header: Option<Header>) -> Result<(), Fault> {
+    match hold_store(run, is_new) {
+        Ok(()) => hold_limits(run, header),
+        Err(fault) => Err(fault),
+    }
+}
+
+/// Opens the store of these names, and runs a script that was read.
 fn run_script<
-    'a,
     R: rt::Files<File = File> + rt::Clock + Eprint + AllocGlobal + RandomSource,
-    O: Output + Drop,
+    O: Output,
 >(
     rt: &R,
-    run: &Run<'a>,
+    run: &Run<'_>,
+    names: &Names,
     script: &[u8],
     files: &Files,
-    out: O,
+    out: &mut O,
     is_terminal: bool,
-) -> Result<Outcome, Fault<'a>> {
-    let keys = keys_of(rt)?;
-    let names = Names::new(rt, run.store)?;
+) -> Result<Outcome, Fault> {
     let is_new = is_absent(rt, names.store.as_str());
-    hold_store(run, is_new)?;
-    let header = header_of(rt, names.store.as_str());
-    hold_limits(run, header)?;
+    let header = header_of(rt, names);
+    hold(run, is_new, header)?;
     let how = Opening {
         alloc: rt.alloc(),
-        keys,
+        keys: keys_of(rt)?,
         is_new,
         limits: limits(run),
         cache_pages: cached_pages(run.cache_pages),
@@ -323,7 +361,7 @@ fn run_script<
     let work = Work {
         script,
         files,
-        names: &names,
+        names,
         how,
         is_empty: is_new || has_no_legs(header),
     };
@@ -332,11 +370,11 @@ fn run_script<
 
 /// Reads all that is named, opens the store, and then runs the script.
 pub(crate) fn run<
-    'a,
     R: rt::Files<File = File> + rt::Clock + Eprint + AllocGlobal + RandomSource,
-    O: Output + Drop,
->(rt: &R, run: &Run<'a>, out: O, is_terminal: bool) -> Result<Outcome, Fault<'a>> {
-    let script = read_named(rt, run.script, MOST_BYTES)?;
+    O: Output,
+>(rt: &R, run: &Run<'_>, out: &mut O, is_terminal: bool) -> Result<Outcome, Fault> {
+    let script = read_named(rt, Named::Script, run.script, MOST_BYTES)?;
     let files = read_files(rt, &run.files)?;
-    run_script(rt, run, &script, &files, out, is_terminal)
+    let names = Names::new(rt, run.store)?;
+    run_script(rt, run, &names, &script, &files, out, is_terminal)
 }

@@ -1,15 +1,16 @@
 //! The files that a run may load.
-use sessions::{Fault, MOST_BYTES, read_named};
+use sessions::{Fault, MOST_BYTES, Named, read_named};
 use std::rt;
 use trajdb::{Files, RunFault};
 
-/// Reads the file of that name, to stand beside others.
-fn add_file<'a, R: rt::Files + AllocGlobal>(
+/// Reads the file of that name, which is at that place among those of the command line, to stand beside others.
+fn add_file<R: rt::Files + AllocGlobal>(
     rt: &R,
     files: &mut Files,
-    name: &'a str,
-) -> Result<(), Fault<'a>> {
-    let bytes = read_named(rt, name, MOST_BYTES)?;
+    place: usize,
+    name: &str,
+) -> Result<(), Fault> {
+    let bytes = read_named(rt, Named::File(place), name, MOST_BYTES)?;
     match files.add(name, bytes) {
         Ok(()) => Ok(()),
         Err(_) => Err(Fault::Run(RunFault::Memory)),
@@ -17,13 +18,13 @@ fn add_file<'a, R: rt::Files + AllocGlobal>(
 }
 
 /// The files of those names.
-pub(crate) fn read_files<'a, R: rt::Files + AllocGlobal>(
+pub(crate) fn read_files<R: rt::Files + AllocGlobal>(
     rt: &R,
-    names: &[&'a str],
-) -> Result<Files, Fault<'a>> {
+    names: &[&str],
+) -> Result<Files, Fault> {
     let mut files = Files::new(rt.alloc());
-    for name in names {
-        add_file(rt, &mut files, name)?;
+    for (place, name) in names.iter().enumerate() {
+        add_file(rt, &mut files, place, name)?;
     }
     Ok(files)
 }

@@ -1,5 +1,5 @@
 //! `mftb zones`: who is in which zone of a file, from when to when.
-use crate::commands::asking::{close_asked, database_to_ask, frame_of, store_to_ask};
+use crate::commands::asking::{Question, frame_of, told_by};
 use crate::commands::bounds::{period_of, plane};
 use crate::commands::rectangles::NamedRect;
 use crate::explain::empty_areas::tell_elsewhere;
@@ -17,7 +17,7 @@ use reports::{
     push_heading, push_label, push_valued_zone_stays, push_zone_features, push_zone_stays,
     push_zone_visits,
 };
-use sessions::{Fault, MOST_BYTES, read_named, send_all};
+use sessions::{Fault, MOST_BYTES, Named, read_named, send_all};
 use std::alloc::{AllocError, Global};
 use std::fs::File;
 use std::io::Eprint;
@@ -301,40 +301,33 @@ fn ask<S: PageStore>(database: &mut Db<S>, asked: Asked, file: ZoneFile) -> Resu
     }
 }
 
-/// What the database of a store answers.
-fn told_of<'a, R: AllocGlobal + RandomSource, S: PageStore + Drop>(
-    rt: &R,
-    store: S,
-    cache_pages: u32,
+/// A question of the zones of a file, one after another.
+#[derive(Drop)]
+struct ZonesAsked {
     asked: Asked,
     file: ZoneFile,
-) -> Result<Told, Fault<'a>> {
-    let mut database = database_to_ask(rt, store, cache_pages)?;
-    let answer = ask(&mut database, asked, file);
-    close_asked(rt.alloc(), database, answer)
 }
 
-/// Opens the store to be read alone, and asks its database of the zones of a file.
-fn answer_of<'a, R: Files<File = File> + AllocGlobal + RandomSource>(
-    rt: &R,
-    task: &Zones<'a>,
-    asked: Asked,
-    file: ZoneFile,
-) -> Result<Told, Fault<'a>> {
-    let store = store_to_ask(rt, task.store)?;
-    told_of(rt, store, task.cache_pages, asked, file)
+impl Question for ZonesAsked {
+    type Told = Told;
+
+    fn ask<S: PageStore>(self, database: &mut Db<S>) -> Result<Told, RunFault> {
+        let ZonesAsked { asked, file } = self;
+        ask(database, asked, file)
+    }
 }
 
 /// Prints who is in which of the zones.
-fn print_answer<'a, R: Files<File = File> + Eprint + AllocGlobal + RandomSource, O: Output>(
+fn print_answer<R: Files<File = File> + Eprint + AllocGlobal + RandomSource, O: Output>(
     rt: &R,
-    task: &Zones<'a>,
+    task: &Zones<'_>,
     asked: Asked,
     file: ZoneFile,
     out: &mut O,
     is_terminal: bool,
-) -> Result<Outcome, Fault<'a>> {
-    let told = answer_of(rt, task, asked, file)?;
+) -> Result<Outcome, Fault> {
+    let question = ZonesAsked { asked, file };
+    let told = told_by(rt, task.store, task.cache_pages, question)?;
     send_all(out, &told.text)?;
     if task.telling.is_told(is_terminal) {
         tell_elsewhere(
@@ -363,14 +356,14 @@ fn tell_refused<R: Files<File = File> + Eprint + AllocGlobal>(
 }
 
 /// Prints who is in which of the zones of a file of those bytes, unless it is refused.
-fn print_of<'a, R: Files<File = File> + Eprint + AllocGlobal + RandomSource, O: Output>(
+fn print_of<R: Files<File = File> + Eprint + AllocGlobal + RandomSource, O: Output>(
     rt: &R,
-    task: &Zones<'a>,
+    task: &Zones<'_>,
     asked: Asked,
     bytes: &[u8],
     out: &mut O,
     is_terminal: bool,
-) -> Result<Outcome, Fault<'a>> {
+) -> Result<Outcome, Fault> {
     match read_zones(rt.alloc(), bytes) {
         Ok(file) => print_answer(rt, task, asked, file, out, is_terminal),
         Err(ZoneFault::Memory) => Err(Fault::Run(RunFault::Memory)),
@@ -383,16 +376,17 @@ fn print_of<'a, R: Files<File = File> + Eprint + AllocGlobal + RandomSource, O: 
 
 /// Reads the zone file, opens the store to be read alone, and prints who is in which zone in the period. A zone file
 /// with a fault is refused in words, and nothing is printed; what is plainly another file is said to be that.
-pub(crate) fn print_zones<
-    'a,
-    R: Files<File = File> + Eprint + AllocGlobal + RandomSource,
-    O: Output,
->(rt: &R, task: &Zones<'a>, out: &mut O, is_terminal: bool) -> Result<Outcome, Fault<'a>> {
+pub(crate) fn print_zones<R: Files<File = File> + Eprint + AllocGlobal + RandomSource, O: Output>(
+    rt: &R,
+    task: &Zones<'_>,
+    out: &mut O,
+    is_terminal: bool,
+) -> Result<Outcome, Fault> {
     let asked = Asked {
         alloc: rt.alloc(),
         period: period_of(task.times)?,
         rows: task.rows,
     };
-    let bytes = read_named(rt, task.zones, MOST_BYTES)?;
+    let bytes = read_named(rt, Named::Areas, task.zones, MOST_BYTES)?;
     print_of(rt, task, asked, without_marks(&bytes), out, is_terminal)
 }

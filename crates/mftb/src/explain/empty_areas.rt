@@ -1,8 +1,9 @@
 //! What is said of rectangles and zones in which no leg is.
 use crate::commands::rectangles::NamedRect;
+use crate::explain::saying::{say, tell};
 use crate::system::stored::look_at;
 use legs::Box3;
-use reasons::{Area, Shown, reach_words};
+use reasons::{Area, Sentence, misses, say_reach};
 use std::fs::File;
 use std::io::Eprint;
 use std::rt;
@@ -17,14 +18,15 @@ fn tell_area<R: Eprint + AllocGlobal>(
     reach: &Box3,
 ) {
     let bounds = Box3::new(&asked.rect, period);
-    if let Ok(Some(words)) = reach_words(rt.alloc(), area, &bounds, reach) {
-        let (name, words) = (Shown(asked.name.as_str()), words.as_str());
-        let _ = if asked.name.is_empty() {
-            eprintln!(rt; "mftb: {words}")
-        } else {
-            eprintln!(rt; "mftb: {name}: {words}")
-        };
+    if !misses(&bounds, reach) {
+        return;
     }
+    let mut said = Sentence::new(rt.alloc());
+    if !asked.name.is_empty() {
+        said.value("{}: ", asked.name.as_str());
+    }
+    say_reach(&mut said, area, &bounds, reach);
+    tell(rt, said);
 }
 
 /// Says of the areas at these places why no leg is inside.
@@ -60,8 +62,8 @@ pub(crate) fn tell_elsewhere<R: rt::Files<File = File> + Eprint + AllocGlobal>(
         return;
     };
     if seen.header.root == 0 {
-        let _ = eprintln!(rt; "mftb: the store has no legs");
-    } else if let Some(reach) = seen.extent {
+        say(rt, "the store has no legs");
+    } else if let Ok(Some(reach)) = seen.extent {
         tell_areas(rt, area, period, rects, empty, &reach);
     }
 }

@@ -1,10 +1,11 @@
 //! Why the program failed, beyond what the line of the fault says.
 use crate::commands::bounds::is_word;
 use crate::explain::misplaced_words::tell_instants;
-use arguments::{Corners, Task, Telling, Where};
+use crate::explain::saying::{say_of, tell};
+use arguments::{Corners, Moments, Task, Telling, Where};
 use querylang::LineCode;
-use reasons::{Code, Shown, line_words};
-use sessions::{Cause, Fault};
+use reasons::{Code, Sentence, Shown, say_line};
+use sessions::{Cause, Fault, Named};
 use std::alloc::{AllocError, Global};
 use std::fs::File;
 use std::io::Eprint;
@@ -23,6 +24,43 @@ fn store_of<'a>(task: &Task<'a>) -> &'a str {
         Task::Zones(zones) => zones.store,
         Task::Gaps(gaps) => gaps.store,
         Task::Info(info) => info.store,
+    }
+}
+
+/// The data file of that place among those of the command line.
+fn file_of<'a>(task: &Task<'a>, place: usize) -> &'a str {
+    match task {
+        Task::Run(run) => match run.files.get(place) {
+            Some(name) => *name,
+            None => "",
+        },
+        _ => store_of(task),
+    }
+}
+
+/// The file of rectangles or zones.
+fn areas_of<'a>(task: &Task<'a>) -> &'a str {
+    match task {
+        Task::Moments(
+            Moments {
+                place: Where::Rects(file),
+                ..
+            },
+        ) => *file,
+        Task::Zones(zones) => zones.zones,
+        _ => "",
+    }
+}
+
+/// What the command line names so.
+pub(crate) fn name_of<'a>(task: &Task<'a>, named: Named) -> &'a str {
+    match (named, task) {
+        (Named::Store, _) => store_of(task),
+        (Named::Script, Task::Run(run)) => run.script,
+        (Named::File(place), _) => file_of(task, place),
+        (Named::Areas, _) => areas_of(task),
+        (Named::Folder, Task::Parts(parts)) => parts.folder,
+        _ => "",
     }
 }
 
@@ -94,43 +132,38 @@ const ORIGIN: Corners<'static> = Corners {
 fn line_of(alloc: Global, corners: Corners<'_>, times: [&str; 2]) -> Result<String, AllocError> {
     let Corners { x1, y1, x2, y2 } = corners;
     let [t1, t2] = times;
-    format!(in alloc; "box {x1} {y1} {x2} {y2} {t1} {t2}")
-}
-
-/// Why a time of that name is no word; `None` where it is one.
-fn blank_word(alloc: Global, name: &str, text: &str) -> Option<String> {
-    if is_word(text) {
-        return None;
+    let mut line = Sentence::new(alloc);
+    for word in ["box ", x1, " ", y1, " ", x2, " ", y2, " ", t1, " ", t2] {
+        line.text(word);
     }
-    let (text, why) = (Shown(text), "is no instant: it is empty, or has a blank");
-    format!(in alloc; "{name} '{text}' {why}").ok()
+    line.end()
 }
 
-/// Which of two times is no word, and why.
-fn blank_words(alloc: Global, times: [&str; 2]) -> Option<String> {
+/// Says of a time of that name that it is no word.
+fn say_blank(said: &mut Sentence, name: &str, text: &str) {
+    said.text(name);
+    said.value(" '{}' is no instant: it is empty, or has a blank", text);
+}
+
+/// Says which of these words is refused as the line of a script is.
+fn say_refused(said: &mut Sentence, corners: Corners<'_>, times: [&str; 2], code: LineCode) {
+    if let Some(code) = Code::read(code.as_str())
+        && let Ok(line) = line_of(said.alloc(), corners, times)
+    {
+        say_line(said, line.as_bytes(), code);
+    }
+}
+
+/// Says which of these words is refused, and why.
+fn say_words(said: &mut Sentence, corners: Corners<'_>, times: [&str; 2], code: LineCode) {
     let [t1, t2] = times;
-    match blank_word(alloc, "T1", t1) {
-        Some(words) => Some(words),
-        None => blank_word(alloc, "T2", t2),
+    if !is_word(t1) {
+        say_blank(said, "T1", t1);
+    } else if !is_word(t2) {
+        say_blank(said, "T2", t2);
+    } else {
+        say_refused(said, corners, times, code);
     }
-}
-
-/// Which of these words is refused, and why. That there are too few words is said of the line of a script alone.
-fn words_of(
-    alloc: Global,
-    corners: Corners<'_>,
-    times: [&str; 2],
-    code: LineCode,
-) -> Option<String> {
-    if matches!(code, LineCode::Q3) {
-        return None;
-    }
-    if let Some(words) = blank_words(alloc, times) {
-        return Some(words);
-    }
-    let code = Code::read(code.as_str())?;
-    let line = line_of(alloc, corners, times).ok()?;
-    line_words(alloc, line.as_bytes(), code).ok()
 }
 
 /// The corners that are words of the command line.
@@ -141,21 +174,23 @@ fn corners_of<'a>(place: Where<'a>) -> Corners<'a> {
     }
 }
 
-/// Which word of a rectangle and a period is refused, and why.
-fn bounds_words(alloc: Global, task: &Task<'_>, code: LineCode) -> Option<String> {
+/// Says which word of a rectangle and a period is refused, and why.
+fn say_bounds(said: &mut Sentence, task: &Task<'_>, code: LineCode) {
     match task {
-        Task::Moments(task) => words_of(alloc, corners_of(task.place), task.times, code),
-        Task::Zones(task) => words_of(alloc, ORIGIN, task.times, code),
-        Task::Gaps(task) => words_of(alloc, ORIGIN, task.times, code),
-        _ => None,
+        Task::Moments(task) => say_words(said, corners_of(task.place), task.times, code),
+        Task::Zones(task) => say_words(said, ORIGIN, task.times, code),
+        Task::Gaps(task) => say_words(said, ORIGIN, task.times, code),
+        _ => {}
     }
 }
 
 /// Says which word of a rectangle and a period is refused, and why.
 fn tell_bounds<R: Eprint + AllocGlobal>(rt: &R, task: &Task<'_>, code: LineCode) {
-    if let Some(words) = bounds_words(rt.alloc(), task, code) {
-        let words = words.as_str();
-        let _ = eprintln!(rt; "mftb: {words}");
+    // That there are too few words is said of the line of a script alone.
+    if !matches!(code, LineCode::Q3) {
+        let mut said = Sentence::new(rt.alloc());
+        say_bounds(&mut said, task, code);
+        tell(rt, said);
     }
     if let Task::Zones(task) = task {
         tell_instants(rt, task);
@@ -165,8 +200,7 @@ fn tell_bounds<R: Eprint + AllocGlobal>(rt: &R, task: &Task<'_>, code: LineCode)
 /// Says why a store was not opened, beyond what the fault's line says.
 fn tell_opening<R: Eprint>(rt: &R, store: &str, fault: &Fault) {
     if let Some(words) = opening_words(fault) {
-        let name = Shown(store);
-        let _ = eprintln!(rt; "mftb: {name}: {words}");
+        say_of(rt, store, words);
     }
 }
 
@@ -178,9 +212,8 @@ fn tell_cause<R: rt::Files<File = File> + Eprint + AllocGlobal>(
     fault: &Fault,
 ) {
     match fault {
-        Fault::CannotRead(name, cause) | Fault::CannotWrite(name, cause) => {
-            let name = Shown(name);
-            let _ = eprintln!(rt; "mftb: {name}: {cause}");
+        Fault::CannotRead(named, cause) | Fault::CannotWrite(named, cause) => {
+            say_of(rt, name_of(task, *named), cause.as_str());
         }
         Fault::Bounds(code) => tell_bounds(rt, task, *code),
         fault if fault.is_of_store() => {
@@ -188,8 +221,7 @@ fn tell_cause<R: rt::Files<File = File> + Eprint + AllocGlobal>(
                 Fault::NoStore(cause) => *cause,
                 _ => Cause::Other,
             };
-            let (name, cause) = (Shown(store), cause_of_store(rt, store, cause));
-            let _ = eprintln!(rt; "mftb: {name}: {cause}");
+            say_of(rt, store, cause_of_store(rt, store, cause).as_str());
         }
         fault => tell_opening(rt, store, fault),
     }

@@ -1,7 +1,8 @@
 //! What is said of words of `mftb zones` that stand in the place of others, and of zone files of another form.
-use crate::system::stored::header_of;
+use crate::explain::saying::tell;
+use crate::system::stored::look_at;
 use arguments::Zones;
-use reasons::{Shown, zone_source_words};
+use reasons::{Sentence, Shown, say_zone_source};
 use std::fs::File;
 use std::io::Eprint;
 use std::rt::Files;
@@ -12,16 +13,15 @@ const ORDER: &str = "the words are STORE ZONES T1 T2";
 
 /// Says of a zone file of another form which form that is.
 fn tell_source<R: Eprint + AllocGlobal>(rt: &R, name: &str, bytes: &[u8]) {
-    if let Ok(Some(words)) = zone_source_words(rt.alloc(), name, bytes) {
-        let words = words.as_str();
-        let _ = eprintln!(rt; "mftb: {words}");
-    }
+    let mut said = Sentence::new(rt.alloc());
+    say_zone_source(&mut said, name, bytes);
+    tell(rt, said);
 }
 
 /// Says of a zone file that is a store that it is one, and whether the store is one.
 fn tell_store<R: Files<File = File> + Eprint>(rt: &R, task: &Zones<'_>) {
     let (store, zones, order) = (Shown(task.store), Shown(task.zones), ORDER);
-    let _ = if header_of(rt, task.store).is_some() {
+    let _ = if look_at(rt, task.store).is_some() {
         eprintln!(rt; "mftb: {zones} is a store and no zone file; {order}")
     } else {
         eprintln!(rt; "mftb: {zones} is a store, and {store} is none; {order}")
@@ -34,7 +34,7 @@ pub(crate) fn tell_form<R: Files<File = File> + Eprint + AllocGlobal>(
     task: &Zones<'_>,
     bytes: &[u8],
 ) {
-    if header_of(rt, task.zones).is_some() {
+    if look_at(rt, task.zones).is_some() {
         tell_store(rt, task);
     } else {
         tell_source(rt, task.zones, bytes);

@@ -3,3 +3,4 @@ pub(crate) mod empty_areas;
 pub(crate) mod faults;
 pub(crate) mod misplaced_words;
 pub(crate) mod notes;
+mod saying;

@@ -1,17 +1,20 @@
 //! What is said of the lines of a run.
+use crate::explain::saying::tell;
 use crate::system::stored::{catalogue_of, look_at};
 use catalogue::Catalogue;
-use legs::Box3;
+use legs::{Box3, Tracks};
 use monitor::{LineSpan, Note, Notes, What};
 use querylang::{Command, Name, parse_line};
 use reasons::{
-    Area, Code, Known, Refusal, Shown, file_words, line_words, reach_words, source_words,
+    Area, Code, Known, LastEnds, Refusal, Sentence, Shown, misses, say_file, say_line, say_reach,
+    say_source,
 };
-use std::alloc::{AllocError, Global};
+use std::alloc::Global;
 use std::fs::File;
 use std::io::Eprint;
 use std::random::RandomSource;
 use std::rt;
+use timebase::Ms;
 use trajdb::Files;
 
 /// The name in a command.
@@ -75,17 +78,17 @@ impl Ground {
 
     /// What the store knew that refuses a file when the run had loaded so many legs. Where its features ended then is
     /// known if no leg came behind.
-    fn known(&self, legs: u64) -> Known<'_> {
+    fn known(&self, legs: u64) -> Known<'_, Ground> {
         match &self.catalogue {
             Some(catalogue) => Known {
                 head: catalogue.head.as_ref(),
-                tracks: (legs == self.legs).then_some(&catalogue.tracks),
+                ends: (legs == self.legs).then_some(self),
                 most_legs: Some(catalogue.limits.legs()),
                 most_features: Some(catalogue.limits.features()),
             },
             None => Known {
                 head: None,
-                tracks: None,
+                ends: None,
                 most_legs: None,
                 most_features: None,
             },
@@ -93,9 +96,27 @@ impl Ground {
     }
 }
 
+impl LastEnds for Ground {
+    fn last_end(&self, name: &str) -> Option<Ms> {
+        match &self.catalogue {
+            Some(catalogue) => end_in(&catalogue.tracks, name),
+            None => None,
+        }
+    }
+}
+
+/// When the last leg of the feature of that name ends, among these tracks.
+fn end_in(tracks: &Tracks, name: &str) -> Option<Ms> {
+    let feature = tracks.feature(name)?;
+    match tracks.track(feature) {
+        Some(track) => Some(track.end),
+        None => None,
+    }
+}
+
 /// The box over the legs of the store of that name, where that is known.
 fn reach_of<R: rt::Files<File = File>>(rt: &R, store: &str) -> Option<Box3> {
-    look_at(rt, store)?.extent
+    look_at(rt, store)?.extent.ok()?
 }
 
 /// Whether a note is of a file that was refused for what the store has.
@@ -130,129 +151,115 @@ impl Given<'_> {
 
     /// The name in a line of the script.
     fn name_at(&self, alloc: Global, place: LineSpan) -> Option<Name> {
-        name_in(self.command_at(alloc, place)?)
+        match self.command_at(alloc, place) {
+            Some(command) => name_in(command),
+            None => None,
+        }
     }
 
-    /// What is said of a line of the script.
-    fn at_line(&self, alloc: Global, place: LineSpan, words: &str) -> Result<String, AllocError> {
-        let (script, line) = (Shown(self.name), place.line);
-        format!(in alloc; "{script} line {line}: {words}")
+    /// Says where a line of the script stands.
+    fn say_place(&self, said: &mut Sentence, place: LineSpan) {
+        said.value("{} line ", self.name);
+        said.number("{}: ", place.line);
     }
 
-    /// What is said of a line that was refused.
-    fn line_refusal(
+    /// Says of a line of the script what these words say.
+    fn say_at(&self, said: &mut Sentence, place: LineSpan, words: &str) {
+        self.say_place(said, place);
+        said.text(words);
+    }
+
+    /// Says why a line was refused.
+    fn say_line(&self, said: &mut Sentence, place: LineSpan, code: Code) {
+        self.say_place(said, place);
+        say_line(said, place.text_in(self.script), code);
+    }
+
+    /// Says why a line of that name was refused, or the file that it loads.
+    fn say_named(
         &self,
-        alloc: Global,
-        place: LineSpan,
-        code: Code,
-    ) -> Result<String, AllocError> {
-        let words = line_words(alloc, place.text_in(self.script), code)?;
-        self.at_line(alloc, place, words.as_str())
-    }
-
-    /// What is said of a line of that name that was refused, or of the file that it loads.
-    fn named_refusal(
-        &self,
-        alloc: Global,
+        said: &mut Sentence,
         place: LineSpan,
         name: &str,
         refusal: Refusal,
-        known: &Known<'_>,
-    ) -> Result<String, AllocError> {
+        known: &Known<'_, Ground>,
+    ) {
         match self.files.get(name) {
-            Some(bytes) => file_words(alloc, name, bytes, refusal, known),
-            None => self.line_refusal(alloc, place, refusal.code),
+            Some(bytes) => say_file(said, name, bytes, refusal, known),
+            None => self.say_line(said, place, refusal.code),
         }
     }
 
-    /// What is said of a line that was refused, or of the file that it loads.
-    fn refusal_words(
+    /// Says why a line was refused, or the file that it loads.
+    fn say_refusal(
         &self,
-        alloc: Global,
+        said: &mut Sentence,
         place: LineSpan,
         refusal: Refusal,
-        known: &Known<'_>,
-    ) -> Result<String, AllocError> {
-        match self.name_at(alloc, place) {
-            Some(name) => self.named_refusal(alloc, place, name.as_str(), refusal, known),
-            None => self.line_refusal(alloc, place, refusal.code),
+        known: &Known<'_, Ground>,
+    ) {
+        match self.name_at(said.alloc(), place) {
+            Some(name) => self.say_named(said, place, name.as_str(), refusal, known),
+            None => self.say_line(said, place, refusal.code),
         }
     }
 
-    /// What is said of a feature of that name, which the store does not have.
-    fn missing_words(
-        &self,
-        alloc: Global,
-        place: LineSpan,
-        name: &str,
-    ) -> Result<String, AllocError> {
-        let name = Shown(name);
-        let words = format!(in alloc; "the store has no feature '{name}'")?;
-        self.at_line(alloc, place, words.as_str())
-    }
-
-    /// What is said of a feature that the store does not have.
-    fn feature_words(&self, alloc: Global, place: LineSpan) -> Result<String, AllocError> {
-        match self.name_at(alloc, place) {
-            Some(name) => self.missing_words(alloc, place, name.as_str()),
-            None => self.at_line(alloc, place, "the store has no feature of that name"),
+    /// Says that the store does not have the feature of a line.
+    fn say_feature(&self, said: &mut Sentence, place: LineSpan) {
+        match self.name_at(said.alloc(), place) {
+            Some(name) => {
+                self.say_place(said, place);
+                said.value("the store has no feature '{}'", name.as_str());
+            }
+            None => self.say_at(said, place, "the store has no feature of that name"),
         }
     }
 
-    /// What is said of a question, if it is asked of where the store has no legs.
-    fn question_words(
-        &self,
-        alloc: Global,
-        place: LineSpan,
-        ground: &Ground,
-    ) -> Result<Option<String>, AllocError> {
-        let Some(reach) = ground.reach else {
-            return Ok(None);
-        };
-        let Some(asked) = self.box_at(alloc, place) else {
-            return Ok(None);
-        };
-        match reach_words(alloc, Area::Rectangle, &asked, &reach)? {
-            Some(words) => Ok(Some(self.at_line(alloc, place, words.as_str())?)),
-            None => Ok(None),
+    /// Says of a question that it is asked of where the store has no legs, if it is.
+    fn say_question(&self, said: &mut Sentence, place: LineSpan, reach: &Box3) {
+        if let Some(asked) = self.box_at(said.alloc(), place)
+            && misses(&asked, reach)
+        {
+            self.say_place(said, place);
+            say_reach(said, Area::Rectangle, &asked, reach);
         }
     }
 
     /// The box that a line of the script asks of.
     fn box_at(&self, alloc: Global, place: LineSpan) -> Option<Box3> {
-        box_in(&self.command_at(alloc, place)?)
+        match self.command_at(alloc, place) {
+            Some(command) => box_in(&command),
+            None => None,
+        }
     }
 
-    /// What is said of an answer.
-    fn words(
-        &self,
-        alloc: Global,
-        note: &Note,
-        ground: &Ground,
-    ) -> Result<Option<String>, AllocError> {
+    /// Says what an answer does not say.
+    fn say_note(&self, said: &mut Sentence, note: &Note, ground: &Ground) {
         let place = note.place;
         match note.what {
             What::Refused(refusal) => {
-                let known = ground.known(note.legs);
-                Ok(Some(self.refusal_words(alloc, place, refusal, &known)?))
+                self.say_refusal(said, place, refusal, &ground.known(note.legs));
             }
-            What::NoLegs => Ok(Some(self.at_line(alloc, place, "the store has no legs")?)),
-            What::NoFeature => Ok(Some(self.feature_words(alloc, place)?)),
-            What::Asked => self.question_words(alloc, place, ground),
+            What::NoLegs => self.say_at(said, place, "the store has no legs"),
+            What::NoFeature => self.say_feature(said, place),
+            What::Asked => {
+                if let Some(reach) = ground.reach {
+                    self.say_question(said, place, &reach);
+                }
+            }
         }
     }
 }
 
 /// Says what a note says.
 fn tell_note<R: Eprint + AllocGlobal>(rt: &R, given: &Given, note: &Note, ground: &Ground) {
-    if let Ok(Some(words)) = given.words(rt.alloc(), note, ground) {
-        let words = words.as_str();
-        let _ = eprintln!(rt; "mftb: {words}");
-    }
+    let mut said = Sentence::new(rt.alloc());
+    given.say_note(&mut said, note, ground);
+    tell(rt, said);
 }
 
 /// Says what is noted of a run over that store, a line each.
-pub(crate) fn tell<R: rt::Files<File = File> + Eprint + AllocGlobal + RandomSource>(
+pub(crate) fn tell_notes<R: rt::Files<File = File> + Eprint + AllocGlobal + RandomSource>(
     rt: &R,
     store: &str,
     given: &Given,
@@ -277,17 +284,11 @@ pub(crate) fn tell_made<R: Eprint>(rt: &R, store: &str) {
     let _ = eprintln!(rt; "mftb: there was no store {store}: an empty one was made");
 }
 
-/// Says of a file of another form what makes a file to load of it.
-fn tell_source<R: Eprint + AllocGlobal>(rt: &R, name: &str, bytes: &[u8]) {
-    if let Ok(Some(words)) = source_words(rt.alloc(), name, bytes) {
-        let words = words.as_str();
-        let _ = eprintln!(rt; "mftb: {words}");
-    }
-}
-
 /// Says of each of these files that is of another form what makes a file to load of it.
 pub(crate) fn tell_sources<R: Eprint + AllocGlobal>(rt: &R, names: &[&str], files: &Files) {
     for name in names {
-        tell_source(rt, *name, files.get(*name).unwrap_or(b"".as_slice()));
+        let mut said = Sentence::new(rt.alloc());
+        say_source(&mut said, *name, files.get(*name).unwrap_or(b"".as_slice()));
+        tell(rt, said);
     }
 }

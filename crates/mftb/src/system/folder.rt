@@ -45,7 +45,7 @@ pub(crate) struct SystemFolder<'a, 'p, R: Files<File = File> + Clock + Eprint> {
 }
 
 /// Takes the store's file to be read, where there is one that this run may write as well.
-fn take_store<'a, R: Files<File = File>>(rt: &R, names: &Names) -> Result<Option<File>, Fault<'a>> {
+fn take_store<R: Files<File = File>>(rt: &R, names: &Names) -> Result<Option<File>, Fault> {
     let mut how = File::options();
     how.read(true).write(true);
     match open_held(rt, names.store.as_str(), &how, Hold::Shared)? {
@@ -55,11 +55,11 @@ fn take_store<'a, R: Files<File = File>>(rt: &R, names: &Names) -> Result<Option
 }
 
 /// Takes the store's file so, where nothing that a killed run left is in the way.
-fn clear_and_take<'a, R: Files<File = File>>(
+fn clear_and_take<R: Files<File = File>>(
     rt: &R,
     names: &Names,
     lock: &Held,
-) -> Result<Option<File>, Fault<'a>> {
+) -> Result<Option<File>, Fault> {
     clear(rt, names, lock)?;
     take_store(rt, names)
 }
@@ -78,7 +78,7 @@ fn set_rights<R: Files<File = File>>(
 }
 
 /// Makes the file of a name that no other run has made.
-fn make<R: Files<File = File>>(rt: &R, name: &str, mode: u32) -> Result<File, Fault<'static>>
+fn make<R: Files<File = File>>(rt: &R, name: &str, mode: u32) -> Result<File, Fault>
     ensures named { IfErr result IsOfFolder }
 {
     let mut how = File::options();
@@ -126,11 +126,11 @@ fn fill<R: Files<File = File>>(
 
 impl<'a, 'p, R: Files<File = File> + Clock + Eprint> SystemFolder<'a, 'p, R> {
     /// Takes the folder of a store, and what a run left there that was killed is taken away.
-    pub(crate) fn take<'b>(
+    pub(crate) fn take(
         rt: &'a R,
         names: &'a Names,
         progress: &'a Progress<'p, R>,
-    ) -> Result<SystemFolder<'a, 'p, R>, Fault<'b>> {
+    ) -> Result<SystemFolder<'a, 'p, R>, Fault> {
         let lock = hold_name(rt, names.lock.as_str())?;
         match clear_and_take(rt, names, &lock) {
             Ok(store) => Ok(SystemFolder {
@@ -157,7 +157,7 @@ impl<'a, 'p, R: Files<File = File> + Clock + Eprint> SystemFolder<'a, 'p, R> {
 
     /// Makes the copy. Where there are no locks, another run may have replaced the store before, whose
     /// copy this one would take back: it is refused then.
-    fn make_copy(&mut self) -> Result<File, Fault<'static>>
+    fn make_copy(&mut self) -> Result<File, Fault>
         ensures settled { self.new.is_settled ≡ self.old.is_settled }
         ensures refused { self.new.refused ≡ self.old.refused }
         ensures made { OnOk result (IsTrue self.new.is_made) }
@@ -196,7 +196,7 @@ impl<'a, 'p, R: Files<File = File> + Clock + Eprint> Folder for SystemFolder<'a,
       refused = s.refused;
     } };
 
-    fn copy(&mut self) -> Result<Noted<'a, 'p, FileStore<HeldFile<'a, File>>, R>, Fault<'static>> {
+    fn copy(&mut self) -> Result<Noted<'a, 'p, FileStore<HeldFile<'a, File>>, R>, Fault> {
         let copy = match self.make_copy() {
             Ok(copy) => copy,
             Err(fault) => return Err(self.refused.note(fault)),
@@ -215,7 +215,7 @@ impl<'a, 'p, R: Files<File = File> + Clock + Eprint> Folder for SystemFolder<'a,
     fn sync(
         &mut self,
         store: &mut Noted<'a, 'p, FileStore<HeldFile<'a, File>>, R>,
-    ) -> Result<(), Fault<'static>> {
+    ) -> Result<(), Fault> {
         if store.sync().is_err() {
             return Err(self.refused.note(Fault::Run(RunFault::Store)));
         }
@@ -225,7 +225,7 @@ impl<'a, 'p, R: Files<File = File> + Clock + Eprint> Folder for SystemFolder<'a,
     fn replace(
         &mut self,
         _store: Noted<'a, 'p, FileStore<HeldFile<'a, File>>, R>,
-    ) -> Result<(), Fault<'static>> {
+    ) -> Result<(), Fault> {
         let (copy, name) = (self.names.copy.as_str(), self.names.store.as_str());
         if let Err(error) = fs::rename(self.rt, copy, name) {
             let fault = Fault::NoStore(Cause::from(error.kind()));

@@ -8,7 +8,7 @@ use std::rt::Files;
 use std::{fs, io};
 
 /// Takes a file's name away, where it has one.
-fn remove<'a, R: Files>(rt: &R, name: &str) -> Result<(), Fault<'a>> {
+fn remove<R: Files>(rt: &R, name: &str) -> Result<(), Fault> {
     match fs::remove_file(rt, name) {
         Ok(()) => Ok(()),
         Err(error) if error.kind() == io::ErrorKind::NotFound => Ok(()),
@@ -17,11 +17,11 @@ fn remove<'a, R: Files>(rt: &R, name: &str) -> Result<(), Fault<'a>> {
 }
 
 /// Takes away the copy, if there is one, where the lock that is held says that no other run works on the store.
-pub(crate) fn clear<'a, R: Files<File = File>>(
+pub(crate) fn clear<R: Files<File = File>>(
     rt: &R,
     names: &Names,
     lock: &Held,
-) -> Result<(), Fault<'a>> {
+) -> Result<(), Fault> {
     if lock.is_locked {
         return remove(rt, names.copy.as_str());
     }

@@ -27,7 +27,7 @@ pub(crate) struct Held {
 
 /// Takes the lock of a file, at once or not at all, and answers whether it was given: a file system
 /// without locks gives none.
-fn lock<'a>(file: &File, hold: Hold) -> Result<bool, Fault<'a>> {
+fn lock(file: &File, hold: Hold) -> Result<bool, Fault> {
     let taken = match hold {
         Hold::Alone => file.try_lock(),
         Hold::Shared => file.try_lock_shared(),
@@ -67,12 +67,12 @@ enum Met {
 }
 
 /// Opens the file of a name, and holds it.
-fn look<'a, R: Files<File = File>>(
+fn look<R: Files<File = File>>(
     rt: &R,
     name: &str,
     how: &OpenOptions,
     hold: Hold,
-) -> Result<Met, Fault<'a>> {
+) -> Result<Met, Fault> {
     let file = match how.open(rt, name) {
         Ok(file) => file,
         Err(error) if error.kind() == io::ErrorKind::NotFound => return Ok(Met::Absent),
@@ -89,12 +89,12 @@ fn look<'a, R: Files<File = File>>(
 
 /// Opens the file of a name, and holds it; `None` where there is none. A run that was given the lock
 /// of a file that has lost its name meanwhile looks again.
-pub(crate) fn open_held<'a, R: Files<File = File>>(
+pub(crate) fn open_held<R: Files<File = File>>(
     rt: &R,
     name: &str,
     how: &OpenOptions,
     hold: Hold,
-) -> Result<Option<Held>, Fault<'a>> {
+) -> Result<Option<Held>, Fault> {
     for _ in 0..MOST_LOOKS {
         match look(rt, name, how, hold)? {
             Met::Held(held) => return Ok(Some(held)),
@@ -106,7 +106,7 @@ pub(crate) fn open_held<'a, R: Files<File = File>>(
 }
 
 /// One look at a name whose file only has to be there: it is made where there is none.
-fn look_or_make<'a, R: Files<File = File>>(rt: &R, name: &str) -> Result<Met, Fault<'a>> {
+fn look_or_make<R: Files<File = File>>(rt: &R, name: &str) -> Result<Met, Fault> {
     let mut how = File::options();
     how.read(true);
     match look(rt, name, &how, Hold::Alone)? {
@@ -122,7 +122,7 @@ fn look_or_make<'a, R: Files<File = File>>(rt: &R, name: &str) -> Result<Met, Fa
 }
 
 /// Opens the file of a name, which only has to be there, or makes it, and holds it alone.
-pub(crate) fn hold_name<'a, R: Files<File = File>>(rt: &R, name: &str) -> Result<Held, Fault<'a>> {
+pub(crate) fn hold_name<R: Files<File = File>>(rt: &R, name: &str) -> Result<Held, Fault> {
     for _ in 0..MOST_LOOKS {
         if let Met::Held(held) = look_or_make(rt, name)? {
             return Ok(held);

@@ -39,12 +39,12 @@ pub(crate) fn has_name<R: Files<File = File>>(rt: &R, name: &str) -> bool {
 }
 
 /// The file of a store that is opened so, and held.
-fn open_file<'a, R: Files<File = File>>(
+fn open_file<R: Files<File = File>>(
     rt: &R,
     name: &str,
     how: &OpenOptions,
     hold: Hold,
-) -> Result<File, Fault<'a>> {
+) -> Result<File, Fault> {
     match open_held(rt, name, how, hold)? {
         Some(held) => Ok(held.file),
         None => Err(Fault::NoStore(Cause::Absent)),
@@ -55,7 +55,7 @@ fn open_file<'a, R: Files<File = File>>(
 pub(crate) type AskedStore = ReadOnly<FileStore<SystemFile<File>>>;
 
 /// The store of a file that is read alone.
-fn store_of<'a>(file: File) -> Result<AskedStore, Fault<'a>> {
+fn store_of(file: File) -> Result<AskedStore, Fault> {
     match FileStore::new(SystemFile::new(file)) {
         Ok(store) => Ok(ReadOnly::new(store)),
         Err(_) => Err(Fault::NoStore(Cause::Other)),
@@ -64,10 +64,10 @@ fn store_of<'a>(file: File) -> Result<AskedStore, Fault<'a>> {
 
 /// Opens a store to be read alone, beside others that do so; a file that is absent is made, without a
 /// byte.
-pub(crate) fn open_asked<'a, R: Files<File = File>>(
+pub(crate) fn open_asked<R: Files<File = File>>(
     rt: &R,
     names: &Names,
-) -> Result<AskedStore, Fault<'a>> {
+) -> Result<AskedStore, Fault> {
     let name = names.store.as_str();
     let mut how = File::options();
     how.read(true);
@@ -78,10 +78,10 @@ pub(crate) fn open_asked<'a, R: Files<File = File>>(
 }
 
 /// Opens a store to be written as it lies there, alone; a file that is absent is made.
-pub(crate) fn open_in_place<'a, 'n, R: Files<File = File>>(
+pub(crate) fn open_in_place<'n, R: Files<File = File>>(
     rt: &R,
     names: &'n Names,
-) -> Result<FileStore<HeldFile<'n, File>>, Fault<'a>> {
+) -> Result<FileStore<HeldFile<'n, File>>, Fault> {
     let mut how = File::options();
     how.read(true).write(true).create(true);
     let file = open_file(rt, names.store.as_str(), &how, Hold::Alone)?;

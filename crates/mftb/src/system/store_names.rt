@@ -32,7 +32,7 @@ impl Drop for Names {
 }
 
 /// The name of a store's file, behind links; as it was given where there is none yet.
-fn resolved<'a, R: Files + AllocGlobal>(rt: &R, store: &str) -> Result<String, Fault<'a>> {
+fn resolved<R: Files + AllocGlobal>(rt: &R, store: &str) -> Result<String, Fault> {
     match fs::canonicalize(rt, store) {
         Ok(path) => Ok(path.into_string()),
         Err(error) => match error.kind() {
@@ -44,7 +44,7 @@ fn resolved<'a, R: Files + AllocGlobal>(rt: &R, store: &str) -> Result<String, F
 
 impl Names {
     /// The names for a store.
-    pub(crate) fn new<'a, R: Files + AllocGlobal>(rt: &R, store: &str) -> Result<Names, Fault<'a>> {
+    pub(crate) fn new<R: Files + AllocGlobal>(rt: &R, store: &str) -> Result<Names, Fault> {
         let alloc = rt.alloc();
         let store = resolved(rt, store)?;
         let copy = format!(in alloc; "{store}.mftb-copy")?;
@@ -59,7 +59,7 @@ impl Names {
     }
 
     /// A fault, with the cause that was noted where it is one of the store.
-    pub(crate) fn caused<'a>(&self, fault: Fault<'a>) -> Fault<'a> {
+    pub(crate) fn caused(&self, fault: Fault) -> Fault {
         match self.cause.get() {
             Some(cause) if fault.is_of_store() => Fault::NoStore(cause),
             _ => fault,

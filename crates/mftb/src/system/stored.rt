@@ -37,11 +37,11 @@ pub(crate) struct Seen {
     /// What page 0 says.
     pub(crate) header: Header,
     /// The box over all legs; `None` without a leg, and where the store is not a finished one of this version.
-    pub(crate) extent: Option<Box3>,
+    pub(crate) extent: Result<Option<Box3>, Fault>,
 }
 
 /// The payload of a page.
-fn payload_of<'a, S: PageStore>(store: &mut S, number: u32) -> Result<Payload, Fault<'a>> {
+fn payload_of<S: PageStore>(store: &mut S, number: u32) -> Result<Payload, Fault> {
     if number >= store.len() {
         return Err(Fault::Run(RunFault::Damaged(number)));
     }
@@ -56,7 +56,7 @@ fn payload_of<'a, S: PageStore>(store: &mut S, number: u32) -> Result<Payload, F
 }
 
 /// What page 0 says; refused as damaged where it is no header.
-fn read_header<'a, S: PageStore>(store: &mut S) -> Result<Header, Fault<'a>> {
+fn read_header<S: PageStore>(store: &mut S) -> Result<Header, Fault> {
     let payload = payload_of(store, 0)?;
     match front_of(&payload) {
         Some(front) => Ok(Header {
@@ -79,10 +79,7 @@ fn is_in_range(bounds: &Box3) -> bool {
 }
 
 /// The box over all legs, by the root of their tree.
-fn read_extent<'a, S: PageStore>(
-    store: &mut S,
-    header: &Header,
-) -> Result<Option<Box3>, Fault<'a>> {
+fn read_extent<S: PageStore>(store: &mut S, header: &Header) -> Result<Option<Box3>, Fault> {
     let root = header.root;
     if root == 0 || header.front != FINISHED {
         return Ok(None);
@@ -95,13 +92,12 @@ fn read_extent<'a, S: PageStore>(
 }
 
 /// What is seen of a store.
-pub(crate) fn look<'a, S: PageStore>(store: &mut S) -> Result<Seen, Fault<'a>> {
+pub(crate) fn look<S: PageStore>(store: &mut S) -> Result<Seen, Fault> {
     let header = read_header(store)?;
-    let extent = read_extent(store, &header)?;
     Ok(Seen {
         pages: store.len(),
         header,
-        extent,
+        extent: read_extent(store, &header),
     })
 }
 
@@ -114,12 +110,7 @@ fn plain_store<R: Files<File = File>>(rt: &R, name: &str) -> Option<FileStore<Sy
     }
 }
 
-/// What page 0 of the store of that name says; `None` where it is no plain file, or says nothing.
-pub(crate) fn header_of<R: Files<File = File>>(rt: &R, name: &str) -> Option<Header> {
-    read_header(&mut plain_store(rt, name)?).ok()
-}
-
-/// What is seen of the store of that name, likewise.
+/// What is seen of the store of that name; `None` where it is no plain file, or page 0 says nothing.
 pub(crate) fn look_at<R: Files<File = File>>(rt: &R, name: &str) -> Option<Seen> {
     look(&mut plain_store(rt, name)?).ok()
 }
