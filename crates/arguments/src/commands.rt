@@ -334,23 +334,30 @@ fn bare<'a>(alloc: Global) -> Command<'a> {
         .subcommand_required(true)
 }
 
-/// A program with these commands too.
-fn with_commands<'a>(
+/// Takes in what `clap` is told of these commands.
+fn add_commands<'a>(
     alloc: Global,
     reading: Reading,
-    mut program: Command<'a>,
-    commands: &[Called<'a>],
-) -> Result<Command<'a>, AllocError> {
-    for called in commands {
-        program = program.subcommand(command(alloc, reading, called)?)?;
+    commands: &mut Vec<Command<'a>>,
+    all: &[Called<'a>],
+) -> Result<(), AllocError> {
+    for called in all {
+        commands.push(command(alloc, reading, called)?)?;
     }
-    Ok(program)
+    Ok(())
 }
 
-/// The program, and its commands in the order in which the help says them.
+/// The commands, in the order in which the help says them.
+fn commands_of<'a>(alloc: Global, reading: Reading) -> Result<Vec<Command<'a>>, AllocError> {
+    let mut commands = Vec::new(alloc);
+    add_commands(alloc, reading, &mut commands, &loading_commands())?;
+    add_commands(alloc, reading, &mut commands, &asking_commands())?;
+    Ok(commands)
+}
+
+/// The program, and its commands.
 fn mftb<'a>(alloc: Global, reading: Reading) -> Result<Command<'a>, AllocError> {
-    let program = with_commands(alloc, reading, bare(alloc), &loading_commands())?;
-    with_commands(alloc, reading, program, &asking_commands())
+    bare(alloc).subcommands(commands_of(alloc, reading)?)
 }
 
 /// Whether a word begins as a number below 0 does.
@@ -686,10 +693,28 @@ fn clash_of(matches: &ArgMatches) -> Option<&'static str> {
 /// once no word is missing.
 pub fn read_words<'a>(alloc: Global, words: &'a [String]) -> Result<Task<'a>, Error> {
     let mut program = mftb(alloc, reading_of(words))?;
+    read_by(alloc, &mut program, words)
+}
+
+/// Reads the words by what `clap` was told of them.
+fn read_by<'a>(
+    alloc: Global,
+    program: &mut Command<'a>,
+    words: &'a [String],
+) -> Result<Task<'a>, Error> {
     let matches = program.try_get_matches_from_mut(words)?;
+    asked_of(alloc, program, &matches)
+}
+
+/// What the words that were found ask for.
+fn asked_of<'a>(
+    alloc: Global,
+    program: &mut Command<'a>,
+    matches: &ArgMatches<'a>,
+) -> Result<Task<'a>, Error> {
     match matches.subcommand() {
-        Some((name, found)) => ask(alloc, &mut program, name, found),
-        None => ask(alloc, &mut program, "run", &matches),
+        Some((name, found)) => ask(alloc, program, name, found),
+        None => ask(alloc, program, "run", matches),
     }
 }
 
@@ -709,14 +734,21 @@ fn ask<'a>(
 /// What the words of a command ask for.
 fn task_of<'a>(alloc: Global, name: &str, matches: &ArgMatches<'a>) -> Result<Task<'a>, Error> {
     match name {
-        "check" => Ok(Task::Check(check_of(matches))),
-        "migrate" => Ok(Task::Migrate(migrate_of(matches))),
-        "part" => Ok(Task::Part(part_of(matches))),
-        "parts" => Ok(Task::Parts(parts_of(matches))),
-        "moments" => Ok(Task::Moments(moments_of(matches))),
-        "zones" => Ok(Task::Zones(zones_of(matches))),
-        "gaps" => Ok(Task::Gaps(gaps_of(matches))),
-        "info" => Ok(Task::Info(info_of(matches))),
-        _ => Ok(Task::Run(run_of(alloc, matches)?)),
+        "run" => Ok(Task::Run(run_of(alloc, matches)?)),
+        _ => Ok(other_of(name, matches)),
+    }
+}
+
+/// What the words of another command than `run` ask for.
+fn other_of<'a>(name: &str, matches: &ArgMatches<'a>) -> Task<'a> {
+    match name {
+        "check" => Task::Check(check_of(matches)),
+        "migrate" => Task::Migrate(migrate_of(matches)),
+        "part" => Task::Part(part_of(matches)),
+        "parts" => Task::Parts(parts_of(matches)),
+        "moments" => Task::Moments(moments_of(matches)),
+        "zones" => Task::Zones(zones_of(matches)),
+        "gaps" => Task::Gaps(gaps_of(matches)),
+        _ => Task::Info(info_of(matches)),
     }
 }

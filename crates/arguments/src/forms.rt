@@ -73,11 +73,6 @@ fn required<'a>(alloc: Global, word: Word<'a>) -> Arg<'a> {
         .action(ArgAction::Set)
 }
 
-/// A word that has to be there, and is a number of that at least.
-fn count<'a>(alloc: Global, word: Word<'a>, least: u32) -> Arg<'a> {
-    required(alloc, word).value_parser(between(least, u32::MAX))
-}
-
 /// A word that has to be there, and may begin with a minus or not.
 fn bound<'a>(alloc: Global, word: Word<'a>, takes_negative: bool) -> Arg<'a> {
     required(alloc, word).allow_negative_numbers(takes_negative)
@@ -109,42 +104,39 @@ fn option<'a>(alloc: Global, word: Word<'a>, value: &'a str) -> Arg<'a> {
         .help(word.help)
 }
 
-/// A word `--NAME PRED`, the word of a predicate.
-fn predicate<'a>(alloc: Global, word: Word<'a>) -> Arg<'a> {
-    option(alloc, word, "PRED").value_parser(ValueParser::Names(&PREDICATES))
-}
-
-/// A word `--NAME VALUE`, a number.
-fn number<'a>(alloc: Global, word: Word<'a>, value: &'a str) -> Arg<'a> {
-    option(alloc, word, value).value_parser(between(0, u32::MAX))
-}
-
-/// A word `--NAME N`, a number from 1 to 2^31.
-fn limit<'a>(alloc: Global, word: Word<'a>) -> Arg<'a> {
-    option(alloc, word, "N").value_parser(between(1, 1 << 31))
-}
-
-/// A word `--NAME N`, a number of 1 at least, and that where it is not there.
-fn count_or<'a>(alloc: Global, word: Word<'a>, default: &'a str) -> Arg<'a> {
-    option(alloc, word, "N")
-        .value_parser(between(1, u32::MAX))
-        .default_value(default)
-}
-
-/// What `clap` is told of a word.
-fn arg_of<'a>(alloc: Global, reading: Reading, word: Word<'a>) -> Arg<'a> {
+/// A word without regard to which values it takes.
+fn unparsed<'a>(alloc: Global, reading: Reading, word: Word<'a>) -> Arg<'a> {
     match word.form {
-        Form::Required => required(alloc, word),
-        Form::Count(least) => count(alloc, word, least),
+        Form::Required | Form::Count(_) => required(alloc, word),
         Form::Bound | Form::Corner => bound(alloc, word, reading.takes_negative),
         Form::Names => names(alloc, word),
         Form::Flag => flag(alloc, word),
         Form::FlagOrLetter(letter) => letter_flag(alloc, word, letter),
-        Form::Value(value) => option(alloc, word, value),
-        Form::Predicate => predicate(alloc, word),
-        Form::Number(value) => number(alloc, word, value),
-        Form::Limit => limit(alloc, word),
-        Form::CountOr(default) => count_or(alloc, word, default),
+        Form::Value(value) | Form::Number(value) => option(alloc, word, value),
+        Form::Predicate => option(alloc, word, "PRED"),
+        Form::Limit => option(alloc, word, "N"),
+        Form::CountOr(default) => option(alloc, word, "N").default_value(default),
+    }
+}
+
+/// Which values a word takes; `None` where it takes all.
+fn values_of<'a>(form: Form<'a>) -> Option<ValueParser<'a>> {
+    match form {
+        Form::Count(least) => Some(between(least, u32::MAX)),
+        Form::CountOr(_) => Some(between(1, u32::MAX)),
+        Form::Limit => Some(between(1, 1 << 31)),
+        Form::Number(_) => Some(between(0, u32::MAX)),
+        Form::Predicate => Some(ValueParser::Names(&PREDICATES)),
+        _ => None,
+    }
+}
+
+/// What `clap` is told of a word.
+fn arg_of<'a>(alloc: Global, reading: Reading, word: Word<'a>) -> Arg<'a> {
+    let arg = unparsed(alloc, reading, word);
+    match values_of(word.form) {
+        Some(values) => arg.value_parser(values),
+        None => arg,
     }
 }
 
@@ -156,17 +148,29 @@ fn is_left_out(reading: Reading, word: Word<'_>) -> bool {
     }
 }
 
+/// What `clap` is told of the words of a command.
+fn args_of<'a>(
+    alloc: Global,
+    reading: Reading,
+    words: &[Word<'a>],
+) -> Result<Vec<Arg<'a>>, AllocError> {
+    let mut args = Vec::new(alloc);
+    for word in words {
+        if !is_left_out(reading, *word) {
+            args.push(arg_of(alloc, reading, *word))?;
+        }
+    }
+    Ok(args)
+}
+
 /// What `clap` is told of a command.
 pub(crate) fn command<'a>(
     alloc: Global,
     reading: Reading,
     called: &Called<'a>,
 ) -> Result<Command<'a>, AllocError> {
-    let mut command = Command::new(alloc, called.name).about(called.about);
-    for word in called.words {
-        if !is_left_out(reading, *word) {
-            command = command.arg(arg_of(alloc, reading, *word))?;
-        }
-    }
-    Ok(command)
+    let args = args_of(alloc, reading, called.words)?;
+    Command::new(alloc, called.name)
+        .about(called.about)
+        .args(args)
 }

@@ -16,17 +16,31 @@ use std::rt::Files;
 use timebase::Ms;
 use trajdb::{Db, RunFault};
 
+/// Opens a store to be read alone; what a run left there that was killed is taken away. A file that is absent is made,
+/// without a byte.
+pub(crate) fn open_swept<R: Files<File = File>>(
+    rt: &R,
+    names: &Names,
+) -> Result<AskedStore, Fault> {
+    sweep(rt, names);
+    open_asked(rt, names)
+}
+
+/// Opens a store that is there so; none is made.
+fn open_present<R: Files<File = File>>(rt: &R, names: &Names) -> Result<AskedStore, Fault> {
+    match absence_of(rt, names.store.as_str()) {
+        Some(cause) => Err(Fault::CannotRead(Named::Store, cause)),
+        None => open_swept(rt, names),
+    }
+}
+
 /// The store of a file that is there, opened to be read alone; none is made.
 pub(crate) fn store_to_ask<R: Files<File = File> + AllocGlobal>(
     rt: &R,
     store: &str,
 ) -> Result<AskedStore, Fault> {
     let names = Names::new(rt, store)?;
-    if let Some(cause) = absence_of(rt, names.store.as_str()) {
-        return Err(Fault::CannotRead(Named::Store, cause));
-    }
-    sweep(rt, &names);
-    open_asked(rt, &names)
+    open_present(rt, &names)
 }
 
 /// How many pages a cache keeps where so many are asked for: from 1 to 2^24, which are 64 GiB. The table of a cache takes
@@ -64,16 +78,21 @@ pub(crate) fn database_to_ask<R: AllocGlobal + RandomSource, S: PageStore + Drop
     }
 }
 
-/// Closes a database that was asked, and gives what it told.
-fn close_asked<S: PageStore + Drop, T: Drop>(
-    alloc: Global,
-    database: Db<S>,
-    told: Result<T, RunFault>,
-) -> Result<T, Fault> {
+/// Closes a database that was asked.
+fn close_asked<S: PageStore + Drop>(alloc: Global, database: Db<S>) -> Result<(), RunFault> {
     let (_store, closed) = database.close(alloc);
-    let told = told?;
-    closed?;
-    Ok(told)
+    closed
+}
+
+/// What a database told, which then was closed so.
+fn told_and_closed<T: Drop>(
+    told: Result<T, RunFault>,
+    closed: Result<(), RunFault>,
+) -> Result<T, Fault> {
+    match (told, closed) {
+        (Ok(told), Ok(())) => Ok(told),
+        (Err(fault), _) | (Ok(_), Err(fault)) => Err(Fault::Run(fault)),
+    }
 }
 
 /// What is asked of a database.
@@ -94,7 +113,7 @@ fn told_of<R: AllocGlobal + RandomSource, S: PageStore + Drop, Q: Question + Dro
 ) -> Result<Q::Told, Fault> {
     let mut database = database_to_ask(rt, store, cache_pages)?;
     let told = question.ask(&mut database);
-    close_asked(rt.alloc(), database, told)
+    told_and_closed(told, close_asked(rt.alloc(), database))
 }
 
 /// Opens a store to be read alone, and gives what its database tells.

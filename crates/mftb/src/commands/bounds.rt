@@ -48,8 +48,7 @@ pub(crate) fn hold_words(texts: &[&str]) -> Result<(), Fault> {
 
 /// Refuses times of which one is no word: none of them is an instant.
 pub(crate) fn hold_times(times: [&str; 2]) -> Result<(), Fault> {
-    let [t1, t2] = times;
-    if is_word(t1) && is_word(t2) {
+    if is_word(times[0]) && is_word(times[1]) {
         Ok(())
     } else {
         Err(Fault::Bounds(LineCode::Q7))
@@ -88,10 +87,12 @@ fn moment_of(word: &str) -> Result<Ms, Fault> {
 /// The period of T1 and T2, refused likewise.
 pub(crate) fn period_of(times: [&str; 2]) -> Result<Period, Fault> {
     hold_times(times)?;
-    let [t1, t2] = times;
-    let t1 = moment_of(t1)?;
-    let t2 = moment_of(t2)?;
-    match Period::new(t1, t2) {
+    period_between(moment_of(times[0])?, moment_of(times[1])?)
+}
+
+/// The period between two moments; refused where the last is before the first.
+fn period_between(first: Ms, last: Ms) -> Result<Period, Fault> {
+    match Period::new(first, last) {
         Some(period) => Ok(period),
         None => Err(Fault::Bounds(LineCode::Q8)),
     }

@@ -1,7 +1,6 @@
 //! `mftb check`: whether the pages of a file hold one database.
-use crate::commands::asking::database_to_ask;
-use crate::system::leftovers::sweep;
-use crate::system::opening::{AskedStore, open_asked};
+use crate::commands::asking::{database_to_ask, open_swept};
+use crate::system::opening::AskedStore;
 use crate::system::store_names::Names;
 use arguments::Check;
 use outputs::Output;
@@ -29,31 +28,39 @@ fn store_to_check<R: Files<File = File> + AllocGlobal>(
     store: &str,
 ) -> Result<AskedStore, Fault> {
     let names = Names::new(rt, store)?;
-    sweep(rt, &names);
-    open_asked(rt, &names)
+    open_swept(rt, &names)
 }
 
-/// Checks the database of a store, and says how much it holds.
-fn check_store<R: AllocGlobal + RandomSource, S: PageStore + Drop, O: Output>(
+/// Checks the database of a store: how much it holds.
+fn check_store<R: AllocGlobal + RandomSource, S: PageStore + Drop>(
     rt: &R,
     store: S,
     cache_pages: u32,
-    out: &mut O,
-) -> Result<(), Fault> {
+) -> Result<Report, Fault> {
     let database = database_to_ask(rt, store, cache_pages)?;
     let (_store, checked) = check_and_close(rt.alloc(), database);
     match checked {
-        Ok(report) => send_all(out, text_of(rt.alloc(), &report)?.as_bytes()),
+        Ok(report) => Ok(report),
         Err(fault) => Err(Fault::Run(fault)),
     }
 }
 
-/// Checks the database of the store of that name.
+/// Checks the database of the store of that name: how much it holds.
+fn report_of<R: Files<File = File> + AllocGlobal + RandomSource>(
+    rt: &R,
+    check: &Check<'_>,
+) -> Result<Report, Fault> {
+    let store = store_to_check(rt, check.store)?;
+    check_store(rt, store, check.cache_pages)
+}
+
+/// Checks the database of the store of that name, and prints how much it holds.
 pub(crate) fn check<R: Files<File = File> + AllocGlobal + RandomSource, O: Output>(
     rt: &R,
     check: &Check<'_>,
     out: &mut O,
 ) -> Result<(), Fault> {
-    let store = store_to_check(rt, check.store)?;
-    check_store(rt, store, check.cache_pages, out)
+    let report = report_of(rt, check)?;
+    let text = text_of(rt.alloc(), &report)?;
+    send_all(out, text.as_bytes())
 }

@@ -38,7 +38,11 @@ fn summary_of<S: PageStore + Drop>(alloc: Global, store: S) -> Result<Summary, F
 /// comes first.
 fn known_of<S: PageStore + Drop>(alloc: Global, mut store: S) -> Result<Known, Fault> {
     let seen = look(&mut store);
-    let summary = summary_of(alloc, store)?;
+    with_seen(summary_of(alloc, store)?, seen)
+}
+
+/// What is known of a store by its summary and by what is seen of its pages.
+fn with_seen(summary: Summary, seen: Result<Seen, Fault>) -> Result<Known, Fault> {
     let seen = seen?;
     Ok(Known {
         summary,
@@ -78,14 +82,24 @@ fn text_of(alloc: Global, known: &Known, form: InfoForm) -> Result<Vec<u8>, RunF
     }
 }
 
+/// Opens the store of that name to be read alone: what is known of it.
+fn known_by<R: Files<File = File> + AllocGlobal>(rt: &R, name: &str) -> Result<Known, Fault> {
+    let store = store_to_ask(rt, name)?;
+    known_of(rt.alloc(), store)
+}
+
+/// The text of what a store holds.
+fn told_of<R: Files<File = File> + AllocGlobal>(rt: &R, task: &Info<'_>) -> Result<Vec<u8>, Fault> {
+    let known = known_by(rt, task.store)?;
+    Ok(text_of(rt.alloc(), &known, task.form)?)
+}
+
 /// Opens the store to be read alone, and prints what it holds.
 pub(crate) fn print_info<R: Files<File = File> + AllocGlobal, O: Output>(
     rt: &R,
     task: &Info<'_>,
     out: &mut O,
 ) -> Result<(), Fault> {
-    let store = store_to_ask(rt, task.store)?;
-    let known = known_of(rt.alloc(), store)?;
-    let text = text_of(rt.alloc(), &known, task.form)?;
+    let text = told_of(rt, task)?;
     send_all(out, &text)
 }

@@ -1,12 +1,14 @@
 //! `mftb migrate`: a store of version 1 is brought over into a new one.
 use crate::commands::asking::keys_of;
-use crate::system::opening::{is_absent, open_asked, open_in_place};
+use crate::system::file::{LastCause, caused};
+use crate::system::opening::{AskedStore, is_absent, open_asked, open_in_place};
 use crate::system::store_names::Names;
 use arguments::Migrate;
 use outputs::Output;
 use pages::{FileStore, PageStore};
 use sessions::{Fault, migrate_and_close, send_all};
 use std::alloc::Global;
+use std::cell::Cell;
 use std::fs::File;
 use std::hash::RandomState;
 use std::random::RandomSource;
@@ -41,9 +43,24 @@ fn bring_into<R: Files<File = File> + AllocGlobal, S: PageStore + Drop>(
     keys: RandomState,
     old: S,
     names: &Names,
+    cause: &LastCause,
 ) -> Result<(), Fault> {
-    let new = open_in_place(rt, names)?;
+    let new = open_in_place(rt, names, cause)?;
     bring(rt.alloc(), keys, old, new)
+}
+
+/// Brings a store of version 1 over so, and says why a call on the new file failed.
+fn bring_and_say<R: Files<File = File> + AllocGlobal, S: PageStore + Drop>(
+    rt: &R,
+    keys: RandomState,
+    old: S,
+    names: &Names,
+) -> Result<(), Fault> {
+    let cause = Cell::new(None);
+    match bring_into(rt, keys, old, names, &cause) {
+        Ok(()) => Ok(()),
+        Err(fault) => Err(caused(&cause, fault)),
+    }
 }
 
 /// Brings a store of version 1 over into the new file of that name.
@@ -54,10 +71,26 @@ fn bring_over<R: Files<File = File> + AllocGlobal, S: PageStore + Drop>(
     new: &str,
 ) -> Result<(), Fault> {
     let names = Names::new(rt, new)?;
-    match bring_into(rt, keys, old, &names) {
-        Ok(()) => Ok(()),
-        Err(fault) => Err(names.caused(fault)),
-    }
+    bring_and_say(rt, keys, old, &names)
+}
+
+/// Opens a store to be read alone.
+fn store_to_read<R: Files<File = File> + AllocGlobal>(
+    rt: &R,
+    name: &str,
+) -> Result<AskedStore, Fault> {
+    let names = Names::new(rt, name)?;
+    open_asked(rt, &names)
+}
+
+/// Brings the store of one name over into the file of the other.
+fn bring_named<R: Files<File = File> + AllocGlobal + RandomSource>(
+    rt: &R,
+    migrate: &Migrate<'_>,
+) -> Result<(), Fault> {
+    let keys = keys_of(rt)?;
+    let old = store_to_read(rt, migrate.old)?;
+    bring_over(rt, keys, old, migrate.new)
 }
 
 /// Brings a store of version 1, which is opened to be read alone, over into a new file. Where the old
@@ -73,8 +106,6 @@ pub(crate) fn migrate<R: Files<File = File> + AllocGlobal + RandomSource, O: Out
     if is_absent(rt, migrate.old) {
         return Err(Fault::Open(OpenFault::Malformed));
     }
-    let keys = keys_of(rt)?;
-    let old = open_asked(rt, &Names::new(rt, migrate.old)?)?;
-    bring_over(rt, keys, old, migrate.new)?;
+    bring_named(rt, migrate)?;
     send_all(out, "ok 0\n".as_bytes())
 }

@@ -4,6 +4,7 @@ use crate::commands::bounds::{hold_times, period_of};
 use crate::commands::rectangles::{NamedRect, rects_of};
 use crate::explain::empty_areas::tell_elsewhere;
 use arguments::{Moments, RowKind, ValueMode, Where};
+use mfcsv::Dimension;
 use moments::{Stay, Visit, dwells_of, stays, visits_of};
 use outputs::Output;
 use pages::PageStore;
@@ -13,7 +14,7 @@ use reports::{
     push_label, push_stays, push_valued_stays, push_visits,
 };
 use sessions::{Fault, send_all};
-use std::alloc::Global;
+use std::alloc::{AllocError, Global};
 use std::fs::File;
 use std::io::Eprint;
 use std::random::RandomSource;
@@ -50,31 +51,30 @@ impl Told {
 }
 
 impl Asked {
-    /// Appends the line that names the fields.
-    fn push_heading<S: PageStore>(
-        &self,
-        text: &mut Vec<u8>,
-        database: &Db<S>,
-    ) -> Result<(), RunFault> {
-        let dimension = frame_of(database, b"").dimension;
+    /// Appends the names of the fields, but for those of attributes.
+    fn push_fields(&self, text: &mut Vec<u8>, dimension: Dimension) -> Result<(), AllocError> {
         let first = if self.is_named {
             OF_RECTANGLE
         } else {
             OF_FEATURE
         };
         match self.rows {
-            RowKind::Legs(ValueMode::Without) => Ok(push_heading(
-                text,
-                first,
-                dimension,
-                Heading::Stays,
-            )?),
-            RowKind::Legs(ValueMode::With) => {
-                push_heading(text, first, dimension, Heading::Stays)?;
-                push_columns(self.alloc, text, database)
-            }
-            RowKind::Visits => Ok(push_heading(text, first, dimension, Heading::Visits)?),
-            RowKind::Dwell => Ok(push_dwell_fields(text, first)?),
+            RowKind::Legs(_) => push_heading(text, first, dimension, Heading::Stays),
+            RowKind::Visits => push_heading(text, first, dimension, Heading::Visits),
+            RowKind::Dwell => push_dwell_fields(text, first),
+        }
+    }
+
+    /// Appends the line that names the fields.
+    fn push_heading<S: PageStore>(
+        &self,
+        text: &mut Vec<u8>,
+        database: &Db<S>,
+    ) -> Result<(), RunFault> {
+        self.push_fields(text, frame_of(database, b"").dimension)?;
+        match self.rows {
+            RowKind::Legs(ValueMode::With) => push_columns(self.alloc, text, database),
+            _ => Ok(()),
         }
     }
 
@@ -193,15 +193,13 @@ impl<'q> Question for RectsAsked<'q> {
     }
 }
 
-/// Prints when legs of the store's database are inside these rectangles in the period.
-fn print_answer<R: Files<File = File> + Eprint + AllocGlobal + RandomSource, O: Output>(
+/// What the store's database answers of these rectangles in a period.
+fn told_of<R: Files<File = File> + AllocGlobal + RandomSource>(
     rt: &R,
     task: &Moments<'_>,
     rects: &[NamedRect],
-    out: &mut O,
-    is_terminal: bool,
-) -> Result<(), Fault> {
-    let period = period_of(task.times)?;
+    period: Period,
+) -> Result<Told, Fault> {
     let asked = Asked {
         alloc: rt.alloc(),
         period,
@@ -212,7 +210,19 @@ fn print_answer<R: Files<File = File> + Eprint + AllocGlobal + RandomSource, O: 
         asked: &asked,
         rects,
     };
-    let told = told_by(rt, task.store, task.cache_pages, question)?;
+    told_by(rt, task.store, task.cache_pages, question)
+}
+
+/// Prints when legs of the store's database are inside these rectangles in the period.
+fn print_answer<R: Files<File = File> + Eprint + AllocGlobal + RandomSource, O: Output>(
+    rt: &R,
+    task: &Moments<'_>,
+    rects: &[NamedRect],
+    out: &mut O,
+    is_terminal: bool,
+) -> Result<(), Fault> {
+    let period = period_of(task.times)?;
+    let told = told_of(rt, task, rects, period)?;
     send_all(out, &told.text)?;
     if task.telling.is_told(is_terminal) {
         tell_elsewhere(rt, task.store, Area::Rectangle, &period, rects, &told.empty);

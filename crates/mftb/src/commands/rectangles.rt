@@ -28,18 +28,31 @@ struct Columns {
     corners: [usize; 4],
 }
 
-/// The field at a place, without the blanks at its ends; empty where there is none.
-fn field_at<'r>(record: &'r ByteRecord, place: usize) -> Result<&'r str, RectsFault> {
-    match str::from_utf8(cut(record.get(place).unwrap_or(b"".as_slice()))) {
-        Ok(text) => Ok(text),
-        Err(_) => Err(RectsFault::NotUtf8),
+/// The bytes of the field at a place, without the blanks at its ends; none where there is no such field.
+fn bytes_at(record: &ByteRecord, place: usize) -> &[u8] {
+    cut(record.get(place).unwrap_or(b"".as_slice()))
+}
+
+/// The text of the field at a place; empty where it is not UTF-8.
+fn text_at(record: &ByteRecord, place: usize) -> &str {
+    str::from_utf8(bytes_at(record, place)).unwrap_or("")
+}
+
+/// Refuses a record of which the field at one of these places is not UTF-8.
+fn hold_utf8(record: &ByteRecord, places: &[usize]) -> Result<(), RectsFault> {
+    for place in places {
+        if str::from_utf8(bytes_at(record, *place)).is_err() {
+            return Err(RectsFault::NotUtf8);
+        }
     }
+    Ok(())
 }
 
 /// Where the column of a name stands.
 fn column_of(head: &ByteRecord, name: &str) -> Result<usize, RectsFault> {
     for place in 0..head.len() {
-        if field_at(head, place)?.eq_ignore_ascii_case(name) {
+        hold_utf8(head, &[place])?;
+        if text_at(head, place).eq_ignore_ascii_case(name) {
             return Ok(place);
         }
     }
@@ -59,27 +72,37 @@ fn columns_of(head: &ByteRecord) -> Result<Columns, RectsFault> {
     })
 }
 
-/// The name in a record.
-fn name_in<'r>(record: &'r ByteRecord, columns: &Columns) -> Result<&'r str, RectsFault> {
-    let name = field_at(record, columns.name)?;
+/// Refuses a record without a name, or with one that is too long.
+fn hold_name(record: &ByteRecord, columns: &Columns) -> Result<(), RectsFault> {
+    hold_utf8(record, &[columns.name])?;
+    let name = text_at(record, columns.name);
     if name.is_empty() || name.len() > MOST_NAME {
         return Err(RectsFault::Name);
     }
-    Ok(name)
+    Ok(())
 }
 
 /// The rectangle in a record.
 fn rect_in(record: &ByteRecord, columns: &Columns) -> Result<Rect, RectsFault> {
+    hold_utf8(record, &columns.corners)?;
     let [x1, y1, x2, y2] = columns.corners;
     let corners = Corners {
-        x1: field_at(record, x1)?,
-        y1: field_at(record, y1)?,
-        x2: field_at(record, x2)?,
-        y2: field_at(record, y2)?,
+        x1: text_at(record, x1),
+        y1: text_at(record, y1),
+        x2: text_at(record, x2),
+        y2: text_at(record, y2),
     };
     match rect_of(&corners) {
         Ok(rect) => Ok(rect),
         Err(code) => Err(RectsFault::Corner(code)),
+    }
+}
+
+/// What was made of the record of that number, or its fault.
+fn at<T>(number: u64, made: Result<T, RectsFault>) -> Result<T, Fault> {
+    match made {
+        Ok(made) => Ok(made),
+        Err(why) => Err(Fault::Rects(number, why)),
     }
 }
 
@@ -127,26 +150,23 @@ impl Rects {
         Ok(())
     }
 
+    /// The rectangle in a record of which the name is new.
+    fn new_rect_in(&self, record: &ByteRecord, columns: &Columns) -> Result<Rect, RectsFault> {
+        hold_name(record, columns)?;
+        let rect = rect_in(record, columns)?;
+        if self.has_name(text_at(record, columns.name)) {
+            return Err(RectsFault::Twice);
+        }
+        Ok(rect)
+    }
+
     /// Takes the record of that number in.
     fn take(&mut self, number: u64, record: &ByteRecord) -> Result<(), Fault> {
         let Some(columns) = self.columns else {
-            return match self.take_columns(record) {
-                Ok(()) => Ok(()),
-                Err(why) => Err(Fault::Rects(number, why)),
-            };
+            return at(number, self.take_columns(record));
         };
-        let name = match name_in(record, &columns) {
-            Ok(name) => name,
-            Err(why) => return Err(Fault::Rects(number, why)),
-        };
-        let rect = match rect_in(record, &columns) {
-            Ok(rect) => rect,
-            Err(why) => return Err(Fault::Rects(number, why)),
-        };
-        if self.has_name(name) {
-            return Err(Fault::Rects(number, RectsFault::Twice));
-        }
-        Ok(self.add(name, rect)?)
+        let rect = at(number, self.new_rect_in(record, &columns))?;
+        Ok(self.add(text_at(record, columns.name), rect)?)
     }
 
     /// Takes the records of a reader in, numbered from 1, the one that names the columns included.

@@ -1,14 +1,15 @@
 //! `mftb run`: a script over the database that a file keeps.
 ghost use Rattle.std.specs.Prelude.{◌<◌, ◌≤◌, ◌^◌};
 
-use crate::commands::asking::{cached_pages, keys_of};
+use crate::commands::asking::{cached_pages, keys_of, open_swept};
 use crate::commands::run_files::read_files;
 use crate::explain::notes::{Given, tell_made, tell_notes, tell_sources};
 use crate::outcome::Outcome;
+use crate::system::file::{LastCause, caused};
 use crate::system::folder::SystemFolder;
-use crate::system::leftovers::{clear, sweep};
+use crate::system::leftovers::clear;
 use crate::system::locks::{give_back, hold_name};
-use crate::system::opening::{is_absent, is_special, open_asked, open_in_place};
+use crate::system::opening::{is_absent, is_special, open_in_place};
 use crate::system::store_names::Names;
 use crate::system::stored::{Header, look_at};
 use arguments::{Run, StoreMode, Telling, WriteMode};
@@ -20,6 +21,7 @@ use sessions::{
     Ended, Fault, MOST_BYTES, MOST_FEATURES, MOST_LEGS, Named, Opening, answer, database,
     read_named, run_on_copy,
 };
+use std::cell::Cell;
 use std::fs::File;
 use std::io::Eprint;
 use std::random::RandomSource;
@@ -32,6 +34,7 @@ struct Work<'w> {
     script: &'w [u8],
     files: &'w Files,
     names: &'w Names,
+    cause: &'w LastCause,
     how: Opening,
     /// Whether the store has no legs.
     is_empty: bool,
@@ -86,8 +89,7 @@ fn ask<R: rt::Files<File = File> + rt::Clock + Eprint, O: Output>(
     progress: &Progress<'_, R>,
     out: &mut O,
 ) -> Ended {
-    sweep(rt, work.names);
-    run_over(open_asked(rt, work.names), work, progress, out)
+    run_over(open_swept(rt, work.names), work, progress, out)
 }
 
 /// Runs a script that may write over the store as it lies there. Where the folder may not be written,
@@ -103,7 +105,7 @@ fn run_in_place<R: rt::Files<File = File> + rt::Clock + Eprint, O: Output>(
         Err(Fault::InUse) => return refused(Fault::InUse),
         held => held.ok(),
     };
-    let ended = run_over(open_in_place(rt, names), work, progress, out);
+    let ended = run_over(open_in_place(rt, names, work.cause), work, progress, out);
     if let Some(lock) = lock {
         let _ = clear(rt, names, &lock);
         give_back(rt, names.lock.as_str());
@@ -118,7 +120,7 @@ fn run_beside<R: rt::Files<File = File> + rt::Clock + Eprint, O: Output>(
     progress: &Progress<'_, R>,
     out: &mut O,
 ) -> Ended {
-    let mut folder = match SystemFolder::take(rt, work.names, progress) {
+    let mut folder = match SystemFolder::take(rt, work.names, work.cause, progress) {
         Ok(folder) => folder,
         Err(fault) => return refused(fault),
     };
@@ -229,7 +231,7 @@ fn hold_store(run: &Run<'_>, is_new: bool) -> Result<(), Fault> {
 /// Says why what a run did is not kept, where its own fault does not say so.
 fn tell_unsaid<R: Eprint>(rt: &R, work: &Work<'_>, ended: Ended) {
     if let Some(fault) = unsaid(ended) {
-        let fault = work.names.caused(fault);
+        let fault = caused(work.cause, fault);
         let _ = eprintln!(rt; "mftb: {fault}");
     }
 }
@@ -323,7 +325,7 @@ fn run_work<R: rt::Files<File = File> + rt::Clock + Eprint + AllocGlobal + Rando
     tell_run(rt, run, work, &ran);
     match ended {
         Ok(()) => Ok(Outcome::of_run(run.is_strict, refused)),
-        Err(fault) => Err(work.names.caused(fault)),
+        Err(fault) => Err(caused(work.cause, fault)),
     }
 }
 
@@ -358,10 +360,12 @@ fn run_script<
         limits: limits(run),
         cache_pages: cached_pages(run.cache_pages),
     };
+    let cause = Cell::new(None);
     let work = Work {
         script,
         files,
         names,
+        cause: &cause,
         how,
         is_empty: is_new || has_no_legs(header),
     };

@@ -7,7 +7,7 @@ use crate::explain::misplaced_words::tell_form;
 use crate::outcome::Outcome;
 use arguments::{Telling, ValueMode, ZoneRowKind, Zones};
 use legs::Leg;
-use mfcsv::without_marks;
+use mfcsv::{Dimension, without_marks};
 use outputs::Output;
 use pages::PageStore;
 use predicates::Predicate;
@@ -45,26 +45,26 @@ struct Asked {
 }
 
 impl Asked {
+    /// Appends the names of the fields, but for those of attributes.
+    fn push_fields(&self, text: &mut Vec<u8>, dimension: Dimension) -> Result<(), AllocError> {
+        match self.rows {
+            ZoneRowKind::Visits => push_heading(text, OF_ZONE, dimension, Heading::ZoneVisits),
+            ZoneRowKind::Legs(_) => push_heading(text, OF_ZONE, dimension, Heading::ZoneStays),
+            ZoneRowKind::Dwell => push_dwell_fields(text, OF_ZONE),
+            ZoneRowKind::Features(_) => push_feature_fields(text, OF_ZONE),
+        }
+    }
+
     /// Appends the line that names the fields.
     fn push_heading<S: PageStore>(
         &self,
         text: &mut Vec<u8>,
         database: &Db<S>,
     ) -> Result<(), RunFault> {
-        let dimension = frame_of(database, b"").dimension;
+        self.push_fields(text, frame_of(database, b"").dimension)?;
         match self.rows {
-            ZoneRowKind::Visits => {
-                Ok(push_heading(text, OF_ZONE, dimension, Heading::ZoneVisits)?)
-            }
-            ZoneRowKind::Legs(ValueMode::Without) => {
-                Ok(push_heading(text, OF_ZONE, dimension, Heading::ZoneStays)?)
-            }
-            ZoneRowKind::Legs(ValueMode::With) => {
-                push_heading(text, OF_ZONE, dimension, Heading::ZoneStays)?;
-                push_columns(self.alloc, text, database)
-            }
-            ZoneRowKind::Dwell => Ok(push_dwell_fields(text, OF_ZONE)?),
-            ZoneRowKind::Features(_) => Ok(push_feature_fields(text, OF_ZONE)?),
+            ZoneRowKind::Legs(ValueMode::With) => push_columns(self.alloc, text, database),
+            _ => Ok(()),
         }
     }
 
@@ -220,6 +220,20 @@ impl Told {
         push_zone_features(self.asked.alloc, &mut self.text, database, label, &features)
     }
 
+    /// Appends the features of which a predicate holds with a zone, and says whether a leg is in it.
+    fn push_holding<S: PageStore>(
+        &mut self,
+        database: &Db<S>,
+        label: &[u8],
+        predicate: Predicate,
+        site: &Site,
+        near: &[Leg],
+    ) -> Result<bool, RunFault> {
+        let courses = Courses::of(self.asked.alloc, site, near, &self.asked.period)?;
+        self.push_features(database, label, predicate, near, &courses)?;
+        Ok(courses.is_ever())
+    }
+
     /// Appends the records of a zone, and says whether a leg is in it.
     fn push_all<S: PageStore>(
         &mut self,
@@ -228,19 +242,12 @@ impl Told {
         site: &Site,
         near: &[Leg],
     ) -> Result<bool, RunFault> {
-        let asked = self.asked;
-        match asked.rows {
-            ZoneRowKind::Features(predicate) => {
-                let courses = Courses::of(asked.alloc, site, near, &asked.period)?;
-                self.push_features(database, zone.frame.label, predicate, near, &courses)?;
-                Ok(courses.is_ever())
-            }
-            _ => {
-                let stays = asked.stays(site, near)?;
-                self.push(database, zone, &stays)?;
-                Ok(!stays.is_empty())
-            }
+        if let ZoneRowKind::Features(predicate) = self.asked.rows {
+            return self.push_holding(database, zone.frame.label, predicate, site, near);
         }
+        let stays = self.asked.stays(site, near)?;
+        self.push(database, zone, &stays)?;
+        Ok(!stays.is_empty())
     }
 
     /// Appends the records of a zone of that name, and says whether a leg is in it.
@@ -317,6 +324,19 @@ impl Question for ZonesAsked {
     }
 }
 
+/// Says why no leg is in some of the zones, where that is to be said.
+fn tell_empty<R: Files<File = File> + Eprint + AllocGlobal>(
+    rt: &R,
+    task: &Zones<'_>,
+    period: &Period,
+    told: &Told,
+    is_terminal: bool,
+) {
+    if task.telling.is_told(is_terminal) {
+        tell_elsewhere(rt, task.store, Area::Zone, period, &told.boxes, &told.empty);
+    }
+}
+
 /// Prints who is in which of the zones.
 fn print_answer<R: Files<File = File> + Eprint + AllocGlobal + RandomSource, O: Output>(
     rt: &R,
@@ -329,16 +349,7 @@ fn print_answer<R: Files<File = File> + Eprint + AllocGlobal + RandomSource, O: 
     let question = ZonesAsked { asked, file };
     let told = told_by(rt, task.store, task.cache_pages, question)?;
     send_all(out, &told.text)?;
-    if task.telling.is_told(is_terminal) {
-        tell_elsewhere(
-            rt,
-            task.store,
-            Area::Zone,
-            &asked.period,
-            &told.boxes,
-            &told.empty,
-        );
-    }
+    tell_empty(rt, task, &asked.period, &told, is_terminal);
     Ok(Outcome::Done)
 }
 

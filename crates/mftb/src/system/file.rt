@@ -2,11 +2,22 @@
 ghost use Rattle.std.specs.Prelude.{◌≡◌, true, None};
 
 use pages::{ByteFile, SystemFile};
-use sessions::Cause;
+use sessions::{Cause, Fault};
 use std::cell::Cell;
 use std::fs::{File, OpenFile};
 use std::io;
 use std::os::unix::fs::FileExt;
+
+/// Why a call on a file that is written failed last.
+pub(crate) type LastCause = Cell<Option<Cause>>;
+
+/// A fault, with the cause that was noted where it is one of the store.
+pub(crate) fn caused(last: &LastCause, fault: Fault) -> Fault {
+    match last.get() {
+        Some(cause) if fault.is_of_store() => Fault::NoStore(cause),
+        _ => fault,
+    }
+}
 
 /// A file of the system that is open, by its handle, and that notes why a call on it failed. No contract says which
 /// bytes it holds, nor that `sync` puts them on the disk: that it does is trusted.
@@ -14,12 +25,12 @@ use std::os::unix::fs::FileExt;
 pub(crate) struct HeldFile<'a, F = File> {
     file: SystemFile<F>,
     /// Why a call on it failed last.
-    cause: &'a Cell<Option<Cause>>,
+    cause: &'a LastCause,
 }
 
 impl<'a, F: FileExt + OpenFile> HeldFile<'a, F> {
     /// The file of a handle, which is open for what it is to be asked for.
-    pub(crate) fn new(file: F, cause: &'a Cell<Option<Cause>>) -> HeldFile<'a, F> {
+    pub(crate) fn new(file: F, cause: &'a LastCause) -> HeldFile<'a, F> {
         HeldFile {
             file: SystemFile::new(file),
             cause,

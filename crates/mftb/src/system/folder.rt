@@ -2,7 +2,7 @@
 ghost use Rattle.std.specs.Prelude.{◌≡◌, None, IfErr, IsTrue, OnOk};
 ghost use Rattle.sessions.specs.Folder.{IsOfFolder};
 
-use crate::system::file::HeldFile;
+use crate::system::file::{HeldFile, LastCause};
 use crate::system::leftovers::clear;
 use crate::system::locks::{Held, Hold, give_back, hold_name, is_named, open_held};
 use crate::system::store_names::Names;
@@ -31,6 +31,8 @@ const NEW_MODE: u32 = 0o666;
 pub(crate) struct SystemFolder<'a, 'p, R: Files<File = File> + Clock + Eprint> {
     rt: &'a R,
     names: &'a Names,
+    /// Why a call on the copy failed last.
+    cause: &'a LastCause,
     progress: &'a Progress<'p, R>,
     /// The store's file, where there is one.
     store: Option<File>,
@@ -129,6 +131,7 @@ impl<'a, 'p, R: Files<File = File> + Clock + Eprint> SystemFolder<'a, 'p, R> {
     pub(crate) fn take(
         rt: &'a R,
         names: &'a Names,
+        cause: &'a LastCause,
         progress: &'a Progress<'p, R>,
     ) -> Result<SystemFolder<'a, 'p, R>, Fault> {
         let lock = hold_name(rt, names.lock.as_str())?;
@@ -136,6 +139,7 @@ impl<'a, 'p, R: Files<File = File> + Clock + Eprint> SystemFolder<'a, 'p, R> {
             Ok(store) => Ok(SystemFolder {
                 rt,
                 names,
+                cause,
                 progress,
                 store,
                 lock,
@@ -201,7 +205,7 @@ impl<'a, 'p, R: Files<File = File> + Clock + Eprint> Folder for SystemFolder<'a,
             Ok(copy) => copy,
             Err(fault) => return Err(self.refused.note(fault)),
         };
-        match FileStore::new(HeldFile::new(copy, &self.names.cause)) {
+        match FileStore::new(HeldFile::new(copy, self.cause)) {
             Ok(store) => Ok(Noted::new(store, self.progress)),
             Err(_) => Err(self.refused.note(Fault::NoStore(Cause::Other))),
         }

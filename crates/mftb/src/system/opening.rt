@@ -1,5 +1,5 @@
 //! How the file of a store is opened, and held, for what a run does with it.
-use crate::system::file::HeldFile;
+use crate::system::file::{HeldFile, LastCause};
 use crate::system::locks::{Hold, open_held};
 use crate::system::store_names::Names;
 use pages::{FileStore, SystemFile};
@@ -78,14 +78,15 @@ pub(crate) fn open_asked<R: Files<File = File>>(
 }
 
 /// Opens a store to be written as it lies there, alone; a file that is absent is made.
-pub(crate) fn open_in_place<'n, R: Files<File = File>>(
+pub(crate) fn open_in_place<'c, R: Files<File = File>>(
     rt: &R,
-    names: &'n Names,
-) -> Result<FileStore<HeldFile<'n, File>>, Fault> {
+    names: &Names,
+    cause: &'c LastCause,
+) -> Result<FileStore<HeldFile<'c, File>>, Fault> {
     let mut how = File::options();
     how.read(true).write(true).create(true);
     let file = open_file(rt, names.store.as_str(), &how, Hold::Alone)?;
-    match FileStore::new(HeldFile::new(file, &names.cause)) {
+    match FileStore::new(HeldFile::new(file, cause)) {
         Ok(store) => Ok(store),
         Err(_) => Err(Fault::NoStore(Cause::Other)),
     }

@@ -1,6 +1,6 @@
 //! The names of a store and of what lies beside it while a run works on a copy.
-use sessions::{Cause, Fault};
-use std::cell::Cell;
+use sessions::Fault;
+use std::alloc::{AllocError, Global};
 use std::fs::File;
 use std::path::Path;
 use std::rt::Files;
@@ -15,19 +15,12 @@ pub(crate) struct Names {
     pub(crate) copy: String,
     /// An empty file whose lock the run holds.
     pub(crate) lock: String,
-    /// Why a call on a file failed last that is written.
-    pub(crate) cause: Cell<Option<Cause>>,
 }
 
 // In one place, and not at each end of what owns it.
 impl Drop for Names {
     fn drop(self) {
-        let Names {
-            store,
-            copy,
-            lock,
-            cause,
-        } = self;
+        let Names { store, copy, lock } = self;
     }
 }
 
@@ -42,28 +35,19 @@ fn resolved<R: Files + AllocGlobal>(rt: &R, store: &str) -> Result<String, Fault
     }
 }
 
+/// A name with that ending.
+fn with_ending(alloc: Global, name: &str, ending: &str) -> Result<String, AllocError> {
+    format!(in alloc; "{name}{ending}")
+}
+
 impl Names {
     /// The names for a store.
     pub(crate) fn new<R: Files + AllocGlobal>(rt: &R, store: &str) -> Result<Names, Fault> {
         let alloc = rt.alloc();
         let store = resolved(rt, store)?;
-        let copy = format!(in alloc; "{store}.mftb-copy")?;
-        let lock = format!(in alloc; "{store}.mftb-lock")?;
-        let cause = Cell::new(None);
-        Ok(Names {
-            store,
-            copy,
-            lock,
-            cause,
-        })
-    }
-
-    /// A fault, with the cause that was noted where it is one of the store.
-    pub(crate) fn caused(&self, fault: Fault) -> Fault {
-        match self.cause.get() {
-            Some(cause) if fault.is_of_store() => Fault::NoStore(cause),
-            _ => fault,
-        }
+        let copy = with_ending(alloc, store.as_str(), ".mftb-copy")?;
+        let lock = with_ending(alloc, store.as_str(), ".mftb-lock")?;
+        Ok(Names { store, copy, lock })
     }
 
     /// Makes the names of the folder last, where the system can.
