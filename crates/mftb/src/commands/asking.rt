@@ -65,16 +65,28 @@ pub(crate) fn keys_of<R: RandomSource>(rt: &R) -> Result<RandomState, Fault> {
     }
 }
 
+/// Opens the database of a store.
+fn open_database<S: PageStore + Drop>(
+    alloc: Global,
+    keys: RandomState,
+    store: S,
+    cache_pages: u32,
+) -> Result<Db<S>, Fault> {
+    match Db::open(alloc, keys, store, cached_pages(cache_pages) as usize) {
+        Ok(database) => Ok(database),
+        Err((_store, fault)) => Err(Fault::Open(fault)),
+    }
+}
+
 /// The database of a store.
 pub(crate) fn database_to_ask<R: AllocGlobal + RandomSource, S: PageStore + Drop>(
     rt: &R,
     store: S,
     cache_pages: u32,
 ) -> Result<Db<S>, Fault> {
-    let keys = keys_of(rt)?;
-    match Db::open(rt.alloc(), keys, store, cached_pages(cache_pages) as usize) {
-        Ok(database) => Ok(database),
-        Err((_store, fault)) => Err(Fault::Open(fault)),
+    match keys_of(rt) {
+        Ok(keys) => open_database(rt.alloc(), keys, store, cache_pages),
+        Err(fault) => Err(fault),
     }
 }
 

@@ -8,7 +8,7 @@ use crate::outcome::Outcome;
 use crate::system::file::{LastCause, caused};
 use crate::system::folder::SystemFolder;
 use crate::system::leftovers::clear;
-use crate::system::locks::{give_back, hold_name};
+use crate::system::locks::{Held, give_back, hold_name};
 use crate::system::opening::{is_absent, is_special, open_in_place};
 use crate::system::store_names::Names;
 use crate::system::stored::{Header, look_at};
@@ -100,11 +100,21 @@ fn run_in_place<R: rt::Files<File = File> + rt::Clock + Eprint, O: Output>(
     progress: &Progress<'_, R>,
     out: &mut O,
 ) -> Ended {
+    match hold_name(rt, work.names.lock.as_str()) {
+        Err(Fault::InUse) => refused(Fault::InUse),
+        held => run_held(rt, work, progress, held.ok(), out),
+    }
+}
+
+/// Runs a script so, and gives the lock back that is held, if one is.
+fn run_held<R: rt::Files<File = File> + rt::Clock + Eprint, O: Output>(
+    rt: &R,
+    work: &Work<'_>,
+    progress: &Progress<'_, R>,
+    lock: Option<Held>,
+    out: &mut O,
+) -> Ended {
     let names = work.names;
-    let lock = match hold_name(rt, names.lock.as_str()) {
-        Err(Fault::InUse) => return refused(Fault::InUse),
-        held => held.ok(),
-    };
     let ended = run_over(open_in_place(rt, names, work.cause), work, progress, out);
     if let Some(lock) = lock {
         let _ = clear(rt, names, &lock);
@@ -120,10 +130,18 @@ fn run_beside<R: rt::Files<File = File> + rt::Clock + Eprint, O: Output>(
     progress: &Progress<'_, R>,
     out: &mut O,
 ) -> Ended {
-    let mut folder = match SystemFolder::take(rt, work.names, work.cause, progress) {
-        Ok(folder) => folder,
-        Err(fault) => return refused(fault),
-    };
+    match SystemFolder::take(rt, work.names, work.cause, progress) {
+        Ok(folder) => run_in(folder, work, out),
+        Err(fault) => refused(fault),
+    }
+}
+
+/// Runs a script over a copy that is made in the folder of the store, and gives the folder back.
+fn run_in<R: rt::Files<File = File> + rt::Clock + Eprint, O: Output>(
+    mut folder: SystemFolder<'_, '_, R>,
+    work: &Work<'_>,
+    out: &mut O,
+) -> Ended {
     let ended = run_on_copy(&mut folder, &work.how, work.script, work.files, out);
     folder.give_back();
     ended
@@ -378,7 +396,18 @@ pub(crate) fn run<
     O: Output,
 >(rt: &R, run: &Run<'_>, out: &mut O, is_terminal: bool) -> Result<Outcome, Fault> {
     let script = read_named(rt, Named::Script, run.script, MOST_BYTES)?;
+    run_read(rt, run, &script, out, is_terminal)
+}
+
+/// Reads the files that a script may load, and then runs the script.
+fn run_read<R: rt::Files<File = File> + rt::Clock + Eprint + AllocGlobal + RandomSource, O: Output>(
+    rt: &R,
+    run: &Run<'_>,
+    script: &[u8],
+    out: &mut O,
+    is_terminal: bool,
+) -> Result<Outcome, Fault> {
     let files = read_files(rt, &run.files)?;
     let names = Names::new(rt, run.store)?;
-    run_script(rt, run, &names, &script, &files, out, is_terminal)
+    run_script(rt, run, &names, script, &files, out, is_terminal)
 }

@@ -258,6 +258,13 @@ fn tell_note<R: Eprint + AllocGlobal>(rt: &R, given: &Given, note: &Note, ground
     tell(rt, said);
 }
 
+/// Says what these notes say, a line each.
+fn tell_each<R: Eprint + AllocGlobal>(rt: &R, given: &Given, notes: &[Note], ground: &Ground) {
+    for note in notes {
+        tell_note(rt, given, note, ground);
+    }
+}
+
 /// Says what is noted of a run over that store, a line each.
 pub(crate) fn tell_notes<R: rt::Files<File = File> + Eprint + AllocGlobal + RandomSource>(
     rt: &R,
@@ -269,10 +276,7 @@ pub(crate) fn tell_notes<R: rt::Files<File = File> + Eprint + AllocGlobal + Rand
     if kept.is_empty() {
         return;
     }
-    let ground = Ground::new(rt, store, given.legs, kept);
-    for note in kept {
-        tell_note(rt, given, note, &ground);
-    }
+    tell_each(rt, given, kept, &Ground::new(rt, store, given.legs, kept));
     if missed > 0 {
         let _ = eprintln!(rt; "mftb: and {missed} more of these");
     }
