@@ -26,7 +26,7 @@ pub(crate) fn open_swept<R: Files<File = File>>(
     open_asked(rt, names)
 }
 
-/// Opens a store that is there so; none is made.
+/// Opens a store that is there to be read alone; none is made.
 fn open_present<R: Files<File = File>>(rt: &R, names: &Names) -> Result<AskedStore, Fault> {
     match absence_of(rt, names.store.as_str()) {
         Some(cause) => Err(Fault::CannotRead(Named::Store, cause)),
@@ -96,7 +96,7 @@ fn close_asked<S: PageStore + Drop>(alloc: Global, database: Db<S>) -> Result<()
     closed
 }
 
-/// What a database told, which then was closed so.
+/// What a database told, or why it told nothing, or else why it was not closed.
 fn told_and_closed<T: Drop>(
     told: Result<T, RunFault>,
     closed: Result<(), RunFault>,

@@ -49,7 +49,8 @@ fn bring_into<R: Files<File = File> + AllocGlobal, S: PageStore + Drop>(
     bring(rt.alloc(), keys, old, new)
 }
 
-/// Brings a store of version 1 over so, and says why a call on the new file failed.
+/// Brings a store of version 1 over into the new file of these names. A fault of the store says why a call on that file
+/// failed.
 fn bring_and_say<R: Files<File = File> + AllocGlobal, S: PageStore + Drop>(
     rt: &R,
     keys: RandomState,

@@ -106,7 +106,7 @@ fn run_in_place<R: rt::Files<File = File> + rt::Clock + Eprint, O: Output>(
     }
 }
 
-/// Runs a script so, and gives the lock back that is held, if one is.
+/// Runs a script over the store as it lies there, and gives the lock back that is held, if one is.
 fn run_held<R: rt::Files<File = File> + rt::Clock + Eprint, O: Output>(
     rt: &R,
     work: &Work<'_>,
